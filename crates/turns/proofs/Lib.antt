@@ -1,0 +1,10 @@
+pub mod Sums
+pub mod Counting
+pub mod Chain
+pub mod Moves
+pub mod Once
+pub mod Order
+pub mod Within
+pub mod Columns
+pub mod Demand
+pub mod Loop

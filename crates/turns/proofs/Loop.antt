@@ -1,0 +1,103 @@
+-- A run as a definition: take the next turn until the run stops, at most n times. Its turns are a chain; and where chains are bounded in
+-- length, enough fuel comes to the stop, so that the fuel plays no part in what the run is.
+use Prim.Native.Nat.{ℕ, zero, suc, _+_, _-_, _≤_}
+use native.Mathlib.Omega.{arith}
+use mathlib.Core.List.{List, [], _∷_}
+use mathlib.Core.Path.{_≡_, refl, sym, ap, _∙_}
+use native.Mathlib.Nat.{zero-add, suc-add, add-suc}
+use lib.ListN.{length}
+use Rattle.turns.specs.Run.{Next, takes, stops, Reached, run}
+use Rattle.turns.proofs.Chain.{Steps, Chain, start, more}
+
+-- a turn is a step of R and keeps I; nothing is asked of a stop
+abbrev pub Lawful : {A S X : Type 0} → Steps A S → (S → Type 0) → List A → S → Next A S X → Type 0
+Lawful R I ts s (takes t s′) = R ts s t s′ × I s′
+Lawful R I ts s (stops x) = Unit {0}
+
+module _ {A S X : Type 0} (next : S → Next A S X) where
+  pub run-takes : (n : ℕ) (ts : List A) (s : S) (t : A) (s′ : S) → next s ≡ takes t s′ → run next (suc n) ts s ≡ run next n (t ∷ ts) s′
+  run-takes n ts s t s′ e = rw (e, run)
+
+  pub run-stops : (n : ℕ) (ts : List A) (s : S) (x : X) → next s ≡ stops x → run next (suc n) ts s ≡ record { turns = ts; state = s }
+  run-stops n ts s x e = rw (e, run)
+
+  -- a run that has stopped stays there
+  pub run-stopped : (n : ℕ) (ts : List A) (s : S) (x : X) → next s ≡ stops x → run next n ts s ≡ record { turns = ts; state = s }
+  run-stopped zero ts s x e = refl
+  run-stopped (suc n) ts s x e = run-stops n ts s x e
+
+  -- GOING ON: n turns and then m more are n + m turns
+  pub run-add : (n m : ℕ) (ts : List A) (s : S) → run next (n + m) ts s ≡ run next m ((run next n ts s) .turns) ((run next n ts s) .state)
+  run-add zero m ts s = ap (λ (k : ℕ). run next k ts s) (zero-add m)
+  run-add (suc n) m ts s = ap (λ (k : ℕ). run next k ts s) (suc-add n m) ∙ go (next s) refl (λ t s′. run-add n m (t ∷ ts) s′)
+    where
+      go : (x : Next A S X) → next s ≡ x → ((t : A) (s′ : S) → run next (n + m) (t ∷ ts) s′ ≡ run next m ((run next n (t ∷ ts) s′) .turns) ((run next n (t ∷ ts) s′) .state))
+          → run next (suc (n + m)) ts s ≡ run next m ((run next (suc n) ts s) .turns) ((run next (suc n) ts s) .state)
+      go (takes t s′) e ih = rw (run-takes (n + m) ts s t s′ e, run-takes n ts s t s′ e) (ih t s′)
+      go (stops x) e ih = rw (run-stops (n + m) ts s x e, run-stops n ts s x e) (sym (run-stopped m ts s x e))
+
+  -- for a loop's invariant: one more turn
+  pub run-one-more : (k : ℕ) (ts : List A) (s : S) (t : A) (s′ : S) → next ((run next k ts s) .state) ≡ takes t s′ → run next (k + 1) ts s ≡ record { turns = t ∷ (run next k ts s) .turns; state = s′ }
+  run-one-more k ts s t s′ e = run-add k 1 ts s ∙ run-takes 0 ((run next k ts s) .turns) ((run next k ts s) .state) t s′ e
+
+  -- and for its end: a run that has stopped after k turns is the run of any more fuel
+  pub run-enough : (k n : ℕ) (ts : List A) (s : S) (x : X) → k ≤ n → next ((run next k ts s) .state) ≡ stops x → run next n ts s ≡ run next k ts s
+  run-enough k n ts s x h e =
+      let j : k + (n - k) ≡ n = omega arith in
+      ap (λ (i : ℕ). run next i ts s) (sym j) ∙ run-add k (n - k) ts s ∙ run-stopped (n - k) ((run next k ts s) .turns) ((run next k ts s) .state) x e
+
+  -- it has stopped, or the fuel is spent
+  pub data Came (m : ℕ) (r : Reached A S) : Type 0 where
+    stopped : (x : X) → next (r .state) ≡ stops x → Came m r
+    spent : length (r .turns) ≡ m → Came m r
+
+  pub came : (n : ℕ) (ts : List A) (s : S) → Came (length ts + n) (run next n ts s)
+  came zero ts s = spent (omega arith)
+  came (suc n) ts s = go (next s) refl (λ t s′. came n (t ∷ ts) s′)
+    where
+      go : (x : Next A S X) → next s ≡ x → ((t : A) (s′ : S) → Came (suc (length ts) + n) (run next n (t ∷ ts) s′)) → Came (length ts + suc n) (run next (suc n) ts s)
+      go (takes t s′) e ih = rw (run-takes n ts s t s′ e) (rw (suc-add (length ts) n ∙ sym (add-suc (length ts) n)) at (ih t s′))
+      go (stops x) e ih = rw (run-stops n ts s x e) (stopped x e)
+
+  module _ (R : Steps A S) (I : S → Type 0) (law : (ts : List A) (s : S) → I s → Lawful R I ts s (next s)) where
+    pub run-chain : {s₀ : S} (n : ℕ) {ts : List A} {s : S} → Chain R s₀ ts s → I s → Chain R s₀ ((run next n ts s) .turns) ((run next n ts s) .state)
+    run-chain zero c i = c
+    run-chain {s₀ = s₀} (suc n) {ts = ts} {s = s} c i = go (next s) refl (λ t s′ c′ i′. run-chain n {ts = t ∷ ts} {s = s′} c′ i′)
+      where
+        go : (x : Next A S X) → next s ≡ x → ((t : A) (s′ : S) → Chain R s₀ (t ∷ ts) s′ → I s′ → Chain R s₀ ((run next n (t ∷ ts) s′) .turns) ((run next n (t ∷ ts) s′) .state))
+            → Chain R s₀ ((run next (suc n) ts s) .turns) ((run next (suc n) ts s) .state)
+        go (takes t s′) e ih = let h : R ts s t s′ × I s′ = rw e at (law ts s i) in rw (run-takes n ts s t s′ e) (ih t s′ (more c (h .0)) (h .1))
+        go (stops x) e ih = rw (run-stops n ts s x e) c
+
+    -- if no chain from s₀ is longer than N, more fuel than N comes to the stop
+    pub run-ends : (s₀ : S) (N : ℕ) → I s₀ → ((ts : List A) (s : S) → Chain R s₀ ts s → length ts ≤ N) → (x : X) × (next ((run next (suc N) [] s₀) .state) ≡ stops x)
+    run-ends s₀ N i bound = go (came (suc N) [] s₀)
+      where
+        go : Came (0 + suc N) (run next (suc N) [] s₀) → (x : X) × (next ((run next (suc N) [] s₀) .state) ≡ stops x)
+        go (stopped x e) = (x, e)
+        go (spent e) = absurd (omega (arith, bound _ _ (run-chain (suc N) start i)))
+
+-- TWO RUNS THAT TAKE THE SAME TURNS: what B keeps alike from state to state, where both take the same turn or both stop with the same answer
+module _ {A S S′ X : Type 0} (B : S → S′ → Type 0) where
+  abbrev pub Alike : Next A S X → Next A S′ X → Type 0
+  Alike (takes t s) (takes u s′) = (t ≡ u) × B s s′
+  Alike (takes t s) (stops y) = ⊥
+  Alike (stops x) (takes u s′) = ⊥
+  Alike (stops x) (stops y) = x ≡ y
+
+  module _ (next : S → Next A S X) (next′ : S′ → Next A S′ X) (law : (s : S) (s′ : S′) → B s s′ → Alike (next s) (next′ s′)) where
+    pub run-alike : (n : ℕ) (ts us : List A) → ts ≡ us → (s : S) (s′ : S′) → B s s′
+        → ((run next n ts s) .turns ≡ (run next′ n us s′) .turns) × B ((run next n ts s) .state) ((run next′ n us s′) .state)
+    run-alike zero ts us e s s′ b = (e, b)
+    run-alike (suc n) ts us e s s′ b = go (next s) refl (next′ s′) refl (law s s′ b) (λ t u q p p′ b′. run-alike n (t ∷ ts) (u ∷ us) q p p′ b′)
+      where
+        go : (x : Next A S X) → next s ≡ x → (y : Next A S′ X) → next′ s′ ≡ y → Alike (next s) (next′ s′)
+            → ((t u : A) → t ∷ ts ≡ u ∷ us → (p : S) (p′ : S′) → B p p′ → ((run next n (t ∷ ts) p) .turns ≡ (run next′ n (u ∷ us) p′) .turns) × B ((run next n (t ∷ ts) p) .state) ((run next′ n (u ∷ us) p′) .state))
+            → ((run next (suc n) ts s) .turns ≡ (run next′ (suc n) us s′) .turns) × B ((run next (suc n) ts s) .state) ((run next′ (suc n) us s′) .state)
+        go (takes t p) e₁ (takes u p′) e₂ h ih =
+            let k : (t ≡ u) × B p p′ = rw (e₁, e₂) at h in
+            let q : t ∷ ts ≡ u ∷ us = cc (k .0, e) in
+            rw (run-takes next n ts s t p e₁, run-takes next′ n us s′ u p′ e₂) (ih t u q p p′ (k .1))
+        go (takes t p) e₁ (stops y) e₂ h ih = let k : ⊥ = rw (e₁, e₂) at h in absurd k
+        go (stops x) e₁ (takes u p′) e₂ h ih = let k : ⊥ = rw (e₁, e₂) at h in absurd k
+        go (stops x) e₁ (stops y) e₂ h ih = rw (run-stops next n ts s x e₁, run-stops next′ n us s′ y e₂) (e, b)

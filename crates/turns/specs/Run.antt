@@ -1,0 +1,17 @@
+-- A run: take the next turn until the run stops, at most n times. Definitions only.
+use Prim.Native.Nat.{ℕ, zero, suc}
+use mathlib.Core.List.{List, _∷_}
+
+-- the next turn with the state after it; or the run stops, by its end or by a refusal, with the answer x
+pub data Next (A S X : Type 0) : Type 0 where
+  takes : A → S → Next A S X
+  stops : X → Next A S X
+
+-- what a run has come to: its turns, latest first, and its state
+pub record Reached (A S : Type 0) : Type 0 where
+  pub turns : List A
+  pub state : S
+
+abbrev pub run : {A S X : Type 0} → (S → Next A S X) → ℕ → List A → S → Reached A S
+run next zero ts s = record { turns = ts; state = s }
+run next (suc n) ts s = elim (next s) [ takes t s′ ↦ run next n (t ∷ ts) s′ | stops x ↦ record { turns = ts; state = s } ]
