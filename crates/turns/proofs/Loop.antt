@@ -1,12 +1,12 @@
 -- A run as a definition: take the next turn until the run stops, at most n times. Its turns are a chain; and where chains are bounded in
 -- length, enough fuel comes to the stop, so that the fuel plays no part in what the run is.
-use Prim.Native.Nat.{ℕ, zero, suc, _+_, _-_, _≤_}
+use Prim.Native.Nat.{ℕ, zero, suc, _+_, _-_, _≤_, _<_}
 use native.Mathlib.Omega.{arith}
 use mathlib.Core.List.{List, [], _∷_}
 use mathlib.Core.Path.{_≡_, refl, sym, ap, _∙_}
 use native.Mathlib.Nat.{zero-add, suc-add, add-suc}
 use lib.ListN.{length}
-use Rattle.turns.specs.Run.{Next, takes, stops, Reached, run}
+use Rattle.turns.specs.Run.{Next, takes, stops, Reached, run, stopOf}
 use Rattle.turns.proofs.Chain.{Steps, Chain, start, more}
 
 -- a turn is a step of R and keeps I; nothing is asked of a stop
@@ -77,27 +77,60 @@ module _ {A S X : Type 0} (next : S → Next A S X) where
         go (stopped x e) = (x, e)
         go (spent e) = absurd (omega (arith, bound _ _ (run-chain (suc N) start i)))
 
--- TWO RUNS THAT TAKE THE SAME TURNS: what B keeps alike from state to state, where both take the same turn or both stop with the same answer
-module _ {A S S′ X : Type 0} (B : S → S′ → Type 0) where
-  abbrev pub Alike : Next A S X → Next A S′ X → Type 0
-  Alike (takes t s) (takes u s′) = (t ≡ u) × B s s′
-  Alike (takes t s) (stops y) = ⊥
-  Alike (stops x) (takes u s′) = ⊥
-  Alike (stops x) (stops y) = x ≡ y
+-- two runs that have the same turns, and states that B joins, the second stopped with x
+pub record Same {A S X : Type 0} (B : S → S → Type 0) (next : S → Next A S X) (r r′ : Reached A S) (x : X) : Type 0 where
+  pub turns : r .turns ≡ r′ .turns
+  pub states : B (r .state) (r′ .state)
+  pub stop : next (r′ .state) ≡ stops x
 
-  module _ (next : S → Next A S X) (next′ : S′ → Next A S′ X) (law : (s : S) (s′ : S′) → B s s′ → Alike (next s) (next′ s′)) where
-    pub run-alike : (n : ℕ) (ts us : List A) → ts ≡ us → (s : S) (s′ : S′) → B s s′
-        → ((run next n ts s) .turns ≡ (run next′ n us s′) .turns) × B ((run next n ts s) .state) ((run next′ n us s′) .state)
-    run-alike zero ts us e s s′ b = (e, b)
-    run-alike (suc n) ts us e s s′ b = go (next s) refl (next′ s′) refl (law s s′ b) (λ t u q p p′ b′. run-alike n (t ∷ ts) (u ∷ us) q p p′ b′)
+-- A RUN THAT ANOTHER FOLLOWS: where the first takes a turn the second takes the same, and where the first stops as P asks the second stops alike
+module _ {A S X : Type 0} (B : S → S → Type 0) (P : X → Type 0) where
+  abbrev pub Follows : Next A S X → Next A S X → Type 0
+  Follows (takes t s) (takes u s′) = (t ≡ u) × B s s′
+  Follows (takes t s) (stops y) = ⊥
+  Follows (stops x) y = P x → y ≡ stops x
+
+  module _ (next : S → Next A S X) (law : (s s′ : S) → B s s′ → Follows (next s) (next s′)) where
+    pub run-follows : (n : ℕ) (ts us : List A) → ts ≡ us → (s s′ : S) → B s s′ → (x : X) → P x → next ((run next n ts s) .state) ≡ stops x → Same B next (run next n ts s) (run next n us s′) x
+    run-follows zero ts us e s s′ b x p q = record { turns = e; states = b; stop = let h : P x → next s′ ≡ stops x = rw q at (law s s′ b) in h p }
+    run-follows (suc n) ts us e s s′ b x p q = go (next s) refl (next s′) refl (law s s′ b) q (λ t u z v v′ c y. run-follows n (t ∷ ts) (u ∷ us) z v v′ c x p y)
       where
-        go : (x : Next A S X) → next s ≡ x → (y : Next A S′ X) → next′ s′ ≡ y → Alike (next s) (next′ s′)
-            → ((t u : A) → t ∷ ts ≡ u ∷ us → (p : S) (p′ : S′) → B p p′ → ((run next n (t ∷ ts) p) .turns ≡ (run next′ n (u ∷ us) p′) .turns) × B ((run next n (t ∷ ts) p) .state) ((run next′ n (u ∷ us) p′) .state))
-            → ((run next (suc n) ts s) .turns ≡ (run next′ (suc n) us s′) .turns) × B ((run next (suc n) ts s) .state) ((run next′ (suc n) us s′) .state)
-        go (takes t p) e₁ (takes u p′) e₂ h ih =
-            let k : (t ≡ u) × B p p′ = rw (e₁, e₂) at h in
-            let q : t ∷ ts ≡ u ∷ us = cc (k .0, e) in
-            rw (run-takes next n ts s t p e₁, run-takes next′ n us s′ u p′ e₂) (ih t u q p p′ (k .1))
-        go (takes t p) e₁ (stops y) e₂ h ih = let k : ⊥ = rw (e₁, e₂) at h in absurd k
-        go (stops x) e₁ (takes u p′) e₂ h ih = let k : ⊥ = rw (e₁, e₂) at h in absurd k
-        go (stops x) e₁ (stops y) e₂ h ih = rw (run-stops next n ts s x e₁, run-stops next′ n us s′ y e₂) (e, b)
+        go : (y : Next A S X) → next s ≡ y → (y′ : Next A S X) → next s′ ≡ y′ → Follows (next s) (next s′) → next ((run next (suc n) ts s) .state) ≡ stops x
+            → ((t u : A) → t ∷ ts ≡ u ∷ us → (v v′ : S) → B v v′ → next ((run next n (t ∷ ts) v) .state) ≡ stops x → Same B next (run next n (t ∷ ts) v) (run next n (u ∷ us) v′) x)
+            → Same B next (run next (suc n) ts s) (run next (suc n) us s′) x
+        go (takes t v) e₁ (takes u v′) e₂ h q ih =
+            let k : (t ≡ u) × B v v′ = rw (e₁, e₂) at h in
+            let z : t ∷ ts ≡ u ∷ us = cc (k .0, e) in
+            rw (run-takes next n ts s t v e₁, run-takes next n us s′ u v′ e₂) (ih t u z v v′ (k .1) (rw (run-takes next n ts s t v e₁) at q))
+        go (takes t v) e₁ (stops y) e₂ h q ih = let k : ⊥ = rw (e₁, e₂) at h in absurd k
+        go (stops y) e₁ y′ e₂ h q ih =
+            let f : P y → next s′ ≡ stops y = rw e₁ at h in
+            let same : stops y ≡ stops x = sym e₁ ∙ (rw (run-stops next n ts s y e₁) at q) in
+            let yx : y ≡ x = cc in
+            let f′ : next s′ ≡ stops x = rw yx at (f (rw yx p)) in
+            rw (run-stops next n ts s y e₁, run-stops next n us s′ x f′) (record { turns = e; states = b; stop = f′ })
+
+-- HOW A RUN STOPS
+module _ {A S X : Type 0} (next : S → Next A S X) (x₀ : X) where
+  pub stop-takes : (n : ℕ) (s : S) (t : A) (s′ : S) → next s ≡ takes t s′ → stopOf next x₀ (suc n) s ≡ stopOf next x₀ n s′
+  stop-takes n s t s′ e = rw (e, stopOf)
+
+  pub stop-stops : (n : ℕ) (s : S) (x : X) → next s ≡ stops x → stopOf next x₀ (suc n) s ≡ x
+  stop-stops n s x e = rw (e, stopOf)
+
+  -- a run that has come to a stop within its bound stops so
+  pub stop-is : (n : ℕ) (ts : List A) (s : S) (x : X) → next ((run next n ts s) .state) ≡ stops x → length ((run next n ts s) .turns) < length ts + n → stopOf next x₀ n s ≡ x
+  stop-is zero ts s x e h = absurd (omega arith)
+  stop-is (suc n) ts s x e h = go (next s) refl e h (λ t s′ q l. stop-is n (t ∷ ts) s′ x q l)
+    where
+      go : (y : Next A S X) → next s ≡ y → next ((run next (suc n) ts s) .state) ≡ stops x → length ((run next (suc n) ts s) .turns) < length ts + suc n
+          → ((t : A) (s′ : S) → next ((run next n (t ∷ ts) s′) .state) ≡ stops x → length ((run next n (t ∷ ts) s′) .turns) < suc (length ts) + n → stopOf next x₀ n s′ ≡ x)
+          → stopOf next x₀ (suc n) s ≡ x
+      go (takes t s′) e₁ q l ih =
+          let r = run-takes next n ts s t s′ e₁ in
+          let l′ : length ((run next n (t ∷ ts) s′) .turns) < suc (length ts) + n = let z : length ((run next n (t ∷ ts) s′) .turns) < length ts + suc n = rw r at l in omega arith in
+          stop-takes n s t s′ e₁ ∙ ih t s′ (rw r at q) l′
+      go (stops y) e₁ q l ih =
+          let same : stops y ≡ stops x = sym e₁ ∙ (rw (run-stops next n ts s y e₁) at q) in
+          let yx : y ≡ x = cc in
+          stop-stops n s y e₁ ∙ yx

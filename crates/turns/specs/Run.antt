@@ -15,3 +15,8 @@ pub record Reached (A S : Type 0) : Type 0 where
 abbrev pub run : {A S X : Type 0} → (S → Next A S X) → ℕ → List A → S → Reached A S
 run next zero ts s = record { turns = ts; state = s }
 run next (suc n) ts s = elim (next s) [ takes t s′ ↦ run next n (t ∷ ts) s′ | stops x ↦ record { turns = ts; state = s } ]
+
+-- how a run of at most n turns stops; x₀ where it still has a turn to take
+abbrev pub stopOf : {A S X : Type 0} → (S → Next A S X) → X → ℕ → S → X
+stopOf next x₀ zero s = x₀
+stopOf next x₀ (suc n) s = elim (next s) [ takes t s′ ↦ stopOf next x₀ n s′ | stops x ↦ x ]

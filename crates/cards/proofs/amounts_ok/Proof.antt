@@ -1,0 +1,58 @@
+-- `cards::amounts_ok` meets its contract.
+use Rattle.cards.proofs.Basics.{not-true, not-false, and-true}
+use borrow.Author.Needs.{needs}
+use Rattle.cards.proofs.amounts_ok.Statement.{statement}
+use Rattle.cards.proofs.amounts_ok.Tie as tie
+
+array-read-amount-ok : tie.Need-array-read-amount-ok
+array-read-amount-ok c = search needs
+
+amount-ok-requires : tie.Need-amount-ok-requires
+amount-ok-requires c κs = tt
+
+returns : tie.Need-returns
+returns c = rw (← c .before .amount-ok .ensures, not-true (c .before .amount-ok .result) (c .if1 .taken))
+
+array-read-amount-ok-2 : tie.Need-array-read-amount-ok-2
+array-read-amount-ok-2 c = search needs
+
+amount-ok-requires-2 : tie.Need-amount-ok-requires-2
+amount-ok-requires-2 c κs = tt
+
+returns-2 : tie.Need-returns-2
+returns-2 c = rw (← c .before .before .before .amount-ok .ensures, not-false (c .before .before .before .amount-ok .result) (c .before .before .if1 .left), ← c .before .amount-ok2 .ensures, not-true (c .before .amount-ok2 .result) (c .if2 .taken))
+
+array-read-amount-ok-3 : tie.Need-array-read-amount-ok-3
+array-read-amount-ok-3 c = search needs
+
+amount-ok-requires-3 : tie.Need-amount-ok-requires-3
+amount-ok-requires-3 c κs = tt
+
+returns-3 : tie.Need-returns-3
+returns-3 c = rw (← c .before .before .before .before .before .amount-ok .ensures, not-false (c .before .before .before .before .before .amount-ok .result) (c .before .before .before .before .if1 .left), ← c .before .before .before .amount-ok2 .ensures, not-false (c .before .before .before .amount-ok2 .result) (c .before .before .if2 .left), ← c .before .amount-ok3 .ensures, not-true (c .before .amount-ok3 .result) (c .if3 .taken))
+
+array-read-amount-ok-4 : tie.Need-array-read-amount-ok-4
+array-read-amount-ok-4 c = search needs
+
+amount-ok-requires-4 : tie.Need-amount-ok-requires-4
+amount-ok-requires-4 c κs = tt
+
+returns-4 : tie.Need-returns-4
+returns-4 c = rw (← c .before .before .before .before .before .before .amount-ok .ensures, not-false (c .before .before .before .before .before .before .amount-ok .result) (c .before .before .before .before .before .if1 .left), ← c .before .before .before .before .amount-ok2 .ensures, not-false (c .before .before .before .before .amount-ok2 .result) (c .before .before .before .if2 .left), ← c .before .before .amount-ok3 .ensures, not-false (c .before .before .amount-ok3 .result) (c .before .if3 .left), ← c .amount-ok4 .ensures) (and-true (c .amount-ok4 .result))
+
+pub amounts-ok-spec : {M : Type 1} → statement M
+amounts-ok-spec =
+    tie.close
+    (tie.spec
+    array-read-amount-ok
+    amount-ok-requires
+    returns
+    array-read-amount-ok-2
+    amount-ok-requires-2
+    returns-2
+    array-read-amount-ok-3
+    amount-ok-requires-3
+    returns-3
+    array-read-amount-ok-4
+    amount-ok-requires-4
+    returns-4)

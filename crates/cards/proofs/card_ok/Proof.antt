@@ -1,0 +1,51 @@
+-- `cards::card_ok` meets its contract.
+use Rattle.cards.proofs.Basics.{not-true, not-false}
+use Rattle.cards.specs.Cards.{cardOk}
+use Rattle.cards.proofs.card_ok.Statement.{statement}
+use Rattle.cards.proofs.card_ok.Tie as tie
+
+is-finite-requires : tie.Need-is-finite-requires
+is-finite-requires c κs = tt
+
+returns : tie.Need-returns
+unfolding cardOk
+returns c = rw (← c .before .is-finite .ensures, not-true (c .before .is-finite .result) (c .if1 .taken))
+
+is-finite-requires-2 : tie.Need-is-finite-requires-2
+is-finite-requires-2 c κs = tt
+
+returns-2 : tie.Need-returns-2
+unfolding cardOk
+returns-2 c = rw (← c .before .before .before .is-finite .ensures, not-false (c .before .before .before .is-finite .result) (c .before .before .if1 .left), ← c .before .is-finite2 .ensures, not-true (c .before .is-finite2 .result) (c .if2 .taken))
+
+date-ok-requires : tie.Need-date-ok-requires
+date-ok-requires c κs = tt
+
+returns-3 : tie.Need-returns-3
+unfolding cardOk
+returns-3 c = rw (← c .before .before .before .before .before .is-finite .ensures, not-false (c .before .before .before .before .before .is-finite .result) (c .before .before .before .before .if1 .left), ← c .before .before .before .is-finite2 .ensures, not-false (c .before .before .before .is-finite2 .result) (c .before .before .if2 .left), ← c .before .date-ok .ensures, not-true (c .before .date-ok .result) (c .if3 .taken))
+
+history-ok-requires : tie.Need-history-ok-requires
+history-ok-requires c κs = tt
+
+returns-4 : tie.Need-returns-4
+unfolding cardOk
+returns-4 c = rw (← c .before .before .before .before .before .before .before .is-finite .ensures, not-false (c .before .before .before .before .before .before .before .is-finite .result) (c .before .before .before .before .before .before .if1 .left), ← c .before .before .before .before .before .is-finite2 .ensures, not-false (c .before .before .before .before .before .is-finite2 .result) (c .before .before .before .before .if2 .left), ← c .before .before .before .date-ok .ensures, not-false (c .before .before .before .date-ok .result) (c .before .before .if3 .left), ← c .before .history-ok .ensures, not-true (c .before .history-ok .result) (c .if4 .taken))
+
+returns-5 : tie.Need-returns-5
+unfolding cardOk
+returns-5 c = rw (← c .before .before .before .before .before .before .before .before .is-finite .ensures, not-false (c .before .before .before .before .before .before .before .before .is-finite .result) (c .before .before .before .before .before .before .before .if1 .left), ← c .before .before .before .before .before .before .is-finite2 .ensures, not-false (c .before .before .before .before .before .before .is-finite2 .result) (c .before .before .before .before .before .if2 .left), ← c .before .before .before .before .date-ok .ensures, not-false (c .before .before .before .before .date-ok .result) (c .before .before .before .if3 .left), ← c .before .before .history-ok .ensures, not-false (c .before .before .history-ok .result) (c .before .if4 .left))
+
+pub card-ok-spec : {M : Type 1} → statement M
+card-ok-spec =
+    tie.close
+    (tie.spec
+    is-finite-requires
+    returns
+    is-finite-requires-2
+    returns-2
+    date-ok-requires
+    returns-3
+    history-ok-requires
+    returns-4
+    returns-5)

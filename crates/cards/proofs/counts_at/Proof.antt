@@ -1,0 +1,22 @@
+-- `cards::counts_at` meets its contract.
+use lib.ListN.{List·getD-eq-default}
+use mathlib.Core.Path.{sym}
+use Rattle.cards.proofs.Basics.{getD-any}
+use borrow.Author.Needs.{needs}
+use Rattle.cards.proofs.counts_at.Statement.{statement}
+use Rattle.cards.proofs.counts_at.Tie as tie
+
+mul-result : tie.Need-mul-result
+mul-result c = search needs
+
+shared-slice-copy-out-result : tie.Need-shared-slice-copy-out-result
+shared-slice-copy-out-result c = search needs
+
+returns : tie.Need-returns
+returns c = getD-any (c .before .before .args .counts .now) (c .before .before .args .i) _ _ (c .before .if1 .taken)
+
+returns-2 : tie.Need-returns-2
+returns-2 c = sym (List·getD-eq-default (c .before .args .counts .now) _ (c .if1 .left))
+
+pub counts-at-spec : {M : Type 1} → statement M
+counts-at-spec = tie.close (tie.spec mul-result shared-slice-copy-out-result returns returns-2)

@@ -1,0 +1,12 @@
+-- `cards::date_ok` meets its contract.
+use Rattle.cards.proofs.date_ok.Statement.{statement}
+use Rattle.cards.proofs.date_ok.Tie as tie
+
+returns : tie.Need-returns
+returns c = rw (c .if1 .taken)
+
+returns-2 : tie.Need-returns-2
+returns-2 c = rw (c .if1 .left)
+
+pub date-ok-spec : {M : Type 1} → statement M
+date-ok-spec = tie.close (tie.spec returns returns-2)

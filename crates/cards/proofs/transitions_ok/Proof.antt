@@ -1,0 +1,52 @@
+-- `cards::transitions_ok` meets its contract.
+use mathlib.Core.List.{List}
+use lib.Ieee.{Float}
+use mathlib.Core.Path.{ap, _∙_}
+use Rattle.cards.proofs.Basics.{not-true, not-false}
+use Rattle.cards.specs.Config.{weightsOk, rowOf, transitionsOk}
+use Rattle.cards.proofs.transitions_ok.Statement.{statement}
+use Rattle.cards.proofs.transitions_ok.Tie as tie
+
+row-of-requires : tie.Need-row-of-requires
+row-of-requires c κs = tt
+
+weights-ok-requires : tie.Need-weights-ok-requires
+weights-ok-requires c κs = tt
+
+returns : tie.Need-returns
+unfolding transitionsOk
+returns c = rw (← (c .before .weights-ok .ensures ∙ ap (λ (z : List Float). weightsOk (rowOf z 0)) (c .before .before .row-of .ensures)), not-true (c .before .weights-ok .result) (c .if1 .taken))
+
+row-of-requires-2 : tie.Need-row-of-requires-2
+row-of-requires-2 c κs = tt
+
+weights-ok-requires-2 : tie.Need-weights-ok-requires-2
+weights-ok-requires-2 c κs = tt
+
+returns-2 : tie.Need-returns-2
+unfolding transitionsOk
+returns-2 c = rw (← (c .before .before .before .before .weights-ok .ensures ∙ ap (λ (z : List Float). weightsOk (rowOf z 0)) (c .before .before .before .before .before .row-of .ensures)), not-false (c .before .before .before .before .weights-ok .result) (c .before .before .before .if1 .left), ← (c .before .weights-ok2 .ensures ∙ ap (λ (z : List Float). weightsOk (rowOf z 0)) (c .before .before .row-of2 .ensures)), not-true (c .before .weights-ok2 .result) (c .if2 .taken))
+
+row-of-requires-3 : tie.Need-row-of-requires-3
+row-of-requires-3 c κs = tt
+
+weights-ok-requires-3 : tie.Need-weights-ok-requires-3
+weights-ok-requires-3 c κs = tt
+
+returns-3 : tie.Need-returns-3
+unfolding transitionsOk
+returns-3 c = rw (← (c .before .before .before .before .before .before .weights-ok .ensures ∙ ap (λ (z : List Float). weightsOk (rowOf z 0)) (c .before .before .before .before .before .before .before .row-of .ensures)), not-false (c .before .before .before .before .before .before .weights-ok .result) (c .before .before .before .before .before .if1 .left), ← (c .before .before .before .weights-ok2 .ensures ∙ ap (λ (z : List Float). weightsOk (rowOf z 0)) (c .before .before .before .before .row-of2 .ensures)), not-false (c .before .before .before .weights-ok2 .result) (c .before .before .if2 .left), ← (c .weights-ok3 .ensures ∙ ap (λ (z : List Float). weightsOk (rowOf z 0)) (c .before .row-of3 .ensures)))
+
+pub transitions-ok-spec : {M : Type 1} → statement M
+transitions-ok-spec =
+    tie.close
+    (tie.spec
+    row-of-requires
+    weights-ok-requires
+    returns
+    row-of-requires-2
+    weights-ok-requires-2
+    returns-2
+    row-of-requires-3
+    weights-ok-requires-3
+    returns-3)

@@ -1,0 +1,63 @@
+-- A card by value, and as a row of six floats and a row of two counts in the lent lists. Definitions only.
+use Prim.Native.Nat.{ℕ}
+use mathlib.Core.Bool.{Bool, _&&_, _||_}
+use mathlib.Core.List.{List, [], _∷_}
+use lib.Dec.{leb}
+use lib.ListN.{getD, set}
+use lib.Ieee.{Float, nan, ofBits, binary32, neg, lt, le}
+use Rattle.float32.specs.Float32.{isFinite}
+use Rattle.cards.specs.declared.Card.{Card}
+use Rattle.cards.specs.Day.{newOf}
+
+-- the card of a row of floats and a row of counts
+abbrev pub cardOf : List Float → List ℕ → Card
+cardOf floats counts = record {
+  difficulty = getD floats 0 nan;
+  stability = getD floats 1 nan;
+  «last_date» = getD floats 2 nan;
+  due = getD floats 3 nan;
+  interval = getD floats 4 nan;
+  «desired_retention» = getD floats 5 nan;
+  reps = getD counts 0 0;
+  lapses = getD counts 1 0;
+}
+
+-- what is read past a list's end
+abbrev pub noFloats : List Float
+noFloats = nan ∷ nan ∷ nan ∷ nan ∷ nan ∷ nan ∷ []
+
+abbrev pub noCounts : List ℕ
+noCounts = 0 ∷ 0 ∷ []
+
+-- the card at place c
+unfoldable pub cardAt : List (List Float) → List (List ℕ) → ℕ → Card
+cardAt cards counts c = cardOf (getD cards c noFloats) (getD counts c noCounts)
+
+abbrev pub floatsOf : Card → List Float
+floatsOf k = k .difficulty ∷ k .stability ∷ k .«last_date» ∷ k .due ∷ k .interval ∷ k .«desired_retention» ∷ []
+
+abbrev pub countsOf : Card → List ℕ
+countsOf k = k .reps ∷ k .lapses ∷ []
+
+-- the lists with card k at place c
+unfoldable pub writeFloats : List (List Float) → ℕ → Card → List (List Float)
+writeFloats cards c k = set cards c (floatsOf k)
+
+unfoldable pub writeCounts : List (List ℕ) → ℕ → Card → List (List ℕ)
+writeCounts counts c k = set counts c (countsOf k)
+
+-- an existing card is kept only if its stability is above 1e-9; a NaN is not
+unfoldable pub isKept : Card → Bool
+isKept k = lt (ofBits binary32 0x3089_705F) (k .stability)
+
+-- a date within ±16,777,216; a NaN is not
+abbrev pub dateOk : Float → Bool
+dateOk x = le (neg (ofBits binary32 0x4B80_0000)) x && le x (ofBits binary32 0x4B80_0000)
+
+-- a last date is minus infinity, or a date with a difficulty
+abbrev pub historyOk : Card → Bool
+historyOk k = newOf (k .«last_date») || (dateOk (k .«last_date») && isFinite (k .difficulty))
+
+-- refusal 5 turns away a kept card that is not so
+unfoldable pub cardOk : Card → Bool
+cardOk k = isFinite (k .stability) && (isFinite (k .«desired_retention») && (dateOk (k .due) && (historyOk k && leb (k .lapses) 4000000000)))

@@ -1,0 +1,12 @@
+-- A card's day (document 01: "Day = max(due, 0) with its fraction dropped"), and when it is new. Definitions only.
+use Prim.Native.Nat.{ℕ}
+use mathlib.Core.Bool.{Bool, true}
+use lib.Ieee.{Float, inf, ofBits, binary32, toUnsigned, eq}
+use Rattle.float32.specs.Float32.{max}
+
+unfoldable pub dayOf : Float → ℕ
+dayOf due = toUnsigned 32 (max due (ofBits binary32 0))
+
+-- a card is new while its last date is minus infinity
+unfoldable pub newOf : Float → Bool
+newOf lastDate = eq lastDate (inf true)

@@ -1,0 +1,4 @@
+pub mod Day
+pub mod Cards
+pub mod Choices
+pub mod Config

@@ -1,0 +1,186 @@
+-- What the writes of an event leave in each row: one more where it counts, and nothing else changed.
+use mathlib.Core.Path.{_≡_, refl, sym, ap, _∙_}
+use mathlib.Core.Bool.{Bool, true, false, cond, _&&_}
+use mathlib.Core.List.{List, [], _∷_}
+use mathlib.Core.Logic.{_≢_}
+use Prim.Native.Nat.{ℕ, zero, suc, _+_, _-_, _≤_, _<_}
+use native.Mathlib.Decide.{ℕ-discrete, decLt}
+use native.Mathlib.Omega.{arith}
+use borrow.Author.Tests.{lt-ltb, le-ltb, eq-eqb, ne-eqb}
+use lib.Dec.{ltb, eqb}
+use lib.ListN.{getD, set, length, length-set}
+use lib.Seq.{getD-set-same, getD-set-other, set-out}
+use lib.IntN.{pos}
+use lib.Ieee.{Float, nan, binary32, add, sub, ofInt}
+use Rattle.turns.specs.Sums.{bit}
+use Rattle.days.specs.Counts.{raised, learnedAt, reviewedAt, correctAt, introducedAt, learnOn, reviewOn, introduceOn, introduceFrom}
+use Rattle.days.specs.Sums.{costAt, heldAt, payOn, holdOn, holdFrom}
+
+pub raised-is : (n : ℕ) → n < 4294967295 → raised n ≡ n + 1
+unfolding raised
+raised-is n h = rw (lt-ltb n 4294967295 h)
+
+-- ---- a row written anew: of its numbers one stays, or is one more
+module _ {A : Type 0} (rows : List (List A)) (d i j : ℕ) (row : List A) (x : A) where
+  -- a number that is as it was
+  pub same-column : getD row j x ≡ getD (getD rows d []) j x → getD (getD (set rows d row) i []) j x ≡ getD (getD rows i []) j x
+  same-column e = go (ℕ-discrete i d) (decLt d (length rows))
+    where
+      go : Dec (i ≡ d) → Dec (d < length rows) → getD (getD (set rows d row) i []) j x ≡ getD (getD rows i []) j x
+      go (no q) r = ap (λ (l : List A). getD l j x) (getD-set-other rows d i row [] q)
+      go (yes q) (yes r) = rw q (ap (λ (l : List A). getD l j x) (getD-set-same rows d row [] r) ∙ e)
+      go (yes q) (no r) = rw (set-out rows d row (omega (arith, r)))
+
+pub raised-column : (rows : List (List ℕ)) (d i j : ℕ) (row : List ℕ) → d < length rows → getD (getD rows d []) j 0 < 4294967295 → getD row j 0 ≡ raised (getD (getD rows d []) j 0)
+    → getD (getD (set rows d row) i []) j 0 ≡ getD (getD rows i []) j 0 + bit (eqb d i)
+raised-column rows d i j row h u e = go (ℕ-discrete i d)
+  where
+    go : Dec (i ≡ d) → getD (getD (set rows d row) i []) j 0 ≡ getD (getD rows i []) j 0 + bit (eqb d i)
+    go (yes q) =
+        let own : getD (getD (set rows d row) d []) j 0 ≡ getD (getD rows d []) j 0 + 1 = ap (λ (l : List ℕ). getD l j 0) (getD-set-same rows d row [] h) ∙ e ∙ raised-is (getD (getD rows d []) j 0) u in
+        rw q (omega (arith, own, ap bit (eq-eqb d d refl)))
+    go (no q) =
+        let other : getD (getD (set rows d row) i []) j 0 ≡ getD (getD rows i []) j 0 = ap (λ (l : List ℕ). getD l j 0) (getD-set-other rows d i row [] q) in
+        omega (arith, other, ap bit (ne-eqb d i (omega (arith, q))))
+
+-- ---- a learning
+module _ (rows : List (List ℕ)) (d : ℕ) where
+  pub learn-long : length (learnOn rows d) ≡ length rows
+  unfolding learnOn
+  learn-long = length-set rows d _
+
+  pub learn-learned : (i : ℕ) → d < length rows → learnedAt rows d < 4294967295 → learnedAt (learnOn rows d) i ≡ learnedAt rows i + bit (eqb d i)
+  unfolding learnOn
+  learn-learned i h u = raised-column rows d i 0 _ h u refl
+
+  pub learn-reviewed : (i : ℕ) → reviewedAt (learnOn rows d) i ≡ reviewedAt rows i
+  unfolding learnOn
+  learn-reviewed i = same-column rows d i 1 _ 0 refl
+
+  pub learn-correct : (i : ℕ) → correctAt (learnOn rows d) i ≡ correctAt rows i
+  unfolding learnOn
+  learn-correct i = same-column rows d i 2 _ 0 refl
+
+  pub learn-introduced : (i : ℕ) → introducedAt (learnOn rows d) i ≡ introducedAt rows i
+  unfolding learnOn
+  learn-introduced i = same-column rows d i 3 _ 0 refl
+
+  intro-long : length (introduceOn rows d) ≡ length rows
+  unfolding introduceOn
+  intro-long = length-set rows d _
+
+  intro-learned : (i : ℕ) → learnedAt (introduceOn rows d) i ≡ learnedAt rows i
+  unfolding introduceOn
+  intro-learned i = same-column rows d i 0 _ 0 refl
+
+  intro-reviewed : (i : ℕ) → reviewedAt (introduceOn rows d) i ≡ reviewedAt rows i
+  unfolding introduceOn
+  intro-reviewed i = same-column rows d i 1 _ 0 refl
+
+  intro-correct : (i : ℕ) → correctAt (introduceOn rows d) i ≡ correctAt rows i
+  unfolding introduceOn
+  intro-correct i = same-column rows d i 2 _ 0 refl
+
+  intro-introduced : (i : ℕ) → d < length rows → introducedAt rows d < 4294967295 → introducedAt (introduceOn rows d) i ≡ introducedAt rows i + bit (eqb d i)
+  unfolding introduceOn
+  intro-introduced i h u = raised-column rows d i 3 _ h u refl
+
+pub from-long : (rows : List (List ℕ)) (m d : ℕ) → length (introduceFrom rows m d) ≡ length rows
+unfolding introduceFrom
+from-long rows zero d = refl
+from-long rows (suc m) d = from-long (introduceOn rows d) m (d + 1) ∙ intro-long rows d
+
+pub from-learned : (rows : List (List ℕ)) (m d i : ℕ) → learnedAt (introduceFrom rows m d) i ≡ learnedAt rows i
+unfolding introduceFrom
+from-learned rows zero d i = refl
+from-learned rows (suc m) d i = from-learned (introduceOn rows d) m (d + 1) i ∙ intro-learned rows d i
+
+pub from-reviewed : (rows : List (List ℕ)) (m d i : ℕ) → reviewedAt (introduceFrom rows m d) i ≡ reviewedAt rows i
+unfolding introduceFrom
+from-reviewed rows zero d i = refl
+from-reviewed rows (suc m) d i = from-reviewed (introduceOn rows d) m (d + 1) i ∙ intro-reviewed rows d i
+
+pub from-correct : (rows : List (List ℕ)) (m d i : ℕ) → correctAt (introduceFrom rows m d) i ≡ correctAt rows i
+unfolding introduceFrom
+from-correct rows zero d i = refl
+from-correct rows (suc m) d i = from-correct (introduceOn rows d) m (d + 1) i ∙ intro-correct rows d i
+
+-- one more on day d and every later one
+pub from-introduced : (m d : ℕ) (rows : List (List ℕ)) → ((i : ℕ) → d ≤ i → i < d + m → introducedAt rows i < 4294967295) → d + m ≤ length rows
+    → (i : ℕ) → i < d + m → introducedAt (introduceFrom rows m d) i ≡ introducedAt rows i + bit (ltb d (suc i))
+unfolding introduceFrom
+from-introduced zero d rows small long i h = omega (arith, ap bit (le-ltb d (suc i) (omega arith)))
+from-introduced (suc m) d rows small long i h =
+    go (ℕ-discrete i d) (from-introduced m (d + 1) (introduceOn rows d) less (omega (arith, intro-long rows d)) i (omega arith))
+  where
+    at : (x : ℕ) → introducedAt (introduceOn rows d) x ≡ introducedAt rows x + bit (eqb d x)
+    at x = intro-introduced rows d x (omega arith) (small d (omega arith) (omega arith))
+
+    less : (x : ℕ) → d + 1 ≤ x → x < d + 1 + m → introducedAt (introduceOn rows d) x < 4294967295
+    less x u v = omega (arith, at x, ap bit (ne-eqb d x (omega arith)), small x (omega arith) (omega arith))
+
+    go : Dec (i ≡ d) → introducedAt (introduceFrom (introduceOn rows d) m (d + 1)) i ≡ introducedAt (introduceOn rows d) i + bit (ltb (d + 1) (suc i))
+        → introducedAt (introduceFrom (introduceOn rows d) m (d + 1)) i ≡ introducedAt rows i + bit (ltb d (suc i))
+    go (yes e) ih = omega (arith, ih, at i, ap bit (eq-eqb d i (sym e)), ap bit (le-ltb (d + 1) (suc i) (omega arith)), ap bit (lt-ltb d (suc i) (omega arith)))
+    go (no e) ih = by (decLt d i)
+      where
+        same : introducedAt (introduceOn rows d) i ≡ introducedAt rows i
+        same = omega (arith, at i, ap bit (ne-eqb d i (omega (arith, e))))
+
+        by : Dec (d < i) → introducedAt (introduceFrom (introduceOn rows d) m (d + 1)) i ≡ introducedAt rows i + bit (ltb d (suc i))
+        by (yes u) = omega (arith, ih, same, ap bit (lt-ltb (d + 1) (suc i) (omega arith)), ap bit (lt-ltb d (suc i) (omega arith)))
+        by (no u) = omega (arith, ih, same, ap bit (le-ltb (d + 1) (suc i) (omega (arith, u))), ap bit (le-ltb d (suc i) (omega (arith, u, e))))
+
+-- ---- a review
+module _ (rows : List (List ℕ)) (d : ℕ) (recalled : Bool) where
+  pub review-long : length (reviewOn rows d recalled) ≡ length rows
+  unfolding reviewOn
+  review-long = length-set rows d _
+
+  pub review-learned : (i : ℕ) → learnedAt (reviewOn rows d recalled) i ≡ learnedAt rows i
+  unfolding reviewOn
+  review-learned i = same-column rows d i 0 _ 0 refl
+
+  pub review-reviewed : (i : ℕ) → d < length rows → reviewedAt rows d < 4294967295 → reviewedAt (reviewOn rows d recalled) i ≡ reviewedAt rows i + bit (eqb d i)
+  unfolding reviewOn
+  review-reviewed i h u = raised-column rows d i 1 _ h u refl
+
+  pub review-introduced : (i : ℕ) → introducedAt (reviewOn rows d recalled) i ≡ introducedAt rows i
+  unfolding reviewOn
+  review-introduced i = same-column rows d i 3 _ 0 refl
+
+pub review-correct : (rows : List (List ℕ)) (d : ℕ) (recalled : Bool) (i : ℕ) → d < length rows → correctAt rows d < 4294967295
+    → correctAt (reviewOn rows d recalled) i ≡ correctAt rows i + bit (recalled && eqb d i)
+unfolding reviewOn
+review-correct rows d true i h u = raised-column rows d i 2 _ h u refl
+review-correct rows d false i h u = let e = same-column rows d i 2 (learnedAt rows d ∷ raised (reviewedAt rows d) ∷ correctAt rows d ∷ introducedAt rows d ∷ []) 0 refl in omega (arith, e)
+
+-- ---- sums
+pub pay-long : (rows : List (List Float)) (d : ℕ) (x : Float) → length (payOn rows d x) ≡ length rows
+unfolding payOn
+pay-long rows d x = length-set rows d _
+
+pub pay-cost : (rows : List (List Float)) (d i : ℕ) (x : Float) → d < length rows
+    → costAt (payOn rows d x) i ≡ cond (eqb d i) (add binary32 (costAt rows i) x) (costAt rows i)
+unfolding payOn
+pay-cost rows d i x h = go (ℕ-discrete i d)
+  where
+    row : List Float
+    row = add binary32 (costAt rows d) x ∷ heldAt rows d ∷ []
+
+    go : Dec (i ≡ d) → costAt (set rows d row) i ≡ cond (eqb d i) (add binary32 (costAt rows i) x) (costAt rows i)
+    go (yes e) = rw (e, eq-eqb d d refl) (ap (λ (l : List Float). getD l 0 nan) (getD-set-same rows d row [] h))
+    go (no e) = rw (ne-eqb d i (omega (arith, e))) (ap (λ (l : List Float). getD l 0 nan) (getD-set-other rows d i row [] e))
+
+-- what is held changes no cost
+pub hold-long : (chance : Float → Float) (rows : List (List Float)) (m d : ℕ) (last : Float) → length (holdFrom chance rows m d last) ≡ length rows
+unfolding holdFrom holdOn
+hold-long chance rows zero d last = refl
+hold-long chance rows (suc m) d last = hold-long chance (holdOn rows d (chance (sub binary32 (ofInt binary32 (pos d)) last))) m (d + 1) last ∙ length-set rows d _
+
+pub hold-cost : (chance : Float → Float) (rows : List (List Float)) (m d : ℕ) (last : Float) (i : ℕ) → costAt (holdFrom chance rows m d last) i ≡ costAt rows i
+unfolding holdFrom holdOn
+hold-cost chance rows zero d last i = refl
+hold-cost chance rows (suc m) d last i =
+    let x : Float = chance (sub binary32 (ofInt binary32 (pos d)) last) in
+    hold-cost chance (holdOn rows d x) m (d + 1) last i ∙ same-column rows d i 0 (costAt rows d ∷ add binary32 (heldAt rows d) x ∷ []) nan refl

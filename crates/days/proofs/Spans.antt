@@ -1,0 +1,52 @@
+-- One turn of a loop over days.
+use mathlib.Core.Path.{_≡_, sym, ap, _∙_}
+use mathlib.Core.List.{List}
+use Prim.Native.Nat.{ℕ, suc, _+_, _-_, _≤_, _<_}
+use native.Mathlib.Omega.{arith}
+use lib.IntN.{pos}
+use lib.Ieee.{Float, binary32, sub, ofInt}
+use Rattle.days.specs.Counts.{introduceOn, introduceFrom}
+use Rattle.days.specs.Sums.{holdOn, holdFrom}
+
+-- what is left to introduce equals the whole
+pub introduce-turn : (l l′ l₀ : List (List ℕ)) (d to from : ℕ)
+    → introduceFrom l (to - d) d ≡ introduceFrom l₀ (to - from) from
+    → d < to
+    → l′ ≡ introduceOn l d
+    → introduceFrom l′ (to - (d + 1)) (d + 1) ≡ introduceFrom l₀ (to - from) from
+unfolding introduceFrom
+introduce-turn l l′ l₀ d to from e h el =
+    let n : to - d ≡ suc (to - (d + 1)) = omega arith in
+    rw el (sym (ap (λ (m : ℕ). introduceFrom l m d) n) ∙ e)
+
+pub introduce-end : (l l₀ : List (List ℕ)) (d to from : ℕ)
+    → introduceFrom l (to - d) d ≡ introduceFrom l₀ (to - from) from
+    → to ≤ d
+    → l ≡ introduceFrom l₀ (to - from) from
+unfolding introduceFrom
+introduce-end l l₀ d to from e h =
+    let n : to - d ≡ 0 = omega arith in
+    sym (ap (λ (m : ℕ). introduceFrom l m d) n) ∙ e
+
+-- what is left to hold equals the whole
+module _ (chance : Float → Float) (last : Float) where
+  pub hold-turn : (l l′ l₀ : List (List Float)) (d to from : ℕ) (t x : Float)
+      → holdFrom chance l (to - d) d last ≡ holdFrom chance l₀ (to - from) from last
+      → d < to
+      → t ≡ ofInt binary32 (pos d)
+      → x ≡ chance (sub binary32 t last)
+      → l′ ≡ holdOn l d x
+      → holdFrom chance l′ (to - (d + 1)) (d + 1) last ≡ holdFrom chance l₀ (to - from) from last
+  unfolding holdFrom
+  hold-turn l l′ l₀ d to from t x e h et ex el =
+      let n : to - d ≡ suc (to - (d + 1)) = omega arith in
+      rw (el, ex, et) (sym (ap (λ (m : ℕ). holdFrom chance l m d last) n) ∙ e)
+
+  pub hold-end : (l l₀ : List (List Float)) (d to from : ℕ)
+      → holdFrom chance l (to - d) d last ≡ holdFrom chance l₀ (to - from) from last
+      → to ≤ d
+      → l ≡ holdFrom chance l₀ (to - from) from last
+  unfolding holdFrom
+  hold-end l l₀ d to from e h =
+      let n : to - d ≡ 0 = omega arith in
+      sym (ap (λ (m : ℕ). holdFrom chance l m d last) n) ∙ e

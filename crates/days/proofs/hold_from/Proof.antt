@@ -1,0 +1,59 @@
+-- `days::hold_from` meets its contract.
+use Prim.Native.Nat.{_-_}
+use lib.ListN.{length}
+use native.Mathlib.Omega.{arith}
+use mathlib.Core.Path.{_≡_, refl}
+use Rattle.model.specs.Kept.{retention}
+use Rattle.days.specs.Sums.{holdFrom}
+use Rattle.days.proofs.Spans.{hold-turn, hold-end}
+use Rattle.days.proofs.hold_from.Statement.{statement}
+use Rattle.days.proofs.hold_from.Tie as tie
+
+abbrev Inv-loop : tie.InvT-loop
+Inv-loop rows₀ curve from to last d₀ rows d = (holdFrom (λ t. retention curve t) rows (to - d) d last ≡ holdFrom (λ t. retention curve t) rows₀ (to - from) from last) × (length rows ≡ length rows₀)
+
+abbrev μ-loop : tie.MeasureT-loop
+μ-loop rows₀ curve from to last d₀ rows d = to - d
+
+loop-holds : tie.Need-loop-holds Inv-loop μ-loop
+loop-holds c = (refl, refl)
+
+nearest-u32-to-f32-requires : tie.Need-nearest-u32-to-f32-requires Inv-loop μ-loop
+nearest-u32-to-f32-requires c κs = tt
+
+retention-requires : tie.Need-retention-requires Inv-loop μ-loop
+retention-requires c κs = tt
+
+hold-on-requires : tie.Need-hold-on-requires Inv-loop μ-loop
+hold-on-requires c κs = tt
+
+add-d : tie.Need-add-d Inv-loop μ-loop
+add-d c = omega arith
+
+loop-less : tie.Need-loop-less Inv-loop μ-loop
+loop-less c = omega arith
+
+loop-again : tie.Need-loop-again Inv-loop μ-loop
+loop-again c = (hold-turn (λ t. retention (c .before .before .before .before .before .before .before .args .curve) t) (c .before .before .before .before .before .before .before .args .last) _ _ _ _ _ _ _ _ (c .before .before .before .before .before .before .loop .inv .0) (c .before .before .before .before .before .loop-test .taken) (c .before .before .before .before .nearest-u32-to-f32 .ensures) (c .before .before .retention .ensures) (c .before .hold-on .ensures), omega arith)
+
+same-length : tie.Need-same-length Inv-loop μ-loop
+same-length c = omega arith
+
+returns : tie.Need-returns Inv-loop μ-loop
+returns c = hold-end (λ t. retention (c .before .before .args .curve) t) (c .before .before .args .last) _ _ _ _ _ (c .before .loop .inv .0) (omega arith)
+
+pub hold-from-spec : {M : Type 1} → statement M
+hold-from-spec =
+    tie.close
+    (tie.spec
+    Inv-loop
+    μ-loop
+    loop-holds
+    nearest-u32-to-f32-requires
+    retention-requires
+    hold-on-requires
+    add-d
+    loop-less
+    loop-again
+    same-length
+    returns)

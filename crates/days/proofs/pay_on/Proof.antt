@@ -1,0 +1,50 @@
+-- `days::pay_on` meets its contract.
+use lib.Seq.{set-out}
+use mathlib.Core.Path.{refl, sym}
+use Rattle.days.specs.Sums.{payOn}
+use borrow.Author.Needs.{needs}
+use Rattle.days.proofs.pay_on.Statement.{statement}
+use Rattle.days.proofs.pay_on.Tie as tie
+
+mul-row : tie.Need-mul-row
+mul-row c = search needs
+
+slice-copy-out-row : tie.Need-slice-copy-out-row
+slice-copy-out-row c = search needs
+
+array-read-t13 : tie.Need-array-read-t13
+array-read-t13 c = search needs
+
+array-read-t17 : tie.Need-array-read-t17
+array-read-t17 c = search needs
+
+mul-t8 : tie.Need-mul-t8
+mul-t8 c = search needs
+
+slice-set-from-rows : tie.Need-slice-set-from-rows
+slice-set-from-rows c = search needs
+
+same-length : tie.Need-same-length
+same-length c = search needs
+
+returns : tie.Need-returns
+unfolding payOn
+returns c = refl
+
+returns-2 : tie.Need-returns-2
+unfolding payOn
+returns-2 c = sym (set-out _ _ _ (c .if1 .left))
+
+pub pay-on-spec : {M : Type 1} → statement M
+pay-on-spec =
+    tie.close
+    (tie.spec
+    mul-row
+    slice-copy-out-row
+    array-read-t13
+    array-read-t17
+    mul-t8
+    slice-set-from-rows
+    same-length
+    returns
+    returns-2)

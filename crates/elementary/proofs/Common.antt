@@ -1,0 +1,65 @@
+-- What the proofs of more than one function use: NaN and its patterns, and the fraction of a float.
+use mathlib.Core.Path.{_≡_, refl, sym, ap, subst, _∙_}
+use mathlib.Core.Bool.{Bool, true, false, not}
+use Prim.Native.Nat.{ℕ, _*_, _%_, _≤_, _<_}
+use native.Mathlib.Omega.{arith}
+use lib.Dec.{T, ltb, ltb→lt, nltb→le, not-T}
+use lib.IntN.{pos}
+use lib.Ieee.{Float, nan, inf, fin, binary32, ne, isNan, nanBits, ofBits, toBits, fits}
+use lib.Ieee.Bits.{nanBits-above, nanBits-is, ofBits-toBits}
+use lib.Ieee.Compare.{differs-from-itself, nan-differs}
+use lib.Ieee.Exact.{HasValue}
+use lib.Ieee.Positive.{num, den}
+use Rattle.elementary.specs.Accuracy.{signOf}
+
+-- the test x != x
+pub is-nan : (x : Float) → ne x x ≡ true → x ≡ nan
+is-nan x t = differs-from-itself x (subst T (sym t) tt)
+
+pub is-number : (x : Float) → ne x x ≡ false → T (not (isNan x))
+unfolding isNan
+is-number nan h = subst T (sym nan-differs ∙ h) tt
+is-number (inf s) h = tt
+is-number (fin s m e) h = tt
+
+-- NaN's own pattern is above the infinity's
+pub number-of-bits : (x : Float) → toBits binary32 x % 2147483648 ≤ 2139095040 → T (not (isNan x))
+unfolding isNan toBits
+number-of-bits nan h = absurd (no h)
+  where
+    no : 2143289344 ≤ 2139095040 → ⊥
+    no h = omega arith
+number-of-bits (inf s) h = tt
+number-of-bits (fin s m e) h = tt
+
+-- the pattern of a number
+pub bits-of-number : (x : Float) → T (fits binary32 x) → T (not (isNan x)) → toBits binary32 x % 2147483648 ≤ 2139095040
+bits-of-number x f h =
+    let b = toBits binary32 x in
+    let e : isNan x ≡ ltb 2139095040 (b % 2147483648) = ap isNan (sym (ofBits-toBits binary32 x f)) ∙ sym (nanBits-is binary32 b) ∙ nanBits-above binary32 b in
+    nltb→le 2139095040 (b % 2147483648) (subst (λ (t : Bool). T (not t)) e h)
+
+pub no-nan-bits : (n : ℕ) → n % 2147483648 ≤ 2139095040 → T (not (nanBits binary32 n))
+no-nan-bits n h = subst (λ (t : Bool). T (not t)) (sym (nanBits-above binary32 n)) (not-T (ltb 2139095040 (n % 2147483648)) (λ (u : T (ltb 2139095040 (n % 2147483648))). no (ltb→lt 2139095040 (n % 2147483648) u)))
+  where
+    no : 2139095040 < n % 2147483648 → ⊥
+    no u = omega arith
+
+pub infinity-is : ofBits binary32 2139095040 ≡ inf false
+unfolding ofBits
+infinity-is = refl
+
+pub zero-is : ofBits binary32 0 ≡ fin false 0 (pos 0)
+unfolding ofBits
+zero-is = refl
+
+-- a float that is ± u / c
+pub sign-is : (x : Float) (s : Bool) (u c : ℕ) → HasValue x s u c → signOf x ≡ s
+sign-is nan s u c h = absurd h
+sign-is (inf t) s u c h = absurd h
+sign-is (fin t m e) s u c h = h .0
+
+pub fraction-is : (x : Float) (s : Bool) (u c : ℕ) → HasValue x s u c → num x * c ≡ u * den x
+fraction-is nan s u c h = absurd h
+fraction-is (inf t) s u c h = absurd h
+fraction-is (fin t m e) s u c h = h .1

@@ -1,0 +1,4 @@
+pub mod Error
+pub mod Reduce
+pub mod Cases
+pub mod Law

@@ -1,0 +1,4 @@
+pub mod Exp
+pub mod Ln
+pub mod Pow
+pub mod Accuracy

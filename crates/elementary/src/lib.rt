@@ -1,0 +1,10 @@
+// exp, ln and powf of f32 by whole numbers, so that they give the same bits on every machine. Each promises that it is its
+// definition (specs/Exp, Ln, Pow) and how near that is to the exact value (specs/Accuracy).
+
+mod exp;
+mod ln;
+mod powf;
+
+pub use exp::exp_f32;
+pub use ln::ln_f32;
+pub use powf::powf_f32;

@@ -1,0 +1,17 @@
+-- `pattern`: what equals itself is no NaN.
+use borrow.Author.Needs.{needs}
+use Rattle.elementary.proofs.Common.{is-number}
+use Rattle.elementary_points.proofs.pattern.Statement.{statement}
+use Rattle.elementary_points.proofs.pattern.Tie as tie
+
+returns : tie.Need-returns
+returns c = search needs
+
+float-to-bits-result : tie.Need-float-to-bits-result
+float-to-bits-result c = is-number (c .before .args .x) (c .if1 .left)
+
+returns-2 : tie.Need-returns-2
+returns-2 c = search needs
+
+pub pattern-spec : {M : Type 1} → statement M
+pattern-spec = tie.close (tie.spec returns float-to-bits-result returns-2)

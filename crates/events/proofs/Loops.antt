@@ -1,0 +1,50 @@
+-- One turn of the loop over short-term steps, and that what is kept of the parameters serves as they do.
+use mathlib.Core.Path.{_≡_, refl, sym, ap, _∙_, fun-ext}
+use mathlib.Core.Bool.{Bool, true, false, _||_, cond}
+use mathlib.Core.List.{List}
+use Prim.Native.Nat.{ℕ, zero, suc, _+_, _-_, _≤_, _<_}
+use native.Mathlib.Omega.{arith}
+use borrow.Author.Tests.{le-leb, lt-leb}
+use lib.Dec.{leb}
+use lib.Ieee.{Float, ofBits, binary32}
+use Rattle.model.specs.Model as Model
+use Rattle.model.specs.Kept as Kept
+use Rattle.model.proofs.Kept as kept-laws
+use Rattle.events.specs.declared.ShortTerm.{ShortTerm}
+use Rattle.events.specs.Scalars.{Scalars, plain, kept}
+use Rattle.events.specs.Events.{shortStep, shortSteps}
+
+module _ (x : Scalars) (transitions costs : List Float) (limit : ℕ) where
+  pub steps-many : (n : ℕ) (t : ShortTerm) → limit ≤ t .consecutive → shortSteps x transitions costs limit n t ≡ t
+  unfolding shortSteps
+  steps-many zero t h = refl
+  steps-many (suc n) t h = rw (le-leb limit (t .consecutive) h)
+
+  pub steps-easy : (n : ℕ) (t : ShortTerm) → 4 ≤ t .rating → shortSteps x transitions costs limit n t ≡ t
+  unfolding shortSteps
+  steps-easy zero t h = refl
+  steps-easy (suc n) t h = go (leb limit (t .consecutive))
+    where
+      go : (b : Bool) → cond (b || leb 4 (t .rating)) t (shortSteps x transitions costs limit n (shortStep x transitions costs t)) ≡ t
+      go true = refl
+      go false = rw (le-leb 4 (t .rating) h)
+
+  pub steps-on : (n : ℕ) (t t′ : ShortTerm) → 0 < n → t .consecutive < limit → t .rating < 4 → t′ ≡ shortStep x transitions costs t
+      → shortSteps x transitions costs limit (n - 1) t′ ≡ shortSteps x transitions costs limit n t
+  steps-on n t t′ p h k e = rw e (sym (ap (λ (z : ℕ). shortSteps x transitions costs limit z t) (let z : n ≡ suc (n - 1) = omega arith in z) ∙ one (n - 1)))
+    where
+      one : (m : ℕ) → shortSteps x transitions costs limit (suc m) t ≡ shortSteps x transitions costs limit m (shortStep x transitions costs t)
+      one m = unfold shortSteps in rw (lt-leb limit (t .consecutive) h, lt-leb 4 (t .rating) k)
+
+-- THE MODEL KEPT BY VALUE is the model
+pub kept-is : (w : List Float) → kept (Kept.newOf w) ≡ plain w
+unfolding Model.forgettingCurve
+kept-is w =
+    rw (
+      fun-ext (λ (r : ℕ). kept-laws.first-stability w r),
+      fun-ext (λ (r : ℕ). kept-laws.first-difficulty w r),
+      fun-ext (λ (d : Float). fun-ext (λ (r : ℕ). kept-laws.next-difficulty w d r (ofBits binary32 0x3F80_0000))),
+      fun-ext (λ (s : Float). fun-ext (λ (d : Float). fun-ext (λ (r : Float). fun-ext (λ (n : ℕ). kept-laws.stability w s d r n)))),
+      fun-ext (λ (t : Float). fun-ext (λ (s : Float). kept-laws.curve w t (Model.ofStability s))),
+      fun-ext (λ (s : Float). fun-ext (λ (r : Float). fun-ext (λ (l : Float). kept-laws.scheduled w s r l))),
+    )

@@ -1,0 +1,24 @@
+-- `events::drawn_rating` meets its contract.
+use borrow.Author.Needs.{needs}
+use Rattle.events.proofs.drawn_rating.Statement.{statement}
+use Rattle.events.proofs.drawn_rating.Tie as tie
+
+slice-aggregate-rating : tie.Need-slice-aggregate-rating
+slice-aggregate-rating c = search needs
+
+word-requires : tie.Need-word-requires
+word-requires c κs = search needs
+
+rating-requires : tie.Need-rating-requires
+rating-requires c κs = search needs
+
+rating-of-requires : tie.Need-rating-of-requires
+rating-of-requires c κs = search needs
+
+returns : tie.Need-returns
+returns c = rw (c .rating-of .ensures, c .before .rating .ensures, c .before .before .word .ensures)
+
+pub drawn-rating-spec : {M : Type 1} → statement M
+drawn-rating-spec =
+    tie.close
+    (tie.spec slice-aggregate-rating word-requires rating-requires rating-of-requires returns)

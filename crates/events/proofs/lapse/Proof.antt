@@ -1,0 +1,45 @@
+-- `events::lapse` meets its contract.
+use native.Mathlib.Omega.{arith}
+use Rattle.events.specs.Events.{lapse}
+use borrow.Author.Needs.{needs}
+use Rattle.events.proofs.lapse.Statement.{statement}
+use Rattle.events.proofs.lapse.Tie as tie
+
+stability-after-failure-requires : tie.Need-stability-after-failure-requires
+stability-after-failure-requires c κs = search needs
+
+next-difficulty-requires : tie.Need-next-difficulty-requires
+next-difficulty-requires c κs = search needs
+
+row-of-requires : tie.Need-row-of-requires
+row-of-requires c κs = search needs
+
+short-steps-requires : tie.Need-short-steps-requires
+short-steps-requires c κs = search needs
+
+row-of-requires-2 : tie.Need-row-of-requires-2
+row-of-requires-2 c κs = search needs
+
+of-rating-requires : tie.Need-of-rating-requires
+unfolding lapse
+of-rating-requires c κs = (omega arith, omega arith)
+
+memory-of-requires : tie.Need-memory-of-requires
+memory-of-requires c κs = search needs
+
+returns : tie.Need-returns
+unfolding lapse
+returns c = rw (c .memory-of .ensures, c .before .before .of-rating .ensures, c .before .before .before .row-of2 .ensures, c .before .before .before .before .short-steps .ensures, c .before .before .before .before .before .row-of .ensures, c .before .before .before .before .before .before .before .before .next-difficulty .ensures, c .before .before .before .before .before .before .before .before .before .stability-after-failure .ensures)
+
+pub lapse-spec : {M : Type 1} → statement M
+lapse-spec =
+    tie.close
+    (tie.spec
+    stability-after-failure-requires
+    next-difficulty-requires
+    row-of-requires
+    short-steps-requires
+    row-of-requires-2
+    of-rating-requires
+    memory-of-requires
+    returns)

@@ -1,0 +1,144 @@
+-- What a learning and a review do to a card, over any memory model. Definitions only.
+use Prim.Native.Nat.{ℕ, zero, suc, _+_, _-_, min}
+use mathlib.Core.Bool.{Bool, true, false, _&&_, _||_, cond}
+use mathlib.Core.List.{List}
+use lib.Dec.{eqb, leb, ltb}
+use lib.ListN.{getD}
+use lib.IntN.{pos}
+use lib.Ieee.{Float, nan, ofBits, binary32, ofInt, le}
+use Rattle.float32.specs.Float32.{clamp}
+use Rattle.float32.specs.Ops.{_+ᶠ_, _-ᶠ_}
+use Rattle.draws.specs.Draws.{advance, mix, word, rating, recalled}
+use Rattle.model.specs.Constants.{sMin, sMax, dMin, dMax}
+use Rattle.cards.specs.declared.SimulatorConfig.{SimulatorConfig}
+use Rattle.cards.specs.declared.Card.{Card}
+use Rattle.cards.specs.Config.{rowOf}
+use Rattle.events.specs.declared.ShortTerm.{ShortTerm}
+use Rattle.events.specs.declared.Memory.{Memory}
+use Rattle.events.specs.declared.Event.{Event}
+use Rattle.events.specs.declared.Event.the-variants as event
+use Rattle.events.specs.Scalars.{Scalars}
+
+-- the word of the draw that leads to a state
+abbrev pub wordOf : ℕ → ℕ
+wordOf state = word (mix state)
+
+-- a rating from an index of its weight: 1 to 4 by four weights, 2 to 4 by three
+abbrev pub ratingOf : ℕ → ℕ
+ratingOf i = min i 3 + 1
+
+abbrev pub recalledRatingOf : ℕ → ℕ
+recalledRatingOf i = min i 2 + 2
+
+-- a rating's number in a row of four
+abbrev pub ofRating : List Float → ℕ → Float
+ofRating row rating = getD row (rating - 1) nan
+
+-- after a rating above 2 there is one consecutive success more, after a 1 there is none, after a 2 as many as before
+unfoldable pub consecutiveAfter : ℕ → ℕ → ℕ
+consecutiveAfter n rating = cond (ltb 2 rating) (n + 1) (cond (eqb rating 1) 0 n)
+
+module _ (x : Scalars) (transitions costs : List Float) where
+  -- a short-term step: a rating drawn by the row of the last one, and what it does at a chance to recall of 1
+  unfoldable pub shortStep : ShortTerm → ShortTerm
+  shortStep t =
+      let draws = advance (t .draws) in
+      let r = ratingOf (rating (rowOf transitions (t .rating - 1)) (wordOf draws)) in
+      record {
+        stability = x .next-stability (t .stability) (t .difficulty) (ofBits binary32 0x3F80_0000) r;
+        difficulty = x .next-difficulty (t .difficulty) r;
+        cost = t .cost +ᶠ ofRating costs r;
+        rating = r;
+        consecutive = consecutiveAfter (t .consecutive) r;
+        draws = draws;
+      }
+
+  -- at most n steps, until a rating of 4 or so many consecutive successes
+  unfoldable pub shortSteps : ℕ → ℕ → ShortTerm → ShortTerm
+  shortSteps limit zero t = t
+  shortSteps limit (suc n) t =
+      let rest = shortSteps limit n (shortStep t) in
+      cond (leb limit (t .consecutive) || leb 4 (t .rating)) t rest
+
+-- what is left of short-term steps, within the model's limits
+unfoldable pub memoryOf : ShortTerm → Float → Bool → Memory
+memoryOf t cost recalled = record {
+  difficulty = clamp (t .difficulty) dMin dMax;
+  stability = clamp (t .stability) sMin sMax;
+  cost = cost;
+  recalled = recalled;
+  draws = t .draws;
+}
+
+-- refusal 7: a chance that is NaN or not 0 to 1
+abbrev pub chanceOk : Float → Bool
+chanceOk chance = le (ofBits binary32 0) chance && le chance (ofBits binary32 0x3F80_0000)
+
+-- the chance to recall a card on a day
+unfoldable pub chanceOn : Scalars → Card → ℕ → Float
+chanceOn x k day = x .chance (ofInt binary32 (pos day) -ᶠ k .«last_date») (k .stability)
+
+abbrev pub pickEvent : Bool → Event → Event → Event
+pickEvent true a b = a
+pickEvent false a b = b
+
+-- the first rating 3 or 4 counts as one of the learning steps
+abbrev pub learningLimit : SimulatorConfig → ℕ → ℕ
+learningLimit g rating = cond (ltb 2 rating) (g .«learning_step_count» - 1) (g .«learning_step_count»)
+
+module _ (g : SimulatorConfig) (x : Scalars) where
+  -- a learning: a first rating, and at most five short-term steps
+  unfoldable pub learning : ℕ → Memory
+  learning state =
+      let draws = advance state in
+      let r = ratingOf (rating (g .«first_rating_prob») (wordOf draws)) in
+      let costs = rowOf (g .«state_rating_costs») 0 in
+      let first : ShortTerm = record {
+        stability = x .init-stability r;
+        difficulty = clamp (x .init-difficulty r) dMin dMax;
+        cost = ofRating costs r;
+        rating = r;
+        consecutive = 0;
+        draws = draws;
+      } in
+      let t = shortSteps x (g .«learning_step_transitions») costs (learningLimit g r) 5 first in
+      memoryOf t (t .cost) true
+
+  -- a review that was recalled: a rating of 2 to 4
+  unfoldable pub success : Card → Float → ℕ → Memory
+  success k chance state =
+      let draws = advance state in
+      let r = recalledRatingOf (rating (g .«review_rating_prob») (wordOf draws)) in
+      record {
+        difficulty = x .next-difficulty (k .difficulty) r;
+        stability = x .next-stability (k .stability) (k .difficulty) chance r;
+        cost = ofRating (rowOf (g .«state_rating_costs») 1) r;
+        recalled = true;
+        draws = draws;
+      }
+
+  -- a lapse: rating 1, and at most five short-term steps
+  unfoldable pub lapse : Card → Float → ℕ → Memory
+  lapse k chance state =
+      let first : ShortTerm = record {
+        stability = x .next-stability (k .stability) (k .difficulty) chance 1;
+        difficulty = x .next-difficulty (k .difficulty) 1;
+        cost = ofBits binary32 0;
+        rating = 1;
+        consecutive = 0;
+        draws = state;
+      } in
+      let t = shortSteps x (g .«relearning_step_transitions») (rowOf (g .«state_rating_costs») 2) (g .«relearning_step_count») 5 first in
+      memoryOf t (ofRating (rowOf (g .«state_rating_costs») 1) 1 +ᶠ t .cost) false
+
+  -- a review draws once for its recall, whatever the chance
+  unfoldable pub reviewing : Card → ℕ → ℕ → Event
+  reviewing k day state =
+      let chance = chanceOn x k day in
+      let draws = advance state in
+      pickEvent (chanceOk chance)
+      (pickEvent (recalled chance (wordOf draws)) (event.Happened (success k chance draws)) (event.Happened (lapse k chance draws)))
+      event.Chance
+
+  unfoldable pub eventOf : Card → Bool → ℕ → ℕ → Event
+  eventOf k new day state = pickEvent new (event.Happened (learning state)) (reviewing k day state)

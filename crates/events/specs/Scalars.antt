@@ -1,0 +1,46 @@
+-- What a run asks of a memory model, as functions: by their definitions over the parameters, and as they are computed from what is kept of
+-- the parameters. `kept-is` says that the two are the same. Definitions only.
+use Prim.Native.Nat.{ℕ}
+use mathlib.Core.List.{List}
+use lib.Ieee.{Float, ofBits, binary32}
+use Rattle.model.specs.Model as Model
+use Rattle.model.specs.Kept as Kept
+use Rattle.model.specs.declared.model_v7.Fsrs7.{Fsrs7}
+
+pub record Scalars : Type 0 where
+  -- of a new card, by its first rating
+  pub init-stability : ℕ → Float
+  pub init-difficulty : ℕ → Float
+  -- difficulty after a rating
+  pub next-difficulty : Float → ℕ → Float
+  -- stability after a rating: stability, difficulty, the chance that there was to recall
+  pub next-stability : Float → Float → Float → ℕ → Float
+  -- the chance to recall after so many days, at a stability
+  pub chance : Float → Float → Float
+  -- the interval in whole days for a stability and a retention, up to the longest
+  pub interval : Float → Float → Float → Float
+
+abbrev one : Float
+one = ofBits binary32 0x3F80_0000
+
+-- FSRS-7 over its parameters
+abbrev pub plain : List Float → Scalars
+plain w = record {
+  init-stability = λ rating. Model.initStability w rating;
+  init-difficulty = λ rating. Model.initDifficulty w rating;
+  next-difficulty = λ d rating. Model.nextDifficulty w d rating one;
+  next-stability = λ s d r rating. Model.stabilityForSet w s d r rating 7;
+  chance = λ t s. Model.forgettingCurve w t s;
+  interval = λ s r longest. Model.scheduled w s r longest;
+}
+
+-- and from what is kept of them
+abbrev pub kept : Fsrs7 → Scalars
+kept m = record {
+  init-stability = λ rating. Kept.initStability m rating;
+  init-difficulty = λ rating. Kept.initDifficulty m rating;
+  next-difficulty = λ d rating. Kept.nextDifficulty m d rating one;
+  next-stability = λ s d r rating. Kept.stabilityForSet m s d r rating;
+  chance = λ t s. Kept.retention (Kept.curveOf (m .curve) (Model.ofStability s)) t;
+  interval = λ s r longest. Kept.scheduled m s r longest;
+}

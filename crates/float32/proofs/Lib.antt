@@ -1,0 +1,19 @@
+-- What the proofs of several functions use.
+pub mod Cmp
+pub mod Limits
+pub mod NonNegative
+pub mod Casts
+pub mod Simple
+pub mod Decode
+pub mod Sticky
+pub mod Patterns
+pub mod Shift
+pub mod Rescale
+pub mod Whole
+pub mod Jamming
+pub mod Sums
+pub mod Normal
+pub mod Product
+pub mod Twice
+pub mod Widened
+pub mod Once

@@ -1,0 +1,10 @@
+-- `float32::is_nan` meets its contract. Assumes nothing.
+use Rattle.float32.proofs.Simple.{nan-test}
+use Rattle.float32.proofs.is_nan.Statement.{statement}
+use Rattle.float32.proofs.is_nan.Tie as tie
+
+returns : tie.Need-returns
+returns c = nan-test (c .args .x)
+
+pub is-nan-spec : {M : Type 1} → statement M
+is-nan-spec = tie.close (tie.spec returns)

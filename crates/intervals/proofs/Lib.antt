@@ -1,0 +1,9 @@
+-- The interval table's laws, and the lemmas that its functions' proofs cite.
+pub mod Fill
+pub mod Steps
+pub mod Probe
+pub mod Change
+pub mod Laws
+pub mod Count
+pub mod Schedule
+pub mod Patterns

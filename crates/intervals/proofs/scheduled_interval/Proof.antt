@@ -1,0 +1,63 @@
+use mathlib.Core.Path.{sym, _∙_}
+use Rattle.intervals.specs.Table.{table}
+use Rattle.intervals.proofs.Schedule.{slot-full, slot-new, slot-held, slot-anew, not-found}
+use borrow.Author.Needs.{needs}
+use Rattle.intervals.proofs.scheduled_interval.Statement.{statement}
+use Rattle.intervals.proofs.scheduled_interval.Tie as tie
+
+stability-bucket-requires : tie.Need-stability-bucket-requires
+stability-bucket-requires c κs = search needs
+
+retention-bucket-requires : tie.Need-retention-bucket-requires
+retention-bucket-requires c κs = search needs
+
+lookup-requires : tie.Need-lookup-requires
+lookup-requires c κs = search needs
+
+enum-known-entry : tie.Need-enum-known-entry
+enum-known-entry c = search needs
+
+enum-known-entry-2 : tie.Need-enum-known-entry-2
+enum-known-entry-2 c = search needs
+
+returns : tie.Need-returns
+returns c = slot-full (c .before .before .before .before .before .before .args .model) (c .before .before .before .before .before .before .args .stability) (c .before .before .before .before .before .before .args .retention) (c .before .before .before .before .before .before .args .most) (table (c .before .before .before .before .before .before .args .keys .now) (c .before .before .before .before .before .before .args .intervals .now)) (c .before .before .before .before .stability-bucket .result) (c .before .before .before .retention-bucket .result) (c .before .before .before .before .stability-bucket .ensures) (c .before .before .before .retention-bucket .ensures) (sym (c .before .before .lookup .ensures) ∙ not-found (c .before .before .lookup .result) (c .before .match .keys2) (c .match2 .keys2))
+
+scheduled-requires : tie.Need-scheduled-requires
+scheduled-requires c κs = search needs
+
+returns-2 : tie.Need-returns-2
+returns-2 c = slot-new (c .before .before .before .before .before .before .before .before .before .args .model) (c .before .before .before .before .before .before .before .before .before .args .stability) (c .before .before .before .before .before .before .before .before .before .args .retention) (c .before .before .before .before .before .before .before .before .before .args .most) (table (c .before .before .before .before .before .before .before .before .before .args .keys .now) (c .before .before .before .before .before .before .before .before .before .args .intervals .now)) (c .before .before .before .before .before .before .before .stability-bucket .result) (c .before .before .before .before .before .before .retention-bucket .result) (c .before .before .before .before .before .before .before .stability-bucket .ensures) (c .before .before .before .before .before .before .retention-bucket .ensures) (sym (c .before .before .before .before .before .lookup .ensures) ∙ c .before .before .entry2 .given .1) (c .scheduled .ensures)
+
+curve-requires : tie.Need-curve-requires
+curve-requires c κs = search needs
+
+certifies-rounded-interval-requires : tie.Need-certifies-rounded-interval-requires
+certifies-rounded-interval-requires c κs = search needs
+
+scheduled-requires-2 : tie.Need-scheduled-requires-2
+scheduled-requires-2 c κs = search needs
+
+returns-3 : tie.Need-returns-3
+returns-3 c = slot-held (c .before .before .before .before .before .before .before .before .before .before .args .model) (c .before .before .before .before .before .before .before .before .before .before .args .stability) (c .before .before .before .before .before .before .before .before .before .before .args .retention) (c .before .before .before .before .before .before .before .before .before .before .args .most) (table (c .before .before .before .before .before .before .before .before .before .before .args .keys .now) (c .before .before .before .before .before .before .before .before .before .before .args .intervals .now)) (c .before .before .before .before .before .before .before .before .stability-bucket .result) (c .before .before .before .before .before .before .before .retention-bucket .result) (c .before .before .before .before .before .before .before .before .stability-bucket .ensures) (c .before .before .before .before .before .before .before .retention-bucket .ensures) (sym (c .before .before .before .before .before .before .lookup .ensures) ∙ c .before .before .before .before .entry .given .1) (c .before .before .curve .result) (c .before .certifies-rounded-interval .result) (c .before .before .curve .ensures) (c .before .certifies-rounded-interval .ensures) (c .if1 .taken)
+
+returns-4 : tie.Need-returns-4
+returns-4 c = slot-anew (c .before .before .before .before .before .before .before .before .before .before .before .args .model) (c .before .before .before .before .before .before .before .before .before .before .before .args .stability) (c .before .before .before .before .before .before .before .before .before .before .before .args .retention) (c .before .before .before .before .before .before .before .before .before .before .before .args .most) (table (c .before .before .before .before .before .before .before .before .before .before .before .args .keys .now) (c .before .before .before .before .before .before .before .before .before .before .before .args .intervals .now)) (c .before .before .before .before .before .before .before .before .before .stability-bucket .result) (c .before .before .before .before .before .before .before .before .retention-bucket .result) (c .before .before .before .before .before .before .before .before .before .stability-bucket .ensures) (c .before .before .before .before .before .before .before .before .retention-bucket .ensures) (sym (c .before .before .before .before .before .before .before .lookup .ensures) ∙ c .before .before .before .before .before .entry .given .1) (c .before .before .before .curve .result) (c .before .before .certifies-rounded-interval .result) (c .before .before .before .curve .ensures) (c .before .before .certifies-rounded-interval .ensures) (c .before .if1 .left) (c .scheduled2 .ensures)
+
+pub scheduled-interval-spec : {M : Type 1} → statement M
+scheduled-interval-spec =
+    tie.close
+    (tie.spec
+    stability-bucket-requires
+    retention-bucket-requires
+    lookup-requires
+    enum-known-entry
+    enum-known-entry-2
+    returns
+    scheduled-requires
+    returns-2
+    curve-requires
+    certifies-rounded-interval-requires
+    scheduled-requires-2
+    returns-3
+    returns-4)

@@ -1,0 +1,4 @@
+-- The definitions that the interval table's contracts cite.
+pub mod Table
+pub mod Bucket
+pub mod Schedule

@@ -1,0 +1,94 @@
+-- The interval table as lists: where a key is looked for, what a lookup finds, what entering leaves, and the map that the table is:
+-- `heldIn`, what is held under a key, which knows nothing of a hash, and `countIn`, how many keys are held.
+-- A key is the bit patterns of the two buckets: s of the logarithm of the stability, r of the desired retention.
+-- Assumes nothing.
+use mathlib.Core.Bool.{Bool, true, false, cond, _&&_}
+use mathlib.Core.List.{List, [], _∷_}
+use mathlib.Core.Option.{Option, none, some}
+use Prim.Native.Nat.{ℕ, zero, suc, _+_, _*_, _/_, _%_, min}
+use lib.Dec.{eqb}
+use lib.Ieee.{Float, nan, lt}
+use lib.ListN.{length, getD, set, replicate}
+use Rattle.model.specs.Constants.{nought, one}
+use Rattle.intervals.specs.declared.Entry.{Entry}
+use Rattle.intervals.specs.declared.Entry.the-variants.{Found, Free, Full}
+
+-- the two lists: rows of a key's two buckets, and the intervals
+pub record Table : Type 0 where
+  pub keys : List (List ℕ)
+  pub intervals : List Float
+
+abbrev pub table : List (List ℕ) → List Float → Table
+table keys intervals = record { keys = keys; intervals = intervals }
+
+-- how long the table is: what the longer list has beyond the shorter is no part of it
+abbrev pub places : Table → ℕ
+places t = min (length (t .keys)) (length (t .intervals))
+
+-- an interval below 1 marks a free place
+abbrev pub isFree : Float → Bool
+isFree v = lt v one
+
+unfoldable pub sameKey : ℕ → ℕ → ℕ → ℕ → Bool
+sameKey a b s r = eqb a s && eqb b r
+
+-- where the search for a key starts, and the place after p, round the end
+unfoldable pub homeOf : ℕ → ℕ → ℕ → ℕ
+homeOf n s r = (s * 2654435769 + r * 1540483477) / 1048576 % n
+
+unfoldable pub nextOf : ℕ → ℕ → ℕ
+nextOf n p = cond (eqb (p + 1) n) 0 (p + 1)
+
+-- what stands at a place
+abbrev pub freeAt : Table → ℕ → Bool
+freeAt t p = isFree (getD (t .intervals) p nan)
+
+abbrev pub keyAt : Table → ℕ → ℕ → ℕ → Bool
+keyAt t p s r = sameKey (getD (getD (t .keys) p []) 0 0) (getD (getD (t .keys) p []) 1 0) s r
+
+abbrev pub valueAt : Table → ℕ → Float
+valueAt t p = getD (t .intervals) p nan
+
+-- the first of three at a free place, the second at the key's place, the third at another
+abbrev pub pick : {A : Type 0} → Bool → Bool → A → A → A → A
+pick true k x y z = x
+pick false true x y z = y
+pick false false x y z = z
+
+-- the search from place p over the next so many places
+unfoldable pub probe : Table → ℕ → ℕ → ℕ → ℕ → Entry
+probe t s r zero p = Full
+probe t s r (suc m) p =
+    let q = probe t s r m (nextOf (places t) p) in
+    pick (freeAt t p) (keyAt t p s r) (Free p) (Found p (valueAt t p)) q
+
+unfoldable pub lookupIn : Table → ℕ → ℕ → Entry
+lookupIn t s r = probe t s r (places t) (homeOf (places t) s r)
+
+abbrev pub enterIn : Table → ℕ → ℕ → ℕ → Float → Table
+enterIn t p s r v = table (set (t .keys) p (s ∷ r ∷ [])) (set (t .intervals) p v)
+
+-- every place free; the keys of free places mean nothing, and stay
+abbrev pub clearIn : Table → Table
+clearIn t = table (t .keys) (replicate (length (t .intervals)) nought)
+
+-- the interval held under a key in the first m places, and how many keys are held there
+unfoldable pub heldTo : Table → ℕ → ℕ → ℕ → Option Float
+heldTo t s r zero = none
+heldTo t s r (suc m) = pick (freeAt t m) (keyAt t m s r) (heldTo t s r m) (some (valueAt t m)) (heldTo t s r m)
+
+unfoldable pub countTo : Table → ℕ → ℕ
+countTo t zero = 0
+countTo t (suc m) = cond (freeAt t m) (countTo t m) (suc (countTo t m))
+
+abbrev pub heldIn : Table → ℕ → ℕ → Option Float
+heldIn t s r = heldTo t s r (places t)
+
+abbrev pub countIn : Table → ℕ
+countIn t = countTo t (places t)
+
+-- document 01's answer of a lookup: an interval or nothing
+abbrev pub answerOf : Entry → Option Float
+answerOf (Found p v) = some v
+answerOf (Free p) = none
+answerOf Full = none

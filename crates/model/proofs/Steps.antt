@@ -1,0 +1,80 @@
+-- One turn of each of the solvers' loops, counted down. Assumes nothing.
+use mathlib.Core.Path.{_≡_, refl, ap}
+use mathlib.Core.Bool.{true, false, cond, _&&_}
+use Prim.Native.Nat.{ℕ, zero, suc, _-_, _≤_, _<_}
+use native.Mathlib.Omega.{arith}
+use lib.Ieee.{Float, lt}
+use Rattle.float32.specs.Float32 as Float32
+use Rattle.float32.specs.Ops.{_+ᶠ_, _*ᶠ_}
+use Rattle.model.specs.Constants.{sMax, half, two, nought}
+use Rattle.model.specs.Model.{newton, doubled, halved}
+
+less-one : (n : ℕ) → n ≡ suc n - 1
+less-one n = omega arith
+
+module _ (f : Float → Float) where
+  pub newton-on : (n : ℕ) (u : Float) → 0 < n → Float32.isFinite (f u) ≡ true → newton n f u ≡ newton (n - 1) f (f u)
+  unfolding newton
+  newton-on zero u p h = absurd (no p)
+    where
+      no : 0 < 0 → ⊥
+      no p = omega arith
+  newton-on (suc n) u p h = rw h (ap (λ (k : ℕ). newton k f (f u)) (less-one n))
+
+  pub newton-off : (n : ℕ) (u : Float) → 0 < n → Float32.isFinite (f u) ≡ false → newton n f u ≡ f u
+  unfolding newton
+  newton-off zero u p h = absurd (no p)
+    where
+      no : 0 < 0 → ⊥
+      no p = omega arith
+  newton-off (suc n) u p h = rw h
+
+  pub newton-end : (n : ℕ) (u : Float) → n ≤ 0 → newton n f u ≡ u
+  unfolding newton
+  newton-end zero u p = refl
+  newton-end (suc n) u p = absurd (no p)
+    where
+      no : suc n ≤ 0 → ⊥
+      no p = omega arith
+
+  module _ (r : Float) where
+    pub doubled-on : (n : ℕ) (h : Float) → 0 < n → (lt r (f h) && lt h sMax) ≡ true → doubled n f r h ≡ doubled (n - 1) f r (Float32.min (h *ᶠ two) sMax)
+    unfolding doubled
+    doubled-on zero h p e = absurd (no p)
+      where
+        no : 0 < 0 → ⊥
+        no p = omega arith
+    doubled-on (suc n) h p e = rw e (ap (λ (k : ℕ). doubled k f r (Float32.min (h *ᶠ two) sMax)) (less-one n))
+
+    pub doubled-off : (n : ℕ) (h : Float) → (lt r (f h) && lt h sMax) ≡ false → doubled n f r h ≡ h
+    unfolding doubled
+    doubled-off zero h e = refl
+    doubled-off (suc n) h e = rw e
+
+    pub doubled-end : (n : ℕ) (h : Float) → n ≤ 0 → doubled n f r h ≡ h
+    unfolding doubled
+    doubled-end zero h p = refl
+    doubled-end (suc n) h p = absurd (no p)
+      where
+        no : suc n ≤ 0 → ⊥
+        no p = omega arith
+
+    abbrev middle : Float → Float → Float
+    middle x y = (x +ᶠ y) *ᶠ half
+
+    pub halved-on : (n : ℕ) (x y : Float) → 0 < n
+        → halved n f r x y ≡ halved (n - 1) f r (cond (lt r (f (middle x y))) (middle x y) x) (cond (lt r (f (middle x y))) y (middle x y))
+    unfolding halved
+    halved-on zero x y p = absurd (no p)
+      where
+        no : 0 < 0 → ⊥
+        no p = omega arith
+    halved-on (suc n) x y p = ap (λ (k : ℕ). halved k f r (cond (lt r (f (middle x y))) (middle x y) x) (cond (lt r (f (middle x y))) y (middle x y))) (less-one n)
+
+    pub halved-end : (n : ℕ) (x y : Float) → n ≤ 0 → halved n f r x y ≡ Float32.clamp (middle x y) nought sMax
+    unfolding halved
+    halved-end zero x y p = refl
+    halved-end (suc n) x y p = absurd (no p)
+      where
+        no : suc n ≤ 0 → ⊥
+        no p = omega arith

@@ -1,0 +1,59 @@
+-- `model::model_v7::Curve::halved` meets its contract. Assumes nothing.
+use mathlib.Core.Path.{_≡_, refl, sym, _∙_}
+use native.Mathlib.Omega.{arith}
+use borrow.Author.Needs.{needs}
+use Rattle.model.specs.Constants.{nought}
+use Rattle.model.specs.Model.{halved}
+use Rattle.model.specs.Kept.{retention}
+use Rattle.model.proofs.Steps.{halved-on, halved-end}
+use Rattle.model.proofs.model_v7.Curve.halved.Statement.{statement}
+use Rattle.model.proofs.model_v7.Curve.halved.Tie as tie
+
+abbrev Inv-loop : tie.InvT-loop
+Inv-loop self desired end low₀ high₀ left₀ low high left = halved left (retention self) desired low high ≡ halved 50 (retention self) desired nought end
+
+abbrev μ-loop : tie.MeasureT-loop
+μ-loop self desired end low₀ high₀ left₀ low high left = left
+
+loop-holds : tie.Need-loop-holds Inv-loop μ-loop
+loop-holds c = refl
+
+retention-requires : tie.Need-retention-requires Inv-loop μ-loop
+retention-requires c κs = search needs
+
+choose-requires : tie.Need-choose-requires Inv-loop μ-loop
+choose-requires c κs = search needs
+
+choose-requires-2 : tie.Need-choose-requires-2 Inv-loop μ-loop
+choose-requires-2 c κs = search needs
+
+sub-left : tie.Need-sub-left Inv-loop μ-loop
+sub-left c = search needs
+
+loop-less : tie.Need-loop-less Inv-loop μ-loop
+loop-less c = search needs
+
+loop-again : tie.Need-loop-again Inv-loop μ-loop
+loop-again c = rw (c .before .choose .ensures, c .choose2 .ensures, c .before .before .retention .ensures) (sym (halved-on (retention (c .before .before .before .before .before .args .self)) (c .before .before .before .before .before .args .desired) (c .before .before .before .before .loop .left) (c .before .before .before .before .loop .low) (c .before .before .before .before .loop .high) (omega arith)) ∙ c .before .before .before .before .loop .inv)
+
+clamp-requires : tie.Need-clamp-requires Inv-loop μ-loop
+clamp-requires c κs = search needs
+
+returns : tie.Need-returns Inv-loop μ-loop
+returns c = c .clamp .ensures ∙ sym (halved-end (retention (c .before .before .before .args .self)) (c .before .before .before .args .desired) (c .before .before .loop .left) (c .before .before .loop .low) (c .before .before .loop .high) (omega arith)) ∙ c .before .before .loop .inv
+
+pub halved-spec : {M : Type 1} → statement M
+halved-spec =
+    tie.close
+    (tie.spec
+    Inv-loop
+    μ-loop
+    loop-holds
+    retention-requires
+    choose-requires
+    choose-requires-2
+    sub-left
+    loop-less
+    loop-again
+    clamp-requires
+    returns)

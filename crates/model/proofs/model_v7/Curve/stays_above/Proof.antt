@@ -1,0 +1,16 @@
+-- `model::model_v7::Curve::stays_above` meets its contract. Assumes nothing.
+use borrow.Author.Needs.{needs}
+use Rattle.model.proofs.model_v7.Curve.stays_above.Statement.{statement}
+use Rattle.model.proofs.model_v7.Curve.stays_above.Tie as tie
+
+retention-requires : tie.Need-retention-requires
+retention-requires c κs = search needs
+
+returns : tie.Need-returns
+returns c = rw (← c .before .retention .ensures, c .if1 .taken)
+
+returns-2 : tie.Need-returns-2
+returns-2 c = rw (← c .before .retention .ensures, c .if1 .left)
+
+pub stays-above-spec : {M : Type 1} → statement M
+stays-above-spec = tie.close (tie.spec retention-requires returns returns-2)

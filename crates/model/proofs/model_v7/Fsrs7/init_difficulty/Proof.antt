@@ -1,0 +1,15 @@
+-- `model::model_v7::Fsrs7::init_difficulty` meets its contract. Assumes nothing.
+use borrow.Author.Needs.{needs}
+use Rattle.model.specs.Kept.{initDifficulty}
+use Rattle.model.proofs.model_v7.Fsrs7.init_difficulty.Statement.{statement}
+use Rattle.model.proofs.model_v7.Fsrs7.init_difficulty.Tie as tie
+
+init-difficulty-by-requires : tie.Need-init-difficulty-by-requires
+init-difficulty-by-requires c κs = search needs
+
+returns : tie.Need-returns
+unfolding initDifficulty
+returns c = c .init-difficulty-by .ensures
+
+pub init-difficulty-spec : {M : Type 1} → statement M
+init-difficulty-spec = tie.close (tie.spec init-difficulty-by-requires returns)

@@ -1,0 +1,36 @@
+-- `model::model_v7::Fsrs7::next_difficulty` meets its contract. Assumes nothing.
+use borrow.Author.Needs.{needs}
+use Rattle.model.specs.Model.{nextDifficultyBy}
+use Rattle.model.specs.Kept.{nextDifficulty}
+use Rattle.model.proofs.model_v7.Fsrs7.next_difficulty.Statement.{statement}
+use Rattle.model.proofs.model_v7.Fsrs7.next_difficulty.Tie as tie
+
+to-rating-requires : tie.Need-to-rating-requires
+to-rating-requires c κs = search needs
+
+difficulty-change-requires : tie.Need-difficulty-change-requires
+difficulty-change-requires c κs = search needs
+
+linear-damping-requires : tie.Need-linear-damping-requires
+linear-damping-requires c κs = search needs
+
+mean-reversion-requires : tie.Need-mean-reversion-requires
+mean-reversion-requires c κs = search needs
+
+clamp-requires : tie.Need-clamp-requires
+clamp-requires c κs = search needs
+
+returns : tie.Need-returns
+unfolding nextDifficulty nextDifficultyBy
+returns c = rw (c .clamp .ensures, c .before .mean-reversion .ensures, c .before .before .linear-damping .ensures, c .before .before .before .difficulty-change .ensures, c .before .before .before .before .to-rating .ensures)
+
+pub next-difficulty-spec : {M : Type 1} → statement M
+next-difficulty-spec =
+    tie.close
+    (tie.spec
+    to-rating-requires
+    difficulty-change-requires
+    linear-damping-requires
+    mean-reversion-requires
+    clamp-requires
+    returns)

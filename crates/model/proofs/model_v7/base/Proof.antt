@@ -1,0 +1,12 @@
+-- `model::model_v7::base` meets its contract. Assumes nothing.
+use mathlib.Core.Path.{refl}
+use Rattle.model.specs.Model.{base}
+use Rattle.model.proofs.model_v7.base.Statement.{statement}
+use Rattle.model.proofs.model_v7.base.Tie as tie
+
+returns : tie.Need-returns
+unfolding base
+returns c = refl
+
+pub base-spec : {M : Type 1} → statement M
+base-spec = tie.close (tie.spec returns)

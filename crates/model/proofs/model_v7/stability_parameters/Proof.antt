@@ -1,0 +1,52 @@
+-- `model::model_v7::stability_parameters` meets its contract. Assumes nothing.
+use borrow.Author.Needs.{needs}
+use Rattle.model.specs.Model.{growth}
+use Rattle.model.specs.Kept.{stabilityOf}
+use Rattle.model.proofs.model_v7.stability_parameters.Statement.{statement}
+use Rattle.model.proofs.model_v7.stability_parameters.Tie as tie
+
+at-requires : tie.Need-at-requires
+at-requires c κs = search needs
+
+exp-f32-requires : tie.Need-exp-f32-requires
+exp-f32-requires c κs = search needs
+
+at-requires-2 : tie.Need-at-requires-2
+at-requires-2 c κs = search needs
+
+at-requires-3 : tie.Need-at-requires-3
+at-requires-3 c κs = search needs
+
+at-requires-4 : tie.Need-at-requires-4
+at-requires-4 c κs = search needs
+
+at-requires-5 : tie.Need-at-requires-5
+at-requires-5 c κs = search needs
+
+at-requires-6 : tie.Need-at-requires-6
+at-requires-6 c κs = search needs
+
+at-requires-7 : tie.Need-at-requires-7
+at-requires-7 c κs = search needs
+
+at-requires-8 : tie.Need-at-requires-8
+at-requires-8 c κs = search needs
+
+returns : tie.Need-returns
+unfolding stabilityOf growth
+returns c = rw (c .before .before .before .before .before .before .before .exp-f32 .ensures .0, c .before .before .before .before .before .before .before .before .at .ensures, c .before .before .before .before .before .before .at2 .ensures, c .before .before .before .before .before .at3 .ensures, c .before .before .before .before .at4 .ensures, c .before .before .before .at5 .ensures, c .before .before .at6 .ensures, c .before .at7 .ensures, c .at8 .ensures)
+
+pub stability-parameters-spec : {M : Type 1} → statement M
+stability-parameters-spec =
+    tie.close
+    (tie.spec
+    at-requires
+    exp-f32-requires
+    at-requires-2
+    at-requires-3
+    at-requires-4
+    at-requires-5
+    at-requires-6
+    at-requires-7
+    at-requires-8
+    returns)

@@ -1,0 +1,4 @@
+pub mod Constants
+pub mod Model
+pub mod Kept
+pub mod Defaults

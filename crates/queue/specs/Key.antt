@@ -1,0 +1,34 @@
+-- A card's order key: one number whose order is that of (day, reviews before new cards, priority). Assumes nothing.
+use mathlib.Core.Path.{_≡_}
+use mathlib.Core.Bool.{Bool, true, false}
+use mathlib.Core.Logic.{_⊎_}
+use Prim.Native.Nat.{ℕ, suc, _+_, _-_, _*_, _^_, _<_, min}
+use lib.IntN.{ℤ, pos, negsuc}
+use lib.Dec.{T}
+use lib.Signed.{leZ}
+use lib.Ieee.{Float, binary32, ofBits, toSigned}
+use Rattle.float32.specs.Ops.{_*ᶠ_}
+
+abbrev pub bit : Bool → ℕ
+bit true = 1
+bit false = 0
+
+-- a number from −2 ^ 31 up, counted from there
+unfoldable pub shifted : ℤ → ℕ
+shifted (pos n) = n + 2 ^ 31
+shifted (negsuc n) = 2 ^ 31 - suc n
+
+-- `ReviewPriorityFn::default`: the difficulty times 100 as an i32
+unfoldable pub priorityOf : Float → ℤ
+priorityOf difficulty = toSigned 31 (difficulty *ᶠ ofBits binary32 0x42c8_0000)
+
+unfoldable pub packed : ℕ → Bool → ℤ → ℕ
+packed day new priority = day * 2 ^ 33 + bit new * 2 ^ 32 + shifted priority
+
+-- `card_priority`, where a day is an i32 and ends at its largest
+unfoldable pub cardPriority : ℕ → Bool → Float → ℕ
+cardPriority day new difficulty = packed (min day (2 ^ 31 - 1)) new (priorityOf difficulty)
+
+-- the order of `CardPriority`: day, then reviews before new cards, then priority
+abbrev pub NoLater : ℕ → Bool → ℤ → ℕ → Bool → ℤ → Type 0
+NoLater d n p d′ n′ p′ = (d < d′) ⊎ ((d ≡ d′) × ((bit n < bit n′) ⊎ ((n ≡ n′) × T (leZ p p′))))

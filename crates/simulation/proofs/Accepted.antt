@@ -1,0 +1,108 @@
+-- What a call that the entry accepts has.
+use mathlib.Core.Path.{_≡_, refl, sym, ap, _∙_, subst}
+use mathlib.Core.Bool.{Bool, true, false, not, _&&_, _||_, cond, true≢false, false≢true}
+use mathlib.Core.List.{List}
+use Prim.Native.Nat.{ℕ, zero, suc, _+_, _≤_, _<_}
+use native.Mathlib.Decide.{ℕ-discrete}
+use native.Mathlib.Omega.{arith}
+use borrow.Author.Tests.{eqb-true, eqb-false, leb-true, ltb-false}
+use lib.Dec.{eqb, leb, ltb}
+use lib.ListN.{length}
+use lib.Ieee.{Float}
+use Rattle.float32.specs.Float32.{isFinite}
+use Rattle.cards.specs.Cards.{cardAt, isKept, cardOk}
+use Rattle.cards.specs.Config.{configOk}
+use Rattle.days.specs.Due.{dueDays}
+use Rattle.simulation.specs.declared.Refusal.{Refusal}
+use Rattle.simulation.specs.declared.Refusal.the-variants as refusal
+use Rattle.simulation.specs.declared.Check.{Check}
+use Rattle.simulation.specs.declared.Check.the-variants as check
+use Rattle.simulation.specs.State.{State}
+use Rattle.simulation.proofs.First.{none-before}
+use Rattle.simulation.specs.Entry.{Inputs, firstWhere, notFinite, notOk, failIf, checkParameters, lengthsOk, checkFirst, checked}
+
+pub record Accepted (i : Inputs) (s : State) : Type 0 where
+  pub parameters-long : 34 ≤ length (i .parameters)
+  pub deck-some : 0 < i .config .«deck_size»
+  pub deck-most : i .config .«deck_size» ≤ 65536
+  pub span-some : 0 < i .config .«learn_span»
+  pub span-most : i .config .«learn_span» ≤ 36500
+  pub config-ok : configOk (i .config) ≡ true
+  pub retention-ok : isFinite (i .retention) ≡ true
+  pub existing-even : length (i .existing) ≡ length (i .existing-counts)
+  pub table-even : length (s .table .keys) ≡ length (s .table .intervals)
+  pub cards-long : i .config .«deck_size» ≤ length (s .cards)
+  pub counts-long : i .config .«deck_size» ≤ length (s .counts)
+  pub queue-long : i .config .«deck_size» ≤ length (s .queue .rows)
+  pub days-long : i .config .«learn_span» ≤ length (s .days)
+  pub sums-long : i .config .«learn_span» ≤ length (s .sums)
+  pub due-long : dueDays (i .config .«learn_span») ≤ length (s .due)
+  pub existing-few : length (i .existing) ≤ i .config .«deck_size»
+  pub cards-ok : (j : ℕ) → j < length (i .existing) → isKept (cardAt (i .existing) (i .existing-counts) j) ≡ true → cardOk (cardAt (i .existing) (i .existing-counts) j) ≡ true
+
+passes : (b : Bool) (r : Refusal) (next : Check) → failIf b r next ≡ check.Passed → (b ≡ false) × (next ≡ check.Passed)
+passes true r next e = let z : _≡_ {A = ℕ} 0 1 = cc in absurd (omega arith)
+passes false r next e = (refl, e)
+
+pub both : (a b : Bool) → (a && b) ≡ true → (a ≡ true) × (b ≡ true)
+both true b e = (refl, e)
+both false b e = absurd (false≢true e)
+
+neither : (a b : Bool) → (a || b) ≡ false → (a ≡ false) × (b ≡ false)
+neither true b e = absurd (true≢false e)
+neither false b e = (refl, e)
+
+unnot : (b : Bool) → not b ≡ false → b ≡ true
+unnot true e = refl
+unnot false e = absurd (true≢false e)
+
+kept-ok : (a b : Bool) → (a && not b) ≡ false → a ≡ true → b ≡ true
+kept-ok true b e k = unnot b e
+kept-ok false b e k = absurd (false≢true k)
+
+pub accepted : (i : Inputs) (s : State) → checked i s ≡ check.Passed → Accepted i s
+unfolding checked checkParameters checkFirst lengthsOk
+accepted i s e =
+    let w = i .parameters in
+    let g = i .config in
+    let n = length (i .existing) in
+    let p₁ = passes (ltb (length w) 34) _ _ e in
+    let p₂ = passes (ltb (firstWhere (notFinite w) 34 0) 34) _ _ (p₁ .1) in
+    let p₃ = passes (eqb (g .«deck_size») 0 || ltb 65536 (g .«deck_size»)) _ _ (p₂ .1) in
+    let p₄ = passes (eqb (g .«learn_span») 0 || ltb 36500 (g .«learn_span»)) _ _ (p₃ .1) in
+    let p₅ = passes (not (configOk g && isFinite (i .retention))) _ _ (p₄ .1) in
+    let p₆ = passes (not (eqb n (length (i .existing-counts)) && (eqb (length (s .table .keys)) (length (s .table .intervals)) && (leb (g .«deck_size») (length (s .cards)) && (leb (g .«deck_size») (length (s .counts)) && (leb (g .«deck_size») (length (s .queue .rows)) && (leb (g .«learn_span») (length (s .days)) && (leb (g .«learn_span») (length (s .sums)) && leb (dueDays (g .«learn_span»)) (length (s .due)))))))))) _ _ (p₅ .1) in
+    let p₇ = passes (ltb (g .«deck_size») n) _ _ (p₆ .1) in
+    let p₈ = passes (ltb (firstWhere (notOk (i .existing) (i .existing-counts)) n 0) n) _ _ (p₇ .1) in
+    let d = neither (eqb (g .«deck_size») 0) (ltb 65536 (g .«deck_size»)) (p₃ .0) in
+    let t = neither (eqb (g .«learn_span») 0) (ltb 36500 (g .«learn_span»)) (p₄ .0) in
+    let c = both (configOk g) (isFinite (i .retention)) (unnot _ (p₅ .0)) in
+    let l₁ = both (eqb n (length (i .existing-counts))) _ (unnot _ (p₆ .0)) in
+    let l₂ = both (eqb (length (s .table .keys)) (length (s .table .intervals))) _ (l₁ .1) in
+    let l₃ = both (leb (g .«deck_size») (length (s .cards))) _ (l₂ .1) in
+    let l₄ = both (leb (g .«deck_size») (length (s .counts))) _ (l₃ .1) in
+    let l₅ = both (leb (g .«deck_size») (length (s .queue .rows))) _ (l₄ .1) in
+    let l₆ = both (leb (g .«learn_span») (length (s .days))) _ (l₅ .1) in
+    let l₇ = both (leb (g .«learn_span») (length (s .sums))) _ (l₆ .1) in
+    let nd = eqb-false (g .«deck_size») 0 (d .0) in
+    let nt = eqb-false (g .«learn_span») 0 (t .0) in
+    record {
+      parameters-long = ltb-false (length w) 34 (p₁ .0);
+      deck-some = omega (arith, nd);
+      deck-most = ltb-false 65536 (g .«deck_size») (d .1);
+      span-some = omega (arith, nt);
+      span-most = ltb-false 36500 (g .«learn_span») (t .1);
+      config-ok = c .0;
+      retention-ok = c .1;
+      existing-even = eqb-true n (length (i .existing-counts)) (l₁ .0);
+      table-even = eqb-true (length (s .table .keys)) (length (s .table .intervals)) (l₂ .0);
+      cards-long = leb-true (g .«deck_size») (length (s .cards)) (l₃ .0);
+      counts-long = leb-true (g .«deck_size») (length (s .counts)) (l₄ .0);
+      queue-long = leb-true (g .«deck_size») (length (s .queue .rows)) (l₅ .0);
+      days-long = leb-true (g .«learn_span») (length (s .days)) (l₆ .0);
+      sums-long = leb-true (g .«learn_span») (length (s .sums)) (l₇ .0);
+      due-long = leb-true (dueDays (g .«learn_span»)) (length (s .due)) (l₇ .1);
+      existing-few = ltb-false (g .«deck_size») n (p₇ .0);
+      cards-ok = λ j l k. kept-ok (isKept (cardAt (i .existing) (i .existing-counts) j)) (cardOk (cardAt (i .existing) (i .existing-counts) j))
+          (none-before (notOk (i .existing) (i .existing-counts)) n 0 j (let h = ltb-false (firstWhere (notOk (i .existing) (i .existing-counts)) n 0) n (p₈ .0) in omega (arith, h)) (omega arith) (omega arith)) k;
+    }

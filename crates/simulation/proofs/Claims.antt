@@ -1,0 +1,154 @@
+-- Demand 3 of the run: what the laws of turns say of a call that the entry accepts.
+use mathlib.Core.Path.{_≡_, refl, sym, ap, _∙_, subst}
+use mathlib.Core.Bool.{Bool, true, false, not, _&&_}
+use mathlib.Core.List.{List, []}
+use Prim.Native.Nat.{ℕ, suc, _+_, _*_, _^_, _≤_, _<_}
+use native.Mathlib.Omega.{arith}
+use lib.Dec.{T, lit<}
+use lib.ListN.{length}
+use lib.IntN.{pos}
+use lib.Ieee.{Float, ofBits, ofFields, binary32, ofInt, round, le, lt, eq, isNan}
+use lib.Ieee.Positive.{positive, between, le-trans-positive}
+use Rattle.float32.specs.Float32.{isFinite}
+use Rattle.float32.proofs.Cmp as cmp
+use Rattle.float32.proofs.Limits.{Between}
+use Rattle.turns.specs.Turns.{Turn, Demand, Rows}
+use Rattle.turns.specs.Run.{Next, takes, stops, run, stopOf}
+use Rattle.turns.proofs.Loop.{stop-is}
+use Rattle.model.specs.Kept as Kept
+use Rattle.model.specs.Model.{scheduled}
+use Rattle.model.proofs.Laws.{scheduled-between}
+use Rattle.cards.specs.declared.SimulatorConfig.{SimulatorConfig}
+use Rattle.cards.specs.Config.{rowOf, threeOf, weightsOk, transitionsOk, costsOk, intervalOk, configOk}
+use Rattle.cards.proofs.Later.{Fair, one-is}
+use Rattle.events.specs.Scalars.{Scalars, plain, kept}
+use Rattle.events.proofs.Loops.{kept-is}
+use Rattle.simulation.specs.declared.Refusal.{Refusal}
+use Rattle.simulation.specs.declared.Check.{Check}
+use Rattle.simulation.specs.declared.Check.the-variants as check
+use Rattle.simulation.specs.declared.Progress.{Progress}
+use Rattle.simulation.specs.declared.Answer.{Answer}
+use Rattle.simulation.specs.declared.Answer.the-variants as answer
+use Rattle.simulation.specs.State.{State, Model, Lists, state}
+use Rattle.simulation.specs.Model.{modelOf}
+use Rattle.simulation.specs.Turn.{Stop, ended, chance, full, count, next}
+use Rattle.simulation.specs.Rules.{costs, limits}
+use Rattle.simulation.specs.Entry.{Inputs, inputs, checked}
+use Rattle.simulation.specs.SetUp.{setUp}
+use Rattle.simulation.specs.Simulate.{Result, progress, answerOf, bound, ran, finished, afterCheck, simulated}
+use Rattle.simulation.specs.Demands.{Finished, modelFor, cardsOf, turnsOf, DemandThree, LimitsFit}
+use Rattle.simulation.specs.Steps.{Done}
+use Rattle.simulation.proofs.Good.{Fine}
+use Rattle.simulation.proofs.Accepted.{Accepted, accepted, both}
+use Rattle.simulation.proofs.Joining.{set-up-few, set-up-start, set-up-good}
+use Rattle.simulation.proofs.Lawful.{turns-demand, turns-rows, ends}
+
+-- ---- a scheduled interval is 1 to 36,500
+most-is : ofBits binary32 0x470E_9400 ≡ ofInt binary32 (pos 36500)
+unfolding ofBits ofFields ofInt round
+most-is = refl
+
+one-positive : T (positive (ofBits binary32 0x3F80_0000))
+unfolding ofBits ofFields
+one-positive = tt
+
+most-positive : T (positive (ofBits binary32 0x470E_9400))
+unfolding ofBits ofFields
+most-positive = tt
+
+pub scheduled-fair : (w : List Float) (s r longest : Float) → intervalOk longest ≡ true → Fair (scheduled w s r longest)
+unfolding intervalOk
+scheduled-fair w s r longest e =
+    let one : Float = ofBits binary32 0x3F80_0000 in
+    let most : Float = ofBits binary32 0x470E_9400 in
+    let p = both (le one longest) (le longest most) e in
+    let low : T (le (ofBits binary32 0x3F80_0000) longest) = cmp.yes (p .0) in
+    let high : T (le longest (ofBits binary32 0x470E_9400)) = cmp.yes (p .1) in
+    let b = scheduled-between w s r longest low in
+    let ph : T (positive longest) = between (ofBits binary32 0x3F80_0000) longest (ofBits binary32 0x470E_9400) one-positive most-positive low high in
+    let px : T (positive (scheduled w s r longest)) = between (ofBits binary32 0x3F80_0000) (scheduled w s r longest) longest one-positive ph (b .least) (b .most) in
+    record {
+      least = subst (λ (z : Float). T (le z (scheduled w s r longest))) one-is (b .least);
+      most = subst (λ (z : Float). T (le (scheduled w s r longest) z)) most-is (le-trans-positive (scheduled w s r longest) longest (ofBits binary32 0x470E_9400) px ph most-positive (b .most) high);
+    }
+
+interval-ok : (g : SimulatorConfig) → configOk g ≡ true → intervalOk (g .«max_ivl») ≡ true
+unfolding configOk
+interval-ok g e =
+    let last : Bool = not (isNan (g .«max_cost_perday»)) && intervalOk (g .«max_ivl») in
+    let e₅ : Bool = costsOk (g .«state_rating_costs») && last in
+    let e₄ : Bool = transitionsOk (g .«relearning_step_transitions») && e₅ in
+    let e₃ : Bool = transitionsOk (g .«learning_step_transitions») && e₄ in
+    let e₂ : Bool = weightsOk (threeOf (g .«review_rating_prob»)) && e₃ in
+    let a = both (weightsOk (rowOf (g .«first_rating_prob») 0)) e₂ e in
+    let b = both (weightsOk (threeOf (g .«review_rating_prob»))) e₃ (a .1) in
+    let c = both (transitionsOk (g .«learning_step_transitions»)) e₄ (b .1) in
+    let d = both (transitionsOk (g .«relearning_step_transitions»)) e₅ (c .1) in
+    let f = both (costsOk (g .«state_rating_costs»)) last (d .1) in
+    both (not (isNan (g .«max_cost_perday»))) (intervalOk (g .«max_ivl»)) (f .1) .1
+
+module _ (i : Inputs) (s : State) (ok : Accepted i s) where
+  pub fresh-fair : (x y : Float) → Fair (modelFor i .fresh x y)
+  fresh-fair x y = scheduled-fair (i .parameters) x y (i .config .«max_ivl») (interval-ok (i .config) (ok .config-ok))
+
+  pub fine : LimitsFit (i .config) → Fine (i .config) (cardsOf i s)
+  fine f = record {
+    some = ok .span-some;
+    most = ok .span-most;
+    learns-fit = f .learns;
+    reviews-fit = f .reviews;
+    lapses-fit = f .lapses;
+    few = omega (arith, set-up-few i s ok, ok .deck-most);
+  }
+
+  -- the bound on turns never shows: the run has stopped
+  pub has-stopped : LimitsFit (i .config) → (y : Stop) × (next (i .config) (modelFor i) ((ran (modelFor i) i (setUp i s)) .state) ≡ stops y)
+  unfolding ran
+  has-stopped f = ends (i .config) (modelFor i) (cardsOf i s) (fine f) fresh-fair (setUp i s) (set-up-good i s ok)
+
+  pub few-turns : LimitsFit (i .config) → length (turnsOf i s) ≤ cardsOf i s * suc (i .config .«learn_span»)
+  unfolding ran
+  few-turns f = turns-demand (i .config) (modelFor i) (cardsOf i s) (fine f) fresh-fair _ (setUp i s) (set-up-start i s ok) (set-up-good i s ok) (bound (i .config) (setUp i s)) .few
+
+  pub demand-three : LimitsFit (i .config) → (counts days : List (List ℕ)) → counts ≡ (ran (modelFor i) i (setUp i s)) .state .counts → days ≡ (ran (modelFor i) i (setUp i s)) .state .days → DemandThree i s counts days
+  unfolding ran
+  demand-three f counts days ec ed =
+      let b = bound (i .config) (setUp i s) in
+      record {
+        demand = turns-demand (i .config) (modelFor i) (cardsOf i s) (fine f) fresh-fair _ (setUp i s) (set-up-start i s ok) (set-up-good i s ok) b;
+        rows = rw (ec, ed) (turns-rows (i .config) (modelFor i) (cardsOf i s) (fine f) fresh-fair _ (setUp i s) (set-up-start i s ok) (set-up-good i s ok) b);
+      }
+
+-- ---- the entry point
+module _ (g : SimulatorConfig) (w : List Float) (retention : Float) (seed : ℕ) (es : List (List Float)) (ns : List (List ℕ))
+    (cards : List (List Float)) (counts rows days : List (List ℕ)) (sums : List (List Float)) (due : List ℕ) (keys : List (List ℕ)) (intervals : List Float) where
+  abbrev i : Inputs
+  i = inputs g w retention seed es ns
+
+  abbrev s : State
+  s = state cards counts rows days sums due keys intervals 0 seed
+
+  -- the entry's tests look neither at the seed nor at the draws
+  pub same-check : (c : Check) → c ≡ checked (inputs g w retention 0 es ns) (state cards counts rows days sums due keys intervals 0 0) → c ≡ checked i s
+  unfolding checked
+  same-check c e = e
+
+  pub refused-is : (r : Refusal) → checked i s ≡ check.Failed r → Done (simulated (modelOf g (plain w)) i s) (answer.Refused r (progress 0 0 seed)) cards counts rows days sums due keys intervals
+  unfolding simulated
+  refused-is r e = rw e (record { answer = refl; lists = record { cards-are = refl; counts-are = refl; rows-are = refl; days-are = refl; sums-are = refl; due-are = refl; table-is = refl } })
+
+  pub not-finished : (r : Refusal) (p : Progress) → Finished (answer.Refused r p) → ⊥
+  not-finished r p f = let e = f .1 in let z : _≡_ {A = ℕ} 0 1 = cc in omega arith
+
+  module _ (r : Answer) (c′ : List (List Float)) (n′ r′ d′ : List (List ℕ)) (u′ : List (List Float)) (v′ : List ℕ) (k′ : List (List ℕ)) (t′ : List Float)
+      (e : checked i s ≡ check.Passed) (d : Done (finished (modelOf g (kept (Kept.newOf w))) i (setUp i s)) r c′ n′ r′ d′ u′ v′ k′ t′) where
+    plainly : Done (finished (modelOf g (plain w)) i (setUp i s)) r c′ n′ r′ d′ u′ v′ k′ t′
+    plainly = subst (λ (x : Scalars). Done (finished (modelOf g x) i (setUp i s)) r c′ n′ r′ d′ u′ v′ k′ t′) (kept-is w) d
+
+    pub accepted-is : Done (simulated (modelOf g (plain w)) i s) r c′ n′ r′ d′ u′ v′ k′ t′
+    unfolding simulated
+    accepted-is = rw e plainly
+
+    pub three-is : LimitsFit g → DemandThree i s n′ d′
+    unfolding finished
+    three-is f = demand-three i s (accepted i s e) f n′ d′ (plainly .lists .counts-are) (plainly .lists .days-are)

@@ -1,0 +1,153 @@
+-- What each step's calls leave, put together over plain lists.
+use mathlib.Core.Path.{_≡_, refl, sym, ap, _∙_}
+use mathlib.Core.Bool.{Bool, true, false, true≢false, false≢true}
+use mathlib.Core.List.{List, [], _∷_}
+use mathlib.Core.Logic.{_≢_}
+use native.Mathlib.Omega.{arith}
+use borrow.Author.Tests.{eq-eqb, ne-eqb}
+use types.Run.{OneOf}
+use denote.Enum.Declared.{tagOf}
+use Prim.Native.Nat.{ℕ}
+use lib.Ieee.{Float}
+use Rattle.turns.specs.Turns.{Turn, retire, putOff}
+use Rattle.turns.specs.Run.{Next, takes, stops}
+use Rattle.cards.specs.declared.SimulatorConfig.{SimulatorConfig}
+use Rattle.cards.specs.declared.Card.{Card}
+use Rattle.cards.specs.declared.Choice.{Choice}
+use Rattle.cards.specs.declared.Choice.the-variants as choice
+use Rattle.cards.specs.Day.{dayOf, newOf}
+use Rattle.cards.specs.Cards.{cardAt}
+use Rattle.cards.specs.Choices.{choiceOf}
+use Rattle.days.specs.Counts.{learnedAt, reviewedAt}
+use Rattle.days.specs.Sums.{costAt}
+use Rattle.days.specs.Due.{addDue, noneDue}
+use Rattle.events.proofs.Event as event-type
+use Rattle.events.specs.declared.Memory.{Memory}
+use Rattle.events.specs.declared.Event.{Event}
+use Rattle.events.specs.declared.Event.the-variants as event
+use Rattle.queue.specs.Queue.{queue, front, frontChanged}
+use Rattle.intervals.specs.declared.Slot.{Slot}
+use Rattle.intervals.specs.declared.Slot.the-variants as slot
+use Rattle.intervals.specs.Table.{table}
+use Rattle.intervals.specs.Schedule.{isFull, intervalOf, entered}
+use Rattle.simulation.specs.declared.Outcome.{Outcome}
+use Rattle.simulation.specs.declared.Outcome.the-variants as outcome
+use Rattle.simulation.specs.State.{State, Model, Lists, state, cardIn, keyOf}
+use Rattle.simulation.specs.Turn.{count, full, turnAs, kindAs, eventCard, retired, postponed, handled, slotFor, handleAs, handle, orElse, act, next}
+use Rattle.simulation.specs.Steps.{Turned, PutOff, PutOffStep, RetireStep, DaysWritten, CardWritten}
+
+-- neither variant but the second
+pub not-happened : (e : Event) → OneOf (1 ∷ []) (tagOf event-type.the-type e) → e ≡ event.Chance
+not-happened (event.Happened x) a = absurd (omega (arith, a))
+not-happened event.Chance a = refl
+
+pub put-off-refused : (span c : ℕ) (k : Card) (d len draws : ℕ) (cards : List (List Float)) (rows : List (List ℕ)) (due : List ℕ) (new b : Bool)
+    → new ≡ newOf (k .«last_date») → b ≡ noneDue due new d → b ≡ true
+    → PutOffStep span c k d len draws cards rows due (outcome.DueCount c) cards rows due
+put-off-refused span c k d len draws cards rows due new b en eb t =
+    let x : noneDue due (newOf (k .«last_date»)) d ≡ true = rw (← en) (sym eb ∙ t) in
+    record { refused = λ y. (refl, record { cards-are = refl; rows-are = refl; due-are = refl }); done = λ y. absurd (true≢false (sym x ∙ y)) }
+
+pub put-off-done : (span c : ℕ) (k : Card) (d len draws : ℕ) (cards : List (List Float)) (rows : List (List ℕ)) (due : List ℕ) (new b : Bool) (cards′ : List (List Float)) (rows′ : List (List ℕ)) (due′ : List ℕ)
+    → new ≡ newOf (k .«last_date») → b ≡ noneDue due new d → b ≡ false
+    → PutOff span c k d len cards rows due cards′ rows′ due′
+    → PutOffStep span c k d len draws cards rows due (outcome.Took len draws) cards′ rows′ due′
+put-off-done span c k d len draws cards rows due new b cards′ rows′ due′ en eb t p =
+    let x : noneDue due (newOf (k .«last_date»)) d ≡ false = rw (← en) (sym eb ∙ t) in
+    record { refused = λ y. absurd (true≢false (sym y ∙ x)); done = λ y. (refl, p) }
+
+module _ (g : SimulatorConfig) (m : Model) (r : State) (c : ℕ) (k : Card) (new : Bool) (d : ℕ) (y : Memory) where
+  handle-full : (t : Slot) → isFull t ≡ true → handleAs g m r c k new d y t ≡ stops (full c)
+  handle-full (slot.Keep v) e = absurd (false≢true e)
+  handle-full (slot.Enter p a b v) e = absurd (false≢true e)
+  handle-full slot.Full e = refl
+
+  handle-some : (t : Slot) → isFull t ≡ false → handleAs g m r c k new d y t ≡ takes (turnAs c d (kindAs new y)) (handled g m r c k new d y t)
+  handle-some (slot.Keep v) e = refl
+  handle-some (slot.Enter p a b v) e = refl
+  handle-some slot.Full e = absurd (true≢false e)
+
+module _ (g : SimulatorConfig) (m : Model) (cards : List (List Float)) (counts rows days : List (List ℕ)) (sums : List (List Float)) (due : List ℕ) (keys : List (List ℕ)) (intervals : List Float) (len draws : ℕ) where
+  abbrev st : State
+  st = state cards counts rows days sums due keys intervals len draws
+
+  same : Lists st cards counts rows days sums due keys intervals
+  same = record { cards-are = refl; counts-are = refl; rows-are = refl; days-are = refl; sums-are = refl; due-are = refl; table-is = refl }
+
+  -- ---- an event
+  module _ (c : ℕ) (k : Card) (new : Bool) (d : ℕ) where
+    pub chance-is : (e : Event) → e ≡ m .event k new d draws → e ≡ event.Chance → Turned (handle g m st c k new d) st (outcome.Chance c) cards counts rows days sums due keys intervals
+    unfolding handle
+    chance-is e p q =
+        let x : m .event k new d draws ≡ event.Chance = sym p ∙ q in
+        rw x (record { outcome = refl; lists = same })
+
+    module _ (e : Event) (x : Memory) (p : e ≡ m .event k new d draws) (q : e ≡ event.Happened x) (t : Slot) (z : t ≡ slotFor g m (table keys intervals) (x .stability) (k .«desired_retention»)) where
+      handles : handle g m st c k new d ≡ handleAs g m st c k new d x t
+      unfolding handle
+      handles =
+          let y : m .event k new d draws ≡ event.Happened x = sym p ∙ q in
+          rw (y, z)
+
+      pub full-is : (f : Bool) → f ≡ isFull t → f ≡ true → Turned (handle g m st c k new d) st (outcome.TableFull c) cards counts rows days sums due keys intervals
+      full-is f u y = rw (handles ∙ handle-full g m st c k new d x t (sym u ∙ y)) (record { outcome = refl; lists = same })
+
+      pub handled-is : (f : Bool) → f ≡ isFull t → f ≡ false
+          → (v : Float) → v ≡ intervalOf t
+          → (k′ : Card) → k′ ≡ eventCard k new x d v
+          → (day : ℕ) → day ≡ dayOf (k′ .due)
+          → (cards′ : List (List Float)) (counts′ rows′ days′ : List (List ℕ)) (sums′ : List (List Float)) (due′ : List ℕ) (keys′ : List (List ℕ)) (intervals′ : List Float)
+          → CardWritten c k′ len cards counts rows cards′ counts′ rows′
+          → DaysWritten g m k new d x days sums days′ sums′
+          → due′ ≡ addDue (g .«learn_span») due day
+          → table keys′ intervals′ ≡ entered (table keys intervals) t
+          → Turned (handle g m st c k new d) st (outcome.Took len (x .draws)) cards′ counts′ rows′ days′ sums′ due′ keys′ intervals′
+      unfolding handled
+      handled-is f u y v ev k′ ek day ed cards′ counts′ rows′ days′ sums′ due′ keys′ intervals′ cw dw du tw =
+          let kk : eventCard k new x d (intervalOf t) ≡ k′ = sym (ek ∙ ap (λ (w : Float). eventCard k new x d w) ev) in
+          let q′ : frontChanged (queue rows len) (keyOf k′) ≡ queue rows′ len = sym (cw .queue-is) in
+          rw (handles ∙ handle-some g m st c k new d x t (sym u ∙ y))
+          (rw (kk, q′)
+          (record {
+            outcome = refl;
+            lists = record { cards-are = cw .cards-are; counts-are = cw .counts-are; rows-are = refl; days-are = dw .days-are; sums-are = dw .sums-are; due-are = du ∙ ap (addDue (g .«learn_span») due) ed; table-is = tw };
+          }))
+
+  -- ---- the turn
+  pub ended-is : len ≡ 0 → Turned (next g m st) st outcome.Ended cards counts rows days sums due keys intervals
+  unfolding next
+  ended-is e = rw (eq-eqb len 0 e) (record { outcome = refl; lists = same })
+
+  module _ (ne : len ≢ 0) (c : ℕ) (k : Card) (d l r : ℕ) (x : Float) (ch : Choice) (ec : c ≡ front (queue rows len)) (ek : k ≡ cardAt cards counts c) (ed : d ≡ dayOf (k .due))
+      (el : l ≡ learnedAt days d) (er : r ≡ reviewedAt days d) (ex : x ≡ costAt sums d) (eh : ch ≡ choiceOf g k l r x) where
+    next-is : next g m st ≡ act g m st c k d ch
+    unfolding next
+    next-is = rw (ne-eqb len 0 ne, ← ec, ← ek, ← ed, ← el, ← er, ← ex, ← eh)
+
+    pub retired-is : (o : Outcome) (sums′ : List (List Float)) (rows′ : List (List ℕ)) → ch ≡ choice.Retire → RetireStep g m k len draws sums rows o sums′ rows′
+        → Turned (next g m st) st o cards counts rows′ days sums′ due keys intervals
+    unfolding retired
+    retired-is o sums′ rows′ e p =
+        rw (next-is ∙ ap (act g m st c k d) e)
+        (record { outcome = p .outcome; lists = record { cards-are = refl; counts-are = refl; rows-are = p .rows-are; days-are = refl; sums-are = p .sums-are; due-are = refl; table-is = refl } })
+
+    pub put-off-is : (o : Outcome) (cards′ : List (List Float)) (rows′ : List (List ℕ)) (due′ : List ℕ) → ch ≡ choice.PutOff → PutOffStep (g .«learn_span») c k d len draws cards rows due o cards′ rows′ due′
+        → Turned (next g m st) st o cards′ counts rows′ days sums due′ keys intervals
+    unfolding postponed
+    put-off-is o cards′ rows′ due′ e p = rw (next-is ∙ ap (act g m st c k d) e) (go (noneDue due (newOf (k .«last_date»)) d) refl)
+      where
+        go : (b : Bool) → noneDue due (newOf (k .«last_date»)) d ≡ b
+            → Turned (orElse g m b (stops (count c)) (takes (turnAs c d putOff) (postponed g m st c k d))) st o cards′ counts rows′ days sums due′ keys intervals
+        go true y =
+            let h = p .refused y in
+            record { outcome = h .0; lists = record { cards-are = h .1 .cards-are; counts-are = refl; rows-are = h .1 .rows-are; days-are = refl; sums-are = refl; due-are = h .1 .due-are; table-is = refl } }
+        go false y =
+            let h = p .done y in
+            rw (sym (h .1 .queue-is))
+            (record { outcome = h .0; lists = record { cards-are = h .1 .cards-are; counts-are = refl; rows-are = refl; days-are = refl; sums-are = refl; due-are = h .1 .due-are; table-is = refl } })
+
+    pub event-is : (new : Bool) (o : Outcome) (cards′ : List (List Float)) (counts′ rows′ days′ : List (List ℕ)) (sums′ : List (List Float)) (due′ : List ℕ) (keys′ : List (List ℕ)) (intervals′ : List Float)
+        → act g m st c k d ch ≡ handle g m st c k new d
+        → Turned (handle g m st c k new d) st o cards′ counts′ rows′ days′ sums′ due′ keys′ intervals′
+        → Turned (next g m st) st o cards′ counts′ rows′ days′ sums′ due′ keys′ intervals′
+    event-is new o cards′ counts′ rows′ days′ sums′ due′ keys′ intervals′ e p = rw (next-is ∙ e) p

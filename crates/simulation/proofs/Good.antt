@@ -1,0 +1,251 @@
+-- What the run's state keeps, and that putting off and retiring are steps of the theory and keep it.
+use mathlib.Core.Path.{_≡_, refl, sym, ap, _∙_}
+use mathlib.Core.Bool.{Bool, true, false, _||_, cond}
+use mathlib.Core.List.{List, []}
+use mathlib.Core.Logic.{_≢_}
+use Prim.Native.Nat.{ℕ, _+_, _-_, _*_, _^_, _≤_, _<_, min}
+use native.Mathlib.Decide.{ℕ-discrete}
+use native.Mathlib.Omega.{arith}
+use lib.Dec.{leb}
+use lib.ListN.{getD, set, length, length-set}
+use lib.Seq.{getD-set-same, getD-set-other}
+use lib.IntN.{pos}
+use lib.Ieee.{Float, nan, binary32, ofInt, ofBits, le, toUnsigned}
+use Rattle.turns.specs.Sums.{bit, sumTo}
+use Rattle.turns.specs.Turns.{Turn, Kind, putOff, retire}
+use Rattle.turns.proofs.Sums.{sum-same}
+use Rattle.turns.proofs.Demand.{Step}
+use Rattle.cards.specs.declared.SimulatorConfig.{SimulatorConfig}
+use Rattle.cards.specs.declared.Card.{Card}
+use Rattle.cards.specs.Day.{dayOf, newOf}
+use Rattle.cards.specs.Cards.{noFloats, cardAt, floatsOf, writeFloats}
+use Rattle.cards.specs.Choices.{retires}
+use Rattle.cards.proofs.Later.{day-later, day-in-span, day-bound, Fair, one-fair}
+use Rattle.days.specs.Sums.{costAt, holdFrom}
+use Rattle.days.proofs.Laws.{hold-long, hold-cost}
+use Rattle.queue.specs.Key as key
+use Rattle.queue.specs.Key.{packed, cardPriority, priorityOf}
+use Rattle.queue.specs.Queue.{Queue, front, frontChanged, popped}
+use Rattle.queue.specs.Sound.{queued, Keyed}
+use Rattle.queue.proofs.Keys.{packed-day, priority-in}
+use Rattle.queue.proofs.Laws.{change-queued, pop-other, pop-front, front-queued, keyed-least, queued-named, requeue, unqueue}
+use Rattle.intervals.specs.Table.{Table, places, freeAt, valueAt}
+use Rattle.simulation.specs.State.{State, Model, cardIn, keyOf}
+use Rattle.simulation.specs.Turn.{nextDue, putOffCard, holdCard, postponed, retired, turnAs}
+use Rattle.simulation.specs.Rules.{costs, limits}
+use Rattle.simulation.proofs.Views.{difficultyIn, lastIn, dueIn, dayIn, newIn, keyIn, view, columns}
+
+-- of the configuration and the number of cards, by the entry's refusals and by the types
+pub record Fine (g : SimulatorConfig) (cards : ℕ) : Type 0 where
+  pub some : 0 < g .«learn_span»
+  pub most : g .«learn_span» ≤ 36500
+  pub learns-fit : g .«learn_limit» < 2 ^ 32
+  pub reviews-fit : g .«review_limit» < 2 ^ 32
+  pub lapses-fit : g .«suspend_after_lapses» < 2 ^ 32
+  pub few : cards ≤ 65536
+
+-- of the state: lists long enough, each queued card with its key, days that fit an i32, used intervals of 1 to 36,500, and counts that
+-- stay below the top of a u32
+pub record Good (cards span : ℕ) (s : State) : Type 0 where
+  pub cards-long : cards ≤ length (s .cards)
+  pub counts-long : cards ≤ length (s .counts)
+  pub days-long : span ≤ length (s .days)
+  pub sums-long : span ≤ length (s .sums)
+  pub keyed : Keyed cards (keyIn (s .cards)) (s .queue)
+  pub near : (c : ℕ) → c < cards → dayIn (s .cards) c < 2147483648
+  pub held : (p : ℕ) → p < places (s .table) → freeAt (s .table) p ≡ false → Fair (valueAt (s .table) p)
+  pub rights : (d : ℕ) → d < span → columns .correct s d ≤ columns .reviewed s d
+  pub intro : (d : ℕ) → d < span → columns .introduced s d + sumTo cards (λ c. bit (newIn (s .cards) c)) ≤ cards
+
+bits-same : (b : Bool) → key.bit b ≡ bit b
+bits-same true = refl
+bits-same false = refl
+
+-- keys in order put places in order
+key-place : (d d′ : ℕ) (n n′ : Bool) (x x′ : Float) → d < 2147483648 → d′ < 2147483648 → cardPriority d n x ≤ cardPriority d′ n′ x′ → 2 * d + bit n ≤ 2 * d′ + bit n′
+unfolding cardPriority
+key-place d d′ n n′ x x′ h h′ l =
+    let e : min d (2 ^ 31 - 1) ≡ d = omega arith in
+    let e′ : min d′ (2 ^ 31 - 1) ≡ d′ = omega arith in
+    let p = packed-day (min d (2 ^ 31 - 1)) (min d′ (2 ^ 31 - 1)) n n′ (priorityOf x) (priorityOf x′) (priority-in x) (priority-in x′) l in
+    omega (arith, p, e, e′, bits-same n, bits-same n′)
+
+-- ---- rows of cards after one is written
+module _ (cards : List (List Float)) (c : ℕ) (k : Card) where
+  pub write-long : length (writeFloats cards c k) ≡ length cards
+  unfolding writeFloats
+  write-long = length-set cards c (floatsOf k)
+
+  pub write-own : c < length cards → getD (writeFloats cards c k) c noFloats ≡ floatsOf k
+  unfolding writeFloats
+  write-own h = getD-set-same cards c (floatsOf k) noFloats h
+
+  pub write-else : (x : ℕ) → x ≢ c → getD (writeFloats cards c k) x noFloats ≡ getD cards x noFloats
+  unfolding writeFloats
+  write-else x ne = getD-set-other cards c x (floatsOf k) noFloats ne
+
+  pub else-key : (x : ℕ) → x ≢ c → keyIn (writeFloats cards c k) x ≡ keyIn cards x
+  else-key x ne = rw (write-else x ne)
+
+  pub else-day : (x : ℕ) → x ≢ c → dayIn (writeFloats cards c k) x ≡ dayIn cards x
+  else-day x ne = rw (write-else x ne)
+
+  pub else-new : (x : ℕ) → x ≢ c → newIn (writeFloats cards c k) x ≡ newIn cards x
+  else-new x ne = rw (write-else x ne)
+
+  pub own-day : c < length cards → dayIn (writeFloats cards c k) c ≡ dayOf (k .due)
+  own-day h = rw (write-own h)
+
+  pub own-new : c < length cards → newIn (writeFloats cards c k) c ≡ newOf (k .«last_date»)
+  own-new h = rw (write-own h)
+
+  pub own-key : c < length cards → keyIn (writeFloats cards c k) c ≡ keyOf k
+  own-key h = rw (write-own h)
+
+-- ---- held sums write no cost
+pub hold-card-long : (m : Model) (rows : List (List Float)) (k : Card) (e : ℕ) → length (holdCard m rows k e) ≡ length rows
+unfolding holdCard
+hold-card-long m rows k e = go (newOf (k .«last_date»))
+  where
+    from : ℕ
+    from = toUnsigned 32 (k .«last_date»)
+
+    go : (b : Bool) → length (cond b rows (holdFrom (λ t. m .chance t (k .stability)) rows (e - from) from (k .«last_date»))) ≡ length rows
+    go true = refl
+    go false = hold-long (λ t. m .chance t (k .stability)) rows (e - from) from (k .«last_date»)
+
+pub hold-card-cost : (m : Model) (rows : List (List Float)) (k : Card) (e i : ℕ) → costAt (holdCard m rows k e) i ≡ costAt rows i
+unfolding holdCard
+hold-card-cost m rows k e i = go (newOf (k .«last_date»))
+  where
+    from : ℕ
+    from = toUnsigned 32 (k .«last_date»)
+
+    go : (b : Bool) → costAt (cond b rows (holdFrom (λ t. m .chance t (k .stability)) rows (e - from) from (k .«last_date»))) i ≡ costAt rows i
+    go true = refl
+    go false = hold-cost (λ t. m .chance t (k .stability)) rows (e - from) from (k .«last_date») i
+
+or-left : (a b : Bool) → (a || b) ≡ false → a ≡ false
+or-left true b e = e
+or-left false b e = refl
+
+module _ (g : SimulatorConfig) (m : Model) (cards : ℕ) (fine : Fine g cards) (ts : List (Turn Float)) (s : State) (good : Good cards (g .«learn_span») s) (some : 0 < s .queue .len) where
+  abbrev c : ℕ
+  c = front (s .queue)
+
+  abbrev fs : List (List Float)
+  fs = s .cards
+
+  abbrev k : Card
+  k = cardIn s c
+
+  abbrev d : ℕ
+  d = dayOf (k .due)
+
+  abbrev StepTo : Kind Float → State → Type 0
+  StepTo kind s′ = Step view columns costs (limits g) cards (g .«learn_span») ts s (turnAs c d kind) s′
+
+  pub is-card : c < cards
+  is-card = good .keyed .named 0 some
+
+  pub has-row : c < length fs
+  has-row = omega (arith, is-card, good .cards-long)
+
+  pub first-is : (x : ℕ) → view .queued s x ≡ true → 2 * dayIn fs c + bit (newIn fs c) ≤ 2 * dayIn fs x + bit (newIn fs x)
+  first-is x q =
+      key-place (dayIn fs c) (dayIn fs x) (newIn fs c) (newIn fs x) (difficultyIn fs c) (difficultyIn fs x) (good .near c is-card) (good .near x (queued-card x q))
+      (keyed-least cards (keyIn fs) (s .queue) (good .keyed) some x q)
+    where
+      queued-card : (x : ℕ) → queued (s .queue) x ≡ true → x < cards
+      queued-card = queued-named cards (keyIn fs) (s .queue) (good .keyed)
+
+  pub in-span : retires g k ≡ false → d < g .«learn_span»
+  unfolding retires
+  in-span e = day-in-span (g .«learn_span») (k .due) (fine .some) (fine .most) (or-left (le (ofInt binary32 (pos (g .«learn_span»))) (k .due)) (leb (g .«suspend_after_lapses») (k .lapses)) e)
+
+  -- ---- PUTTING OFF
+  abbrev k′ : Card
+  k′ = putOffCard k d
+
+  abbrev fs′ : List (List Float)
+  fs′ = writeFloats fs c k′
+
+  put-own-day : dayIn fs′ c ≡ dayOf (nextDue d)
+  unfolding putOffCard
+  put-own-day = own-day fs c k′ has-row
+
+  put-own-new : newIn fs′ c ≡ newIn fs c
+  unfolding putOffCard cardAt
+  put-own-new = own-new fs c k′ has-row
+
+  put-new : (x : ℕ) → newIn fs′ x ≡ newIn fs x
+  put-new x = at (ℕ-discrete x c)
+    where
+      at : Dec (x ≡ c) → newIn fs′ x ≡ newIn fs x
+      at (yes e) = rw e put-own-new
+      at (no e) = else-new fs c k′ x e
+
+  pub step-put : retires g k ≡ false → StepTo putOff (postponed g m s c k d)
+  unfolding postponed cardAt
+  step-put e =
+      let h : d < g .«learn_span» = in-span e in
+      record {
+        moves = record {
+          is-card = is-card;
+          is-queued = front-queued (s .queue) some;
+          is-day = refl;
+          does = (put-new c, (h, rw put-own-day (day-later d (ofBits binary32 0x3F80_0000) (omega (arith, fine .most)) (one-fair .least))));
+          others = λ x ne. record { same-day = else-day fs c k′ x ne; same-new = put-new x; same-queued = change-queued (s .queue) (keyOf k′) (good .keyed .sound) x };
+        };
+        least = first-is;
+        writes = record { learns = λ i l. omega arith; reviews = λ i l. omega arith; corrects = λ i l. omega arith; introduces = λ i l. omega arith; lapse = omega arith; other-lapses = λ x ne. refl; pays = λ i l. refl };
+        tests = tt;
+      }
+
+  pub good-put : retires g k ≡ false → Good cards (g .«learn_span») (postponed g m s c k d)
+  unfolding postponed
+  good-put e = record {
+    cards-long = omega (arith, good .cards-long, write-long fs c k′);
+    counts-long = good .counts-long;
+    days-long = good .days-long;
+    sums-long = good .sums-long;
+    keyed = requeue cards (keyIn fs) (s .queue) (good .keyed) (keyIn fs′) (keyOf k′) some (else-key fs c k′) (sym (own-key fs c k′ has-row));
+    near = λ x l. at x l (ℕ-discrete x c);
+    held = good .held;
+    rights = good .rights;
+    intro = λ i l. omega (arith, good .intro i l, sum-same cards (λ x. bit (newIn fs′ x)) (λ x. bit (newIn fs x)) (λ x u. ap bit (put-new x)));
+  }
+    where
+      at : (x : ℕ) → x < cards → Dec (x ≡ c) → dayIn fs′ x < 2147483648
+      at x l (yes q) = let b = day-bound d (ofBits binary32 0x3F80_0000) (omega (arith, in-span e, fine .most)) one-fair in rw (q, put-own-day) (omega arith)
+      at x l (no q) = omega (arith, else-day fs c k′ x q, good .near x l)
+
+  -- ---- RETIRING
+  pub step-retire : StepTo retire (retired g m s k)
+  unfolding retired cardAt
+  step-retire = record {
+    moves = record {
+      is-card = is-card;
+      is-queued = front-queued (s .queue) some;
+      is-day = refl;
+      does = (refl, pop-front (s .queue) (good .keyed .sound));
+      others = λ x ne. record { same-day = refl; same-new = refl; same-queued = pop-other (s .queue) (good .keyed .sound) x ne };
+    };
+    least = first-is;
+    writes = record { learns = λ i l. omega arith; reviews = λ i l. omega arith; corrects = λ i l. omega arith; introduces = λ i l. omega arith; lapse = omega arith; other-lapses = λ x ne. refl; pays = λ i l. hold-card-cost m (s .sums) k (g .«learn_span») i };
+    tests = tt;
+  }
+
+  pub good-retire : Good cards (g .«learn_span») (retired g m s k)
+  unfolding retired
+  good-retire = record {
+    cards-long = good .cards-long;
+    counts-long = good .counts-long;
+    days-long = good .days-long;
+    sums-long = omega (arith, good .sums-long, hold-card-long m (s .sums) k (g .«learn_span»));
+    keyed = unqueue cards (keyIn fs) (s .queue) (good .keyed);
+    near = good .near;
+    held = good .held;
+    rights = good .rights;
+    intro = good .intro;
+  }

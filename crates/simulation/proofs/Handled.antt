@@ -1,0 +1,277 @@
+-- Learnings and reviews are steps of the theory, and keep what the run's state keeps.
+use mathlib.Core.Path.{_≡_, refl, sym, ap, _∙_}
+use mathlib.Core.Bool.{Bool, true, false, not, _&&_, cond}
+use mathlib.Core.List.{List, []}
+use mathlib.Core.Logic.{_≢_}
+use Prim.Native.Nat.{ℕ, suc, _+_, _-_, _*_, _^_, _≤_, _<_}
+use native.Mathlib.Decide.{ℕ-discrete}
+use native.Mathlib.Omega.{arith}
+use lib.Dec.{ltb, eqb}
+use lib.ListN.{getD, set, length, length-set}
+use lib.Seq.{getD-set-same, getD-set-other}
+use lib.IntN.{pos}
+use lib.Ieee.{Float, nan, inf, fin, binary32, add, ofInt, round, lt, eq}
+use lib.Ieee.Exact.{HasValue}
+use lib.Ieee.Back.{round-whole}
+use Rattle.turns.specs.Sums.{bit, sumTo}
+use Rattle.turns.specs.Turns.{Turn, Kind, learn, review}
+use Rattle.turns.proofs.Sums.{sum-same, sum-at, and-le, bit-le}
+use Rattle.turns.proofs.Demand.{Step}
+use Rattle.cards.specs.declared.SimulatorConfig.{SimulatorConfig}
+use Rattle.cards.specs.declared.Card.{Card}
+use Rattle.cards.specs.Day.{dayOf, newOf}
+use Rattle.cards.specs.Cards.{cardAt, noCounts, writeFloats, writeCounts, countsOf}
+use Rattle.cards.proofs.Basics.{getD-any}
+use Rattle.cards.proofs.Later.{day-later, day-bound, Fair}
+use Rattle.days.specs.Counts.{raised, learnedAt, reviewedAt, correctAt, introducedAt, learnOn, reviewOn, introduceFrom, countEvent}
+use Rattle.days.specs.Sums.{costAt, payOn}
+use Rattle.days.proofs.Laws.{raised-is, learn-long, learn-learned, learn-reviewed, learn-correct, learn-introduced, from-long, from-learned, from-reviewed, from-correct, from-introduced, review-long, review-learned, review-reviewed, review-introduced, review-correct, pay-long, pay-cost}
+use Rattle.events.specs.declared.Memory.{Memory}
+use Rattle.queue.specs.Queue.{front, frontChanged}
+use Rattle.queue.specs.Sound.{Keyed}
+use Rattle.queue.proofs.Laws.{change-queued, front-queued, requeue}
+use Rattle.intervals.specs.declared.Slot.{Slot}
+use Rattle.intervals.specs.declared.Slot.the-variants as slot
+use Rattle.intervals.specs.Table.{Table, places, freeAt, valueAt}
+use Rattle.intervals.specs.Schedule.{intervalOf, entered}
+use Rattle.intervals.proofs.Change.{enter-places, value-same, value-other, free-other}
+use Rattle.simulation.specs.State.{State, Model, cardIn, keyOf}
+use Rattle.simulation.specs.Turn.{eventCard, holdCard, handled, turnAs}
+use Rattle.simulation.specs.Rules.{costs, limits}
+use Rattle.simulation.proofs.Views.{dayIn, newIn, keyIn, lapsesIn, view, columns}
+use Rattle.simulation.proofs.Good.{Fine, Good, write-long, else-key, else-day, else-new, own-day, own-new, own-key, hold-card-long, hold-card-cost, is-card, has-row, first-is}
+
+-- a whole number is no minus infinity
+new-of : (x : Float) (n : ℕ) → HasValue x false n 1 → newOf x ≡ false
+unfolding newOf eq
+new-of nan n v = absurd v
+new-of (inf s) n v = absurd v
+new-of (fin s m e) n v = refl
+
+pub new-int : (n : ℕ) → n ≤ 16777216 → newOf (ofInt binary32 (pos n)) ≡ false
+unfolding ofInt
+new-int n h = new-of (round binary32 false n 1) n (round-whole binary32 false n h)
+
+-- ---- lapses after a card is written
+module _ (counts : List (List ℕ)) (c : ℕ) (k : Card) where
+  pub counts-long : length (writeCounts counts c k) ≡ length counts
+  unfolding writeCounts
+  counts-long = length-set counts c (countsOf k)
+
+  own-lapses : c < length counts → lapsesIn (writeCounts counts c k) c ≡ k .lapses
+  unfolding writeCounts
+  own-lapses h = ap (λ (l : List ℕ). getD l 1 0) (getD-set-same counts c (countsOf k) [] h)
+
+  else-lapses : (x : ℕ) → x ≢ c → lapsesIn (writeCounts counts c k) x ≡ lapsesIn counts x
+  unfolding writeCounts
+  else-lapses x ne = ap (λ (l : List ℕ). getD l 1 0) (getD-set-other counts c x (countsOf k) [] ne)
+
+-- a fair interval entered leaves a table of fair intervals
+fair-entered : (t : Table) (x : Slot) → Fair (intervalOf x) → ((p : ℕ) → p < places t → freeAt t p ≡ false → Fair (valueAt t p))
+    → (p : ℕ) → p < places (entered t x) → freeAt (entered t x) p ≡ false → Fair (valueAt (entered t x) p)
+fair-entered t (slot.Keep v) f h p l e = h p l e
+fair-entered t slot.Full f h p l e = h p l e
+fair-entered t (slot.Enter q a b v) f h p l e = go (ℕ-discrete p q)
+  where
+    within : p < places t
+    within = omega (arith, l, enter-places t q a b v)
+
+    go : Dec (p ≡ q) → Fair (valueAt (entered t (slot.Enter q a b v)) p)
+    go (yes x) = rw x (rw (value-same t q a b v (omega (arith, within, x))) f)
+    go (no x) = rw (value-other t q a b v p x) (h p within (sym (free-other t q a b v p x) ∙ e))
+
+module _ (g : SimulatorConfig) (m : Model) (cards : ℕ) (fine : Fine g cards) (ts : List (Turn Float)) (s : State) (good : Good cards (g .«learn_span») s) (some : 0 < s .queue .len)
+    (new : Bool) (x : Memory) (t : Slot) (fair : Fair (intervalOf t)) (h : dayOf (cardIn s (front (s .queue)) .due) < g .«learn_span») where
+  abbrev c : ℕ
+  c = front (s .queue)
+
+  abbrev fs : List (List Float)
+  fs = s .cards
+
+  abbrev rows : List (List ℕ)
+  rows = s .days
+
+  abbrev k : Card
+  k = cardIn s c
+
+  abbrev d : ℕ
+  d = dayOf (k .due)
+
+  abbrev k′ : Card
+  k′ = eventCard k new x d (intervalOf t)
+
+  abbrev fs′ : List (List Float)
+  fs′ = writeFloats fs c k′
+
+  mine : c < cards
+  mine = is-card g m cards fine ts s good some
+
+  row : c < length fs
+  row = has-row g m cards fine ts s good some
+
+  due-day : dayIn fs′ c ≡ dayOf (add binary32 (ofInt binary32 (pos d)) (intervalOf t))
+  unfolding eventCard
+  due-day = own-day fs c k′ row
+
+  dated : newIn fs′ c ≡ false
+  unfolding eventCard
+  dated = own-new fs c k′ row ∙ new-int d (omega (arith, h, fine .most))
+
+  onward : d < dayIn fs′ c
+  onward = rw due-day (day-later d (intervalOf t) (omega (arith, h, fine .most)) (fair .least))
+
+  keyed′ : Keyed cards (keyIn fs′) (frontChanged (s .queue) (keyOf k′))
+  keyed′ = requeue cards (keyIn fs) (s .queue) (good .keyed) (keyIn fs′) (keyOf k′) some (else-key fs c k′) (sym (own-key fs c k′ row))
+
+  near′ : (i : ℕ) → i < cards → dayIn fs′ i < 2147483648
+  near′ i l = at (ℕ-discrete i c)
+    where
+      at : Dec (i ≡ c) → dayIn fs′ i < 2147483648
+      at (yes q) = let b = day-bound d (intervalOf t) (omega (arith, h, fine .most)) fair in rw q (rw due-day (omega arith))
+      at (no q) = omega (arith, else-day fs c k′ i q, good .near i l)
+
+  abbrev sums′ : List (List Float)
+  sums′ = holdCard m (payOn (s .sums) d (x .cost)) k d
+
+  pays : (i : ℕ) → i < g .«learn_span» → costAt sums′ i ≡ cond (eqb d i) (add binary32 (costAt (s .sums) i) (x .cost)) (costAt (s .sums) i)
+  pays i l = hold-card-cost m (payOn (s .sums) d (x .cost)) k d i ∙ pay-cost (s .sums) d i (x .cost) (omega (arith, h, good .sums-long))
+
+  sums-kept : length sums′ ≡ length (s .sums)
+  sums-kept = hold-card-long m (payOn (s .sums) d (x .cost)) k d ∙ pay-long (s .sums) d (x .cost)
+
+  lapses-now : lapsesIn (writeCounts (s .counts) c k′) c ≡ k′ .lapses
+  lapses-now = own-lapses (s .counts) c k′ (omega (arith, mine, good .counts-long))
+
+  lapses-then : k .lapses ≡ lapsesIn (s .counts) c
+  unfolding cardAt
+  lapses-then = ap (λ (l : List ℕ). getD l 1 0) (getD-any (s .counts) c noCounts [] (omega (arith, mine, good .counts-long)))
+
+  -- ---- A LEARNING
+  module _ (en : newIn fs c ≡ true) (is : new ≡ true) (l-ok : learnedAt rows d < g .«learn_limit») (b-ok : not (g .«new_cards_ignore_review_limit») ≡ true → learnedAt rows d + reviewedAt rows d < g .«review_limit»)
+      (c-ok : lt (g .«max_cost_perday») (costAt (s .sums) d) ≡ false) where
+    abbrev rows′ : List (List ℕ)
+    rows′ = introduceFrom (learnOn rows d) (g .«learn_span» - d) d
+
+    learn-row : (i : ℕ) → learnedAt rows′ i ≡ learnedAt rows i + bit (eqb d i)
+    learn-row i = from-learned (learnOn rows d) (g .«learn_span» - d) d i ∙ learn-learned rows d i (omega (arith, h, good .days-long)) (omega (arith, l-ok, fine .learns-fit))
+
+    review-row : (i : ℕ) → reviewedAt rows′ i ≡ reviewedAt rows i
+    review-row i = from-reviewed (learnOn rows d) (g .«learn_span» - d) d i ∙ learn-reviewed rows d i
+
+    correct-row : (i : ℕ) → correctAt rows′ i ≡ correctAt rows i
+    correct-row i = from-correct (learnOn rows d) (g .«learn_span» - d) d i ∙ learn-correct rows d i
+
+    introduced-row : (i : ℕ) → i < g .«learn_span» → introducedAt rows′ i ≡ introducedAt rows i + bit (ltb d (suc i))
+    introduced-row i l =
+        from-introduced (g .«learn_span» - d) d (learnOn rows d) (λ j u v. omega (arith, learn-introduced rows d j, good .intro j (omega (arith, h)), fine .few)) (omega (arith, learn-long rows d, h, good .days-long)) i (omega (arith, h))
+        ∙ ap (λ (n : ℕ). n + bit (ltb d (suc i))) (learn-introduced rows d i)
+
+    same-lapses : lapsesIn (writeCounts (s .counts) c k′) c ≡ lapsesIn (s .counts) c
+    unfolding eventCard
+    same-lapses = lapses-now ∙ rw is lapses-then
+
+    pub step-learn : Step view columns costs (limits g) cards (g .«learn_span») ts s (turnAs c d (learn (x .cost))) (handled g m s c k true d x t)
+    unfolding handled countEvent cardAt
+    step-learn = rw (← is) (record {
+      moves = record {
+        is-card = mine;
+        is-queued = front-queued (s .queue) some;
+        is-day = refl;
+        does = (en, dated, (h, onward));
+        others = λ i ne. record { same-day = else-day fs c k′ i ne; same-new = else-new fs c k′ i ne; same-queued = change-queued (s .queue) (keyOf k′) (good .keyed .sound) i };
+      };
+      least = first-is g m cards fine ts s good some;
+      writes = record {
+        learns = λ i l. learn-row i;
+        reviews = λ i l. omega (arith, review-row i);
+        corrects = λ i l. omega (arith, correct-row i);
+        introduces = introduced-row;
+        lapse = omega (arith, same-lapses);
+        other-lapses = else-lapses (s .counts) c k′;
+        pays = pays;
+      };
+      tests = (l-ok, b-ok, c-ok);
+    })
+
+    fewer : sumTo cards (λ i. bit (newIn fs′ i)) + 1 ≡ sumTo cards (λ i. bit (newIn fs i))
+    fewer = omega (arith, sum-at cards c (λ i. bit (newIn fs i)) (λ i. bit (newIn fs′ i)) mine (λ i ne. ap bit (else-new fs c k′ i ne)), ap bit en, ap bit dated)
+
+    pub good-learn : Good cards (g .«learn_span») (handled g m s c k true d x t)
+    unfolding handled countEvent
+    good-learn = rw (← is) (record {
+      cards-long = omega (arith, good .cards-long, write-long fs c k′);
+      counts-long = omega (arith, good .counts-long, counts-long (s .counts) c k′);
+      days-long = omega (arith, good .days-long, from-long (learnOn rows d) (g .«learn_span» - d) d, learn-long rows d);
+      sums-long = omega (arith, good .sums-long, sums-kept);
+      keyed = keyed′;
+      near = near′;
+      held = fair-entered (s .table) t fair (good .held);
+      rights = λ i l. omega (arith, good .rights i l, review-row i, correct-row i);
+      intro = λ i l. omega (arith, good .intro i l, introduced-row i l, fewer, bit-le (ltb d (suc i)));
+    })
+
+  -- ---- A REVIEW
+  module _ (en : newIn fs c ≡ false) (is : new ≡ false) (r-ok : reviewedAt rows d < g .«review_limit») (c-ok : lt (g .«max_cost_perday») (costAt (s .sums) d) ≡ false) (p-ok : k .lapses < g .«suspend_after_lapses») where
+    abbrev rows″ : List (List ℕ)
+    rows″ = reviewOn rows d (x .recalled)
+
+    in-rows : d < length rows
+    in-rows = omega (arith, h, good .days-long)
+
+    reviewed-row : (i : ℕ) → reviewedAt rows″ i ≡ reviewedAt rows i + bit (eqb d i)
+    reviewed-row i = review-reviewed rows d (x .recalled) i in-rows (omega (arith, r-ok, fine .reviews-fit))
+
+    recalled-row : (i : ℕ) → correctAt rows″ i ≡ correctAt rows i + bit (x .recalled && eqb d i)
+    recalled-row i = review-correct rows d (x .recalled) i in-rows (omega (arith, good .rights d h, r-ok, fine .reviews-fit))
+
+    lapsed : (b : Bool) (n : ℕ) → n < g .«suspend_after_lapses» → cond b n (raised n) ≡ n + bit (not b)
+    lapsed true n l = omega arith
+    lapsed false n l = raised-is n (omega (arith, fine .lapses-fit))
+
+    more-lapses : lapsesIn (writeCounts (s .counts) c k′) c ≡ lapsesIn (s .counts) c + bit (not (x .recalled))
+    unfolding eventCard
+    more-lapses = lapses-now ∙ rw is (lapsed (x .recalled) (k .lapses) p-ok ∙ ap (λ (n : ℕ). n + bit (not (x .recalled))) lapses-then)
+
+    pub step-review : Step view columns costs (limits g) cards (g .«learn_span») ts s (turnAs c d (review (x .recalled) (x .cost))) (handled g m s c k false d x t)
+    unfolding handled countEvent cardAt
+    step-review = rw (← is) (record {
+      moves = record {
+        is-card = mine;
+        is-queued = front-queued (s .queue) some;
+        is-day = refl;
+        does = (en, dated, (h, onward));
+        others = λ i ne. record { same-day = else-day fs c k′ i ne; same-new = else-new fs c k′ i ne; same-queued = change-queued (s .queue) (keyOf k′) (good .keyed .sound) i };
+      };
+      least = first-is g m cards fine ts s good some;
+      writes = record {
+        learns = λ i l. omega (arith, review-learned rows d (x .recalled) i);
+        reviews = λ i l. reviewed-row i;
+        corrects = λ i l. recalled-row i;
+        introduces = λ i l. omega (arith, review-introduced rows d (x .recalled) i);
+        lapse = more-lapses;
+        other-lapses = else-lapses (s .counts) c k′;
+        pays = pays;
+      };
+      tests = (r-ok, c-ok);
+    })
+
+    all-new : (i : ℕ) → newIn fs′ i ≡ newIn fs i
+    all-new i = at (ℕ-discrete i c)
+      where
+        at : Dec (i ≡ c) → newIn fs′ i ≡ newIn fs i
+        at (yes q) = rw q (dated ∙ sym en)
+        at (no q) = else-new fs c k′ i q
+
+    pub good-review : Good cards (g .«learn_span») (handled g m s c k false d x t)
+    unfolding handled countEvent
+    good-review = rw (← is) (record {
+      cards-long = omega (arith, good .cards-long, write-long fs c k′);
+      counts-long = omega (arith, good .counts-long, counts-long (s .counts) c k′);
+      days-long = omega (arith, good .days-long, review-long rows d (x .recalled));
+      sums-long = omega (arith, good .sums-long, sums-kept);
+      keyed = keyed′;
+      near = near′;
+      held = fair-entered (s .table) t fair (good .held);
+      rights = λ i l. omega (arith, good .rights i l, reviewed-row i, recalled-row i, and-le (x .recalled) (eqb d i));
+      intro = λ i l. omega (arith, good .intro i l, review-introduced rows d (x .recalled) i, sum-same cards (λ j. bit (newIn fs′ j)) (λ j. bit (newIn fs j)) (λ j u. ap bit (all-new j)));
+    })

@@ -1,0 +1,13 @@
+pub mod Views
+pub mod Good
+pub mod Handled
+pub mod Lawful
+pub mod First
+pub mod Accepted
+pub mod Joining
+pub mod Longer
+pub mod Glue
+pub mod Turning
+pub mod Dealing
+pub mod Starting
+pub mod Claims

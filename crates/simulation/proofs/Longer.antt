@@ -1,0 +1,123 @@
+-- A run that ends Ok is followed, turn by turn, by one that differs in its interval table alone, where that is as long or longer.
+use mathlib.Core.Path.{_≡_, refl, sym, ap, _∙_, subst}
+use native.Mathlib.Omega.{arith}
+use mathlib.Core.Bool.{Bool, true, false, true≢false, false≢true}
+use mathlib.Core.List.{List, []}
+use Prim.Native.Nat.{ℕ, _≤_}
+use lib.Dec.{eqb}
+use lib.Ieee.{Float}
+use Rattle.turns.specs.Turns.{Turn, putOff, retire}
+use Rattle.turns.specs.Run.{Next, takes, stops, Reached, run}
+use Rattle.turns.proofs.Loop.{Follows, Same, run-follows}
+use Rattle.cards.specs.declared.SimulatorConfig.{SimulatorConfig}
+use Rattle.cards.specs.declared.Card.{Card}
+use Rattle.cards.specs.declared.Choice.{Choice}
+use Rattle.cards.specs.declared.Choice.the-variants as choice
+use Rattle.cards.specs.Day.{dayOf, newOf}
+use Rattle.cards.specs.Choices.{choiceOf}
+use Rattle.days.specs.Counts.{learnedAt, reviewedAt}
+use Rattle.days.specs.Sums.{costAt}
+use Rattle.days.specs.Due.{noneDue}
+use Rattle.cards.proofs.Later.{Fair, fair-used}
+use Rattle.events.specs.declared.Memory.{Memory}
+use Rattle.events.specs.declared.Event.{Event}
+use Rattle.events.specs.declared.Event.the-variants as event
+use Rattle.queue.specs.Queue.{front}
+use Rattle.intervals.specs.declared.Slot.{Slot}
+use Rattle.intervals.specs.declared.Slot.the-variants as slot
+use Rattle.intervals.specs.Bucket.{stabilityBucket, retentionBucket}
+use Rattle.intervals.specs.Table.{Table}
+use Rattle.intervals.specs.Schedule.{isFull, intervalOf, entered}
+use Rattle.intervals.proofs.Laws.{Twin}
+use Rattle.intervals.proofs.Schedule.{twin-slot}
+use Rattle.simulation.specs.State.{State, Model, cardIn}
+use Rattle.simulation.specs.Turn.{Stop, ended, chance, full, count, turnAs, kindAs, eventCard, retired, postponed, handled, slotFor, handleAs, eventAs, handle, orElse, act, turnOf, next}
+
+-- a state with another table
+abbrev pub withTable : State → Table → State
+withTable s t = record { cards = s .cards; counts = s .counts; queue = s .queue; days = s .days; sums = s .sums; due = s .due; table = t; draws = s .draws }
+
+-- the same state but for the table, which holds the same and is as long or longer
+pub record Alike (s s′ : State) : Type 0 where
+  pub same : s′ ≡ withTable s (s′ .table)
+  pub twin : Twin (s .table) (s′ .table)
+
+abbrev pub IsEnd : Stop → Type 0
+IsEnd x = x ≡ ended
+
+module _ (g : SimulatorConfig) (m : Model) (fresh-law : (x y : Float) → Fair (m .fresh x y)) where
+  abbrev Follow : Next (Turn Float) State Stop → Next (Turn Float) State Stop → Type 0
+  Follow = Follows Alike IsEnd
+
+  module _ (s : State) (t : Table) (w : Twin (s .table) t) where
+    abbrev s′ : State
+    s′ = withTable s t
+
+    handle-some : (r : State) (c : ℕ) (k : Card) (new : Bool) (d : ℕ) (y : Memory) (x : Slot) → isFull x ≡ false → handleAs g m r c k new d y x ≡ takes (turnAs c d (kindAs new y)) (handled g m r c k new d y x)
+    handle-some r c k new d y (slot.Keep v) e = refl
+    handle-some r c k new d y (slot.Enter p a b v) e = refl
+    handle-some r c k new d y slot.Full e = absurd (true≢false e)
+
+    -- the same interval from two slots, one for each table
+    handled-alike : (c : ℕ) (k : Card) (new : Bool) (d : ℕ) (y : Memory) (x x′ : Slot) → intervalOf x ≡ intervalOf x′ → Twin (entered (s .table) x) (entered t x′) → Alike (handled g m s c k new d y x) (handled g m s′ c k new d y x′)
+    unfolding handled
+    handled-alike c k new d y x x′ q tw = record { same = rw q; twin = tw }
+
+    slots-follow : (c : ℕ) (k : Card) (new : Bool) (d : ℕ) (y : Memory) (x x′ : Slot) (b : Bool) → isFull x ≡ b
+        → (isFull x ≡ false → (intervalOf x ≡ intervalOf x′) × (isFull x′ ≡ false) × Twin (entered (s .table) x) (entered t x′))
+        → Follow (handleAs g m s c k new d y x) (handleAs g m s′ c k new d y x′)
+    slots-follow c k new d y slot.Full x′ true e h = λ z. let o : _≡_ {A = ℕ} 0 1 = cc in absurd (none o)
+      where
+        none : _≡_ {A = ℕ} 0 1 → ⊥
+        none o = omega arith
+    slots-follow c k new d y x x′ false e h =
+        let q = h e in
+        rw (handle-some s c k new d y x e, handle-some s′ c k new d y x′ (q .1)) (refl, handled-alike c k new d y x x′ (q .0) (q .2))
+    slots-follow c k new d y (slot.Keep v) x′ true e h = absurd (false≢true e)
+    slots-follow c k new d y (slot.Enter p a b v) x′ true e h = absurd (false≢true e)
+
+    event-follows : (c : ℕ) (k : Card) (new : Bool) (d : ℕ) → Follow (handle g m s c k new d) (handle g m s′ c k new d)
+    unfolding handle
+    event-follows c k new d = go (m .event k new d (s .draws))
+      where
+        go : (e : Event) → Follow (eventAs g m s c k new d e) (eventAs g m s′ c k new d e)
+        go event.Chance = λ z. refl
+        go (event.Happened y) =
+            let r = k .«desired_retention» in
+            slots-follow c k new d y (slotFor g m (s .table) (y .stability) r) (slotFor g m t (y .stability) r) (isFull (slotFor g m (s .table) (y .stability) r)) refl
+            (twin-slot (s .table) t w (stabilityBucket (y .stability)) (retentionBucket r) (m .certified (y .stability) r) (m .fresh (y .stability) r) (fair-used (m .fresh (y .stability) r) (fresh-law (y .stability) r)))
+
+    act-follows : (c : ℕ) (k : Card) (d : ℕ) (x : Choice) → Follow (act g m s c k d x) (act g m s′ c k d x)
+    unfolding retired postponed
+    act-follows c k d choice.Retire = (refl, record { same = refl; twin = w })
+    act-follows c k d choice.PutOff = go (noneDue (s .due) (newOf (k .«last_date»)) d)
+      where
+        go : (b : Bool) → Follow (orElse g m b (stops (count c)) (takes (turnAs c d putOff) (postponed g m s c k d))) (orElse g m b (stops (count c)) (takes (turnAs c d putOff) (postponed g m s′ c k d)))
+        go true = λ z. refl
+        go false = (refl, record { same = refl; twin = w })
+    act-follows c k d choice.Learn = event-follows c k true d
+    act-follows c k d choice.Review = event-follows c k false d
+
+    turn-follows : Follow (next g m s) (next g m s′)
+    unfolding next
+    turn-follows = go (eqb (s .queue .len) 0)
+      where
+        c : ℕ
+        c = front (s .queue)
+
+        k : Card
+        k = cardIn s c
+
+        d : ℕ
+        d = dayOf (k .due)
+
+        go : (b : Bool) → Follow (orElse g m b (stops ended) (turnOf g m s c k d)) (orElse g m b (stops ended) (turnOf g m s′ c k d))
+        go true = λ z. refl
+        go false = act-follows c k d (choiceOf g k (learnedAt (s .days) d) (reviewedAt (s .days) d) (costAt (s .sums) d))
+
+  follows : (s s′ : State) → Alike s s′ → Follow (next g m s) (next g m s′)
+  follows s s′ a = rw (a .same) (turn-follows s (s′ .table) (a .twin))
+
+  -- THE LONGER TABLE: the same turns, and states that differ in the table alone
+  pub run-longer : (n : ℕ) (s s′ : State) → Alike s s′ → next g m ((run (next g m) n [] s) .state) ≡ stops ended → Same Alike (next g m) (run (next g m) n [] s) (run (next g m) n [] s′) ended
+  run-longer n s s′ a e = run-follows Alike IsEnd (next g m) follows n [] [] refl s s′ a ended refl e

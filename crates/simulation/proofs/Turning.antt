@@ -1,0 +1,135 @@
+-- The loop over turns follows the definition: after k turns the lists are the state of `run k`, and what is left of the run stops as the whole.
+use mathlib.Core.Path.{_≡_, refl, sym, ap, _∙_, subst}
+use mathlib.Core.List.{List, [], _∷_}
+use mathlib.Core.Logic.{⊎-elim}
+use Prim.Native.Nat.{ℕ, suc, _+_, _-_, _≤_, _<_}
+use native.Mathlib.Omega.{arith}
+use types.Run.{OneOf}
+use denote.Enum.Declared.{tagOf}
+use lib.ListN.{length}
+use lib.Ieee.{Float}
+use Rattle.turns.specs.Turns.{Turn}
+use Rattle.turns.specs.Run.{Next, takes, stops, Reached, run, stopOf}
+use Rattle.turns.proofs.Loop.{run-one-more, run-enough, stop-takes, stop-stops}
+use Rattle.simulation.proofs.Outcome as outcome-type
+use Rattle.cards.specs.declared.SimulatorConfig.{SimulatorConfig}
+use Rattle.simulation.specs.declared.Outcome.{Outcome}
+use Rattle.simulation.specs.declared.Outcome.the-variants as outcome
+use Rattle.simulation.specs.State.{State, Model, Lists, state}
+use Rattle.simulation.specs.Turn.{Stop, ended, chance, full, count, next}
+use Rattle.simulation.specs.Steps.{stoppedBy, Turned, Ran}
+
+-- the lists of a state, and the state of lists
+pub state-is : (s : State) (cards : List (List Float)) (counts rows days : List (List ℕ)) (sums : List (List Float)) (due : List ℕ) (keys : List (List ℕ)) (intervals : List Float) (n r : ℕ)
+    → Lists s cards counts rows days sums due keys intervals → n ≡ s .queue .len → r ≡ s .draws → state cards counts rows days sums due keys intervals n r ≡ s
+state-is s cards counts rows days sums due keys intervals n r l en er = rw (l .cards-are, l .counts-are, l .rows-are, l .days-are, l .sums-are, l .due-are, l .table-is, en, er)
+
+pub lists-of : (s : State) (cards : List (List Float)) (counts rows days : List (List ℕ)) (sums : List (List Float)) (due : List ℕ) (keys : List (List ℕ)) (intervals : List Float) (n r : ℕ)
+    → state cards counts rows days sums due keys intervals n r ≡ s → Lists s cards counts rows days sums due keys intervals
+lists-of s cards counts rows days sums due keys intervals n r e =
+    subst (λ (z : State). Lists z cards counts rows days sums due keys intervals) e
+    (record { cards-are = refl; counts-are = refl; rows-are = refl; days-are = refl; sums-are = refl; due-are = refl; table-is = refl })
+
+-- a stop is no turn taken
+stop-took : (x : Stop) (n r : ℕ) → stoppedBy x ≡ outcome.Took n r → ⊥
+stop-took ended n r e = let z : _≡_ {A = ℕ} 0 1 = cc in omega arith
+stop-took (chance c) n r e = let z : _≡_ {A = ℕ} 0 1 = cc in omega arith
+stop-took (full c) n r e = let z : _≡_ {A = ℕ} 0 1 = cc in omega arith
+stop-took (count c) n r e = let z : _≡_ {A = ℕ} 0 1 = cc in omega arith
+
+took-tag : (o : Outcome) (n r : ℕ) → OneOf (1 ∷ 2 ∷ 3 ∷ 4 ∷ []) (tagOf outcome-type.the-type o) → o ≡ outcome.Took n r → ⊥
+took-tag (outcome.Took a b) n r t e = ⊎-elim (λ x. omega arith) (⊎-elim (λ x. omega arith) (⊎-elim (λ x. omega arith) (λ x. omega arith))) t
+took-tag outcome.Ended n r t e = let z : _≡_ {A = ℕ} 0 1 = cc in omega arith
+took-tag (outcome.Chance c) n r t e = let z : _≡_ {A = ℕ} 0 1 = cc in omega arith
+took-tag (outcome.TableFull c) n r t e = let z : _≡_ {A = ℕ} 0 1 = cc in omega arith
+took-tag (outcome.DueCount c) n r t e = let z : _≡_ {A = ℕ} 0 1 = cc in omega arith
+
+took-both : (a b n r : ℕ) → outcome.Took n r ≡ outcome.Took a b → (n ≡ a) × (r ≡ b)
+took-both a b n r e = (cc, cc)
+
+module _ (g : SimulatorConfig) (m : Model) (s₀ : State) (bound : ℕ) where
+  abbrev after : ℕ → Reached (Turn Float) State
+  after k = run (next g m) k [] s₀
+
+  -- after k turns
+  pub record Going (cards : List (List Float)) (counts rows days : List (List ℕ)) (sums : List (List Float)) (due : List ℕ) (keys : List (List ℕ)) (intervals : List Float) (n draws k : ℕ) : Type 0 where
+    pub at : state cards counts rows days sums due keys intervals n draws ≡ (after k) .state
+    pub many : length ((after k) .turns) ≡ k
+    pub within : k ≤ bound
+    pub left : stopOf (next g m) ended (bound - k) (state cards counts rows days sums due keys intervals n draws) ≡ stopOf (next g m) ended bound s₀
+
+  module _ (cards : List (List Float)) (counts rows days : List (List ℕ)) (sums : List (List Float)) (due : List ℕ) (keys : List (List ℕ)) (intervals : List Float) (n draws k : ℕ) (i : Going cards counts rows days sums due keys intervals n draws k)
+      (o : Outcome) (cards′ : List (List Float)) (counts′ rows′ days′ : List (List ℕ)) (sums′ : List (List Float)) (due′ : List ℕ) (keys′ : List (List ℕ)) (intervals′ : List Float)
+      (p : Turned (next g m (state cards counts rows days sums due keys intervals n draws)) (state cards counts rows days sums due keys intervals n draws) o cards′ counts′ rows′ days′ sums′ due′ keys′ intervals′) (l : k < bound) where
+    abbrev st : State
+    st = state cards counts rows days sums due keys intervals n draws
+
+    one-left : bound - k ≡ suc (bound - (k + 1))
+    one-left = omega arith
+
+    pub going-on : (n′ r : ℕ) → o ≡ outcome.Took n′ r → Going cards′ counts′ rows′ days′ sums′ due′ keys′ intervals′ n′ r (k + 1)
+    going-on n′ r e = go (next g m st) refl p
+      where
+        go : (x : Next (Turn Float) State Stop) → next g m st ≡ x → Turned x st o cards′ counts′ rows′ days′ sums′ due′ keys′ intervals′ → Going cards′ counts′ rows′ days′ sums′ due′ keys′ intervals′ n′ r (k + 1)
+        go (stops x) q h = absurd (stop-took x n′ r (sym (h .outcome) ∙ e))
+        go (takes t s′) q h =
+            let u = took-both (s′ .queue .len) (s′ .draws) n′ r (sym e ∙ h .outcome) in
+            let q′ : next g m ((after k) .state) ≡ takes t s′ = rw (← i .at) q in
+            let one : after (k + 1) ≡ record { turns = t ∷ (after k) .turns; state = s′ } = run-one-more (next g m) k [] s₀ t s′ q′ in
+            let now : state cards′ counts′ rows′ days′ sums′ due′ keys′ intervals′ n′ r ≡ s′ = state-is s′ cards′ counts′ rows′ days′ sums′ due′ keys′ intervals′ n′ r (h .lists) (u .0) (u .1) in
+            record {
+              at = now ∙ sym (ap (λ (z : Reached (Turn Float) State). z .state) one);
+              many = ap (λ (z : Reached (Turn Float) State). length (z .turns)) one ∙ omega (arith, i .many);
+              within = omega arith;
+              left = ap (λ (z : State). stopOf (next g m) ended (bound - (k + 1)) z) now ∙ sym (stop-takes (next g m) ended (bound - (k + 1)) st t s′ q) ∙ sym (ap (λ (z : ℕ). stopOf (next g m) ended z st) one-left) ∙ i .left;
+            }
+
+    pub going-stops : OneOf (1 ∷ 2 ∷ 3 ∷ 4 ∷ []) (tagOf outcome-type.the-type o)
+        → Ran g m s₀ bound (record { outcome = o; turns = k; draws = draws }) cards′ counts′ rows′ days′ sums′ due′ keys′ intervals′
+    going-stops t = go (next g m st) refl p
+      where
+        go : (x : Next (Turn Float) State Stop) → next g m st ≡ x → Turned x st o cards′ counts′ rows′ days′ sums′ due′ keys′ intervals′
+            → Ran g m s₀ bound (record { outcome = o; turns = k; draws = draws }) cards′ counts′ rows′ days′ sums′ due′ keys′ intervals′
+        go (takes u s′) q h = absurd (took-tag o (s′ .queue .len) (s′ .draws) t (h .outcome))
+        go (stops x) q h =
+            let q′ : next g m ((after k) .state) ≡ stops x = rw (← i .at) q in
+            let one : after bound ≡ after k = run-enough (next g m) k bound [] s₀ x (i .within) q′ in
+            let s : st ≡ (after bound) .state = i .at ∙ sym (ap (λ (z : Reached (Turn Float) State). z .state) one) in
+            let y : stopOf (next g m) ended bound s₀ ≡ x = sym (i .left) ∙ ap (λ (z : ℕ). stopOf (next g m) ended z st) one-left ∙ stop-stops (next g m) ended (bound - (k + 1)) st x q in
+            record {
+              outcome = h .outcome ∙ ap stoppedBy (sym y);
+              turns = sym (ap (λ (z : Reached (Turn Float) State). length (z .turns)) one ∙ i .many);
+              draws = ap (λ (z : State). z .draws) s;
+              lists = subst (λ (z : State). Lists z cards′ counts′ rows′ days′ sums′ due′ keys′ intervals′) s (h .lists);
+            }
+
+  pub going-spent : (cards : List (List Float)) (counts rows days : List (List ℕ)) (sums : List (List Float)) (due : List ℕ) (keys : List (List ℕ)) (intervals : List Float) (n draws k : ℕ) → Going cards counts rows days sums due keys intervals n draws k → bound ≤ k
+      → Ran g m s₀ bound (record { outcome = outcome.Ended; turns = k; draws = draws }) cards counts rows days sums due keys intervals
+  going-spent cards counts rows days sums due keys intervals n draws k i l =
+      let e : k ≡ bound = omega (arith, i .within) in
+      let none : bound - k ≡ 0 = omega arith in
+      let st : State = state cards counts rows days sums due keys intervals n draws in
+      let s : st ≡ (after bound) .state = i .at ∙ ap (λ (z : ℕ). (after z) .state) e in
+      record {
+        outcome = ap stoppedBy (sym (ap (λ (z : ℕ). stopOf (next g m) ended z st) none) ∙ i .left);
+        turns = sym (i .many) ∙ ap (λ (z : ℕ). length ((after z) .turns)) e;
+        draws = ap (λ (z : State). z .draws) s;
+        lists = lists-of ((after bound) .state) cards counts rows days sums due keys intervals n draws s;
+      }
+
+pub going-start : (g : SimulatorConfig) (m : Model) (bound : ℕ) (cards : List (List Float)) (counts rows days : List (List ℕ)) (sums : List (List Float)) (due : List ℕ) (keys : List (List ℕ)) (intervals : List Float) (n draws : ℕ)
+    → Going g m (state cards counts rows days sums due keys intervals n draws) bound cards counts rows days sums due keys intervals n draws 0
+going-start g m bound cards counts rows days sums due keys intervals n draws =
+    let e : bound - 0 ≡ bound = omega arith in
+    record { at = refl; many = refl; within = omega arith; left = ap (λ (z : ℕ). stopOf (next g m) ended z (state cards counts rows days sums due keys intervals n draws)) e }
+
+-- the lists keep their lengths
+pub record Long (cards : List (List Float)) (counts rows days : List (List ℕ)) (sums : List (List Float)) (due : List ℕ) (keys : List (List ℕ)) (intervals : List Float) (cards′ : List (List Float)) (counts′ rows′ days′ : List (List ℕ)) (sums′ : List (List Float)) (due′ : List ℕ) (keys′ : List (List ℕ)) (intervals′ : List Float) : Type 0 where
+  pub k0 : length cards′ ≡ length cards
+  pub k1 : length counts′ ≡ length counts
+  pub k2 : length rows′ ≡ length rows
+  pub k3 : length days′ ≡ length days
+  pub k4 : length sums′ ≡ length sums
+  pub k5 : length due′ ≡ length due
+  pub k6 : length keys′ ≡ length keys
+  pub k7 : length intervals′ ≡ length intervals

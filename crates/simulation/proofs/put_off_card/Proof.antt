@@ -1,0 +1,15 @@
+-- `simulation::put_off_card` meets its contract.
+use Rattle.simulation.specs.Turn.{putOffCard}
+use borrow.Author.Needs.{needs}
+use Rattle.simulation.proofs.put_off_card.Statement.{statement}
+use Rattle.simulation.proofs.put_off_card.Tie as tie
+
+nearest-u32-to-f32-requires : tie.Need-nearest-u32-to-f32-requires
+nearest-u32-to-f32-requires c κs = search needs
+
+returns : tie.Need-returns
+unfolding putOffCard
+returns c = rw (c .nearest-u32-to-f32 .ensures)
+
+pub put-off-card-spec : {M : Type 1} → statement M
+put-off-card-spec = tie.close (tie.spec nearest-u32-to-f32-requires returns)

@@ -1,0 +1,52 @@
+-- DEMAND 3 of a run that ends Ok: the daily rules of its whole list of turns, and its rows. Definitions only.
+use Prim.Native.Nat.{ℕ, _^_, _<_}
+use mathlib.Core.Path.{_≡_}
+use mathlib.Core.List.{List, []}
+use lib.ListN.{length, getD}
+use lib.Ieee.{Float}
+use Rattle.turns.specs.Sums.{sumTo}
+use Rattle.turns.specs.Turns.{Turn, Demand, Rows}
+use Rattle.cards.specs.declared.SimulatorConfig.{SimulatorConfig}
+use Rattle.days.specs.Counts.{learnedAt, reviewedAt, correctAt, introducedAt}
+use Rattle.events.specs.Scalars.{plain}
+use Rattle.simulation.specs.declared.Progress.{Progress}
+use Rattle.simulation.specs.declared.Answer.{Answer}
+use Rattle.simulation.specs.declared.Answer.the-variants as answer
+use Rattle.simulation.specs.State.{State, Model}
+use Rattle.simulation.specs.Model.{modelOf}
+use Rattle.simulation.specs.Rules.{costs, limits}
+use Rattle.simulation.specs.Entry.{Inputs}
+use Rattle.simulation.specs.SetUp.{known, setUp}
+use Rattle.simulation.specs.Simulate.{ran}
+
+-- the run ended Ok
+abbrev pub Finished : Answer → Type 0
+Finished r = (p : Progress) × (r ≡ answer.Finished p)
+
+-- the model of a run's inputs: FSRS-7 by their parameters
+abbrev pub modelFor : Inputs → Model
+modelFor i = modelOf (i .config) (plain (i .parameters))
+
+-- a run's cards, and its turns, latest first
+abbrev pub cardsOf : Inputs → State → ℕ
+cardsOf i s = setUp i s .queue .len
+
+abbrev pub turnsOf : Inputs → State → List (Turn Float)
+turnsOf i s = (ran (modelFor i) i (setUp i s)) .turns
+
+-- the lapses of card c
+abbrev pub lapsesAt : List (List ℕ) → ℕ → ℕ
+lapsesAt counts c = getD (getD counts c []) 1 0
+
+pub record DemandThree (i : Inputs) (s : State) (counts days : List (List ℕ)) : Type 0 where
+  pub demand : Demand (cardsOf i s) (i .config .«learn_span») costs (limits (i .config)) (turnsOf i s)
+  pub rows :
+      Rows (i .config .«learn_span») (known (i .existing) (i .existing-counts) (length (i .existing)))
+      (sumTo (cardsOf i s) (lapsesAt (setUp i s .counts))) (sumTo (cardsOf i s) (lapsesAt counts))
+      (learnedAt days) (reviewedAt days) (correctAt days) (introducedAt days) (turnsOf i s)
+
+-- limits are u32
+pub record LimitsFit (g : SimulatorConfig) : Type 0 where
+  pub learns : g .«learn_limit» < 2 ^ 32
+  pub reviews : g .«review_limit» < 2 ^ 32
+  pub lapses : g .«suspend_after_lapses» < 2 ^ 32

@@ -1,0 +1,85 @@
+-- The entry's tests, in document 01's order. Definitions only.
+use Prim.Native.Nat.{ℕ, zero, suc, _+_, _/_}
+use mathlib.Core.Bool.{Bool, true, false, not, _&&_, _||_, cond}
+use mathlib.Core.List.{List}
+use lib.Dec.{eqb, leb, ltb}
+use lib.ListN.{length, getD}
+use lib.Ieee.{Float, nan}
+use Rattle.float32.specs.Float32.{isFinite}
+use Rattle.cards.specs.declared.SimulatorConfig.{SimulatorConfig}
+use Rattle.cards.specs.Cards.{cardAt, isKept, cardOk}
+use Rattle.cards.specs.Config.{configOk}
+use Rattle.days.specs.Due.{dueDays}
+use Rattle.simulation.specs.declared.Refusal.{Refusal}
+use Rattle.simulation.specs.declared.Refusal.the-variants as refusal
+use Rattle.simulation.specs.declared.Check.{Check}
+use Rattle.simulation.specs.declared.Check.the-variants as check
+use Rattle.simulation.specs.State.{State}
+
+-- What a run is given besides the lists that it writes
+pub record Inputs : Type 0 where
+  pub config : SimulatorConfig
+  pub parameters : List Float
+  pub retention : Float
+  pub seed : ℕ
+  pub existing : List (List Float)
+  pub existing-counts : List (List ℕ)
+
+abbrev pub inputs : SimulatorConfig → List Float → Float → ℕ → List (List Float) → List (List ℕ) → Inputs
+inputs config w retention seed existing counts = record { config = config; parameters = w; retention = retention; seed = seed; existing = existing; existing-counts = counts }
+
+-- the first of the n numbers from i on that passes the test p, or i + n
+unfoldable pub firstWhere : (ℕ → Bool) → ℕ → ℕ → ℕ
+firstWhere p zero i = i
+firstWhere p (suc n) i = let rest = firstWhere p n (i + 1) in cond (p i) i rest
+
+-- parameter i is not finite
+abbrev pub notFinite : List Float → ℕ → Bool
+notFinite w i = not (isFinite (getD w i nan))
+
+-- existing card i is kept and not as refusal 5 asks
+abbrev pub notOk : List (List Float) → List (List ℕ) → ℕ → Bool
+notOk cards counts i = isKept (cardAt cards counts i) && not (cardOk (cardAt cards counts i))
+
+abbrev pub failIf : Bool → Refusal → Check → Check
+failIf true r next = check.Failed r
+failIf false r next = next
+
+-- 1: too few parameters, or one that is not finite
+unfoldable pub checkParameters : List Float → Check → Check
+checkParameters w next =
+    failIf (ltb (length w) 34) (refusal.Parameters 34)
+    (let i = firstWhere (notFinite w) 34 0 in failIf (ltb i 34) (refusal.Parameters i) next)
+
+-- 6: lists that belong together are as long as each other, and written lists are long enough
+unfoldable pub lengthsOk : ℕ → ℕ → ℕ → ℕ → ℕ → ℕ → ℕ → ℕ → ℕ → ℕ → ℕ → ℕ → Bool
+lengthsOk deck span existing existing-counts keys intervals cards counts queue days sums due =
+    eqb existing existing-counts
+    && (eqb keys intervals
+    && (leb deck cards
+    && (leb deck counts
+    && (leb deck queue
+    && (leb span days
+    && (leb span sums
+    && leb (dueDays span) due))))))
+
+abbrev pub listsOk : Inputs → State → Bool
+listsOk i s =
+    lengthsOk (i .config .«deck_size») (i .config .«learn_span») (length (i .existing)) (length (i .existing-counts)) (length (s .table .keys)) (length (s .table .intervals))
+    (length (s .cards)) (length (s .counts)) (length (s .queue .rows)) (length (s .days)) (length (s .sums)) (length (s .due))
+
+-- 5: each kept one of the first n existing cards
+unfoldable pub checkFirst : List (List Float) → List (List ℕ) → ℕ → Check
+checkFirst cards counts n =
+    let i = firstWhere (notOk cards counts) n 0 in
+    failIf (ltb i n) (refusal.ExistingCard i) check.Passed
+
+unfoldable pub checked : Inputs → State → Check
+checked i s =
+    checkParameters (i .parameters)
+    (failIf (eqb (i .config .«deck_size») 0 || ltb 65536 (i .config .«deck_size»)) refusal.DeckSize
+    (failIf (eqb (i .config .«learn_span») 0 || ltb 36500 (i .config .«learn_span»)) refusal.LearnSpan
+    (failIf (not (configOk (i .config) && isFinite (i .retention))) refusal.Config
+    (failIf (not (listsOk i s)) refusal.Lists
+    (failIf (ltb (i .config .«deck_size») (length (i .existing))) refusal.TooManyCards
+    (checkFirst (i .existing) (i .existing-counts) (length (i .existing))))))))

@@ -1,0 +1,10 @@
+pub mod State
+pub mod Turn
+pub mod Model
+pub mod Rules
+pub mod Refusals
+pub mod Entry
+pub mod SetUp
+pub mod Simulate
+pub mod Demands
+pub mod Steps

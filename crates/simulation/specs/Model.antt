@@ -1,0 +1,15 @@
+-- The memory model of a run, from a configuration and a model's scalars. Definitions only.
+use lib.Ieee.{Float}
+use Rattle.cards.specs.declared.SimulatorConfig.{SimulatorConfig}
+use Rattle.events.specs.Scalars.{Scalars}
+use Rattle.events.specs.Events.{eventOf}
+use Rattle.intervals.specs.Schedule.{certifies}
+use Rattle.simulation.specs.State.{Model}
+
+abbrev pub modelOf : SimulatorConfig → Scalars → Model
+modelOf g x = record {
+  chance = x .chance;
+  event = eventOf g x;
+  fresh = λ s r. x .interval s r (g .«max_ivl»);
+  certified = λ s r v. certifies (λ t. x .chance t s) s r v (g .«max_ivl»);
+}

@@ -1,0 +1,126 @@
+-- How a run is set up from its inputs and the lent lists. Definitions only.
+use Prim.Native.Nat.{ℕ, zero, suc, _+_, _-_, _/_}
+use mathlib.Core.Bool.{Bool, true, not, _&&_, cond}
+use mathlib.Core.List.{List, [], _∷_}
+use lib.Dec.{eqb}
+use lib.ListN.{length, set}
+use lib.IntN.{pos}
+use lib.Ieee.{Float, inf, ofBits, binary32, ofInt}
+use Rattle.turns.specs.Sums.{bit}
+use Rattle.cards.specs.declared.SimulatorConfig.{SimulatorConfig}
+use Rattle.cards.specs.declared.Card.{Card}
+use Rattle.cards.specs.Day.{dayOf, newOf}
+use Rattle.cards.specs.Cards.{cardAt, writeFloats, writeCounts, isKept}
+use Rattle.days.specs.Due.{dueDays, addDue}
+use Rattle.queue.specs.Queue.{Queue, queue, pushed}
+use Rattle.intervals.specs.Table.{clearIn}
+use Rattle.simulation.specs.State.{State, keyOf}
+use Rattle.simulation.specs.Entry.{Inputs}
+
+-- a list with x at each of its first n places
+unfoldable pub filled : {A : Type 0} → A → ℕ → List A → List A
+filled x zero l = l
+filled x (suc n) l = set (filled x n l) n x
+
+-- new card i, from 0 (its id in the Rust is −i), is due on day i / learn_limit
+unfoldable pub newCard : Float → ℕ → ℕ → Card
+newCard retention limit i = record {
+  difficulty = inf true;
+  stability = inf true;
+  «last_date» = inf true;
+  due = ofInt binary32 (pos (i / limit));
+  interval = inf true;
+  «desired_retention» = retention;
+  reps = 0;
+  lapses = 0;
+}
+
+-- what the cards' joining writes
+pub record Deck : Type 0 where
+  pub cards : List (List Float)
+  pub counts : List (List ℕ)
+  pub queue : Queue
+  pub due : List ℕ
+
+abbrev pub deck : List (List Float) → List (List ℕ) → List (List ℕ) → List ℕ → ℕ → Deck
+deck cards counts rows due len = record { cards = cards; counts = counts; queue = queue rows len; due = due }
+
+-- a card joins as the run's next: its place is the queue's length so far
+unfoldable pub joined : Deck → Card → Deck
+joined s k = record {
+  cards = writeFloats (s .cards) (s .queue .len) k;
+  counts = writeCounts (s .counts) (s .queue .len) k;
+  queue = pushed (s .queue) (s .queue .len) (keyOf k);
+  due = s .due;
+}
+
+-- a kept card joins, and is counted on its day
+unfoldable pub retained : ℕ → Deck → Card → Deck
+retained span s k = record {
+  cards = joined s k .cards;
+  counts = joined s k .counts;
+  queue = joined s k .queue;
+  due = addDue span (s .due) (dayOf (k .due));
+}
+
+-- an existing card joins only if it is kept
+unfoldable pub retainCard : ℕ → Deck → Card → Deck
+retainCard span s k = cond (isKept k) (retained span s k) s
+
+-- the first n existing cards
+unfoldable pub retain : ℕ → List (List Float) → List (List ℕ) → ℕ → Deck → Deck
+retain span cards counts zero s = s
+retain span cards counts (suc i) s = retainCard span (retain span cards counts i s) (cardAt cards counts i)
+
+-- how many of the first n existing cards are kept and have a last date
+unfoldable pub known : List (List Float) → List (List ℕ) → ℕ → ℕ
+known cards counts zero = 0
+known cards counts (suc i) =
+    let k = cardAt cards counts i in
+    known cards counts i + bit (isKept k && not (newOf (k .«last_date»)))
+
+-- n new cards join
+unfoldable pub create : Float → ℕ → ℕ → Deck → Deck
+create retention limit zero s = s
+create retention limit (suc i) s = joined (create retention limit i s) (newCard retention limit i)
+
+-- how many new cards there are: none at a learn limit of 0, else as many as the deck has left
+unfoldable pub newCards : SimulatorConfig → ℕ → ℕ
+newCards g kept = cond (eqb (g .«learn_limit») 0) 0 (g .«deck_size» - kept)
+
+-- the queue empty, and due counts of 0
+unfoldable pub emptied : Inputs → State → Deck
+emptied i s = record {
+  cards = s .cards;
+  counts = s .counts;
+  queue = queue (s .queue .rows) 0;
+  due = filled 0 (dueDays (i .config .«learn_span»)) (s .due);
+}
+
+-- the existing cards that are kept, and then the new ones
+unfoldable pub dealt : Inputs → Deck → Deck
+dealt i s =
+    let kept = retain (i .config .«learn_span») (i .existing) (i .existing-counts) (length (i .existing)) s in
+    create (i .retention) (i .config .«learn_limit») (newCards (i .config) (kept .queue .len)) kept
+
+-- the row of counts at set-up: the known cards are introduced on each day
+abbrev pub firstCounts : Inputs → List ℕ
+firstCounts i = 0 ∷ 0 ∷ 0 ∷ known (i .existing) (i .existing-counts) (length (i .existing)) ∷ []
+
+abbrev pub firstSums : List Float
+firstSums = ofBits binary32 0 ∷ ofBits binary32 0 ∷ []
+
+-- the table is emptied, and the draws are at the seed
+unfoldable pub setUp : Inputs → State → State
+setUp i s =
+    let deck = dealt i (emptied i s) in
+    record {
+      cards = deck .cards;
+      counts = deck .counts;
+      queue = deck .queue;
+      days = filled (firstCounts i) (i .config .«learn_span») (s .days);
+      sums = filled firstSums (i .config .«learn_span») (s .sums);
+      due = deck .due;
+      table = clearIn (s .table);
+      draws = i .seed;
+    }

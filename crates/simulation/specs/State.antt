@@ -1,0 +1,61 @@
+-- The state of a run: the lent lists, the queue's length and the state of the draws. Definitions only.
+use Prim.Native.Nat.{ℕ}
+use mathlib.Core.Bool.{Bool}
+use mathlib.Core.List.{List}
+use mathlib.Core.Path.{_≡_}
+use lib.Ieee.{Float}
+use Rattle.cards.specs.declared.Card.{Card}
+use Rattle.cards.specs.Day.{dayOf, newOf}
+use Rattle.cards.specs.Cards.{cardAt}
+use Rattle.events.specs.declared.Event.{Event}
+use Rattle.queue.specs.Key.{cardPriority}
+use Rattle.queue.specs.Queue.{Queue, queue}
+use Rattle.intervals.specs.Table.{Table, table}
+
+pub record State : Type 0 where
+  pub cards : List (List Float)
+  pub counts : List (List ℕ)
+  pub queue : Queue
+  pub days : List (List ℕ)
+  pub sums : List (List Float)
+  pub due : List ℕ
+  pub table : Table
+  pub draws : ℕ
+
+abbrev pub cardIn : State → ℕ → Card
+cardIn s c = cardAt (s .cards) (s .counts) c
+
+-- a card's order key in the queue: its day, reviews before new, its difficulty
+abbrev pub keyOf : Card → ℕ
+keyOf k = cardPriority (dayOf (k .due)) (newOf (k .«last_date»)) (k .difficulty)
+
+-- What the turn rule asks of a memory model: the chance to recall after so many days at a stability; what an event does to a card, new or
+-- not, on a day, from a state of the draws; the interval for a stability and a retention, and whether a held one may stand for it.
+pub record Model : Type 0 where
+  pub chance : Float → Float → Float
+  pub event : Card → Bool → ℕ → ℕ → Event
+  pub fresh : Float → Float → Float
+  pub certified : Float → Float → Float → Bool
+
+-- the state of lists, of a queue's length and of the draws
+abbrev pub state : List (List Float) → List (List ℕ) → List (List ℕ) → List (List ℕ) → List (List Float) → List ℕ → List (List ℕ) → List Float → ℕ → ℕ → State
+state cards counts rows days sums due keys intervals len draws = record {
+  cards = cards;
+  counts = counts;
+  queue = queue rows len;
+  days = days;
+  sums = sums;
+  due = due;
+  table = table keys intervals;
+  draws = draws;
+}
+
+-- the lists are those of a state
+pub record Lists (s : State) (cards : List (List Float)) (counts rows days : List (List ℕ)) (sums : List (List Float)) (due : List ℕ) (keys : List (List ℕ)) (intervals : List Float) : Type 0 where
+  pub cards-are : cards ≡ s .cards
+  pub counts-are : counts ≡ s .counts
+  pub rows-are : rows ≡ s .queue .rows
+  pub days-are : days ≡ s .days
+  pub sums-are : sums ≡ s .sums
+  pub due-are : due ≡ s .due
+  pub table-is : table keys intervals ≡ s .table

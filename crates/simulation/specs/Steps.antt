@@ -1,0 +1,103 @@
+-- What the steps of a turn leave, as their contracts say it. Definitions only.
+use Prim.Native.Nat.{ℕ}
+use mathlib.Core.Bool.{Bool, true, false}
+use mathlib.Core.List.{List, []}
+use mathlib.Core.Path.{_≡_}
+use lib.ListN.{length}
+use lib.Ieee.{Float}
+use Rattle.turns.specs.Turns.{Turn}
+use Rattle.turns.specs.Run.{Next, takes, stops, run, stopOf}
+use Rattle.cards.specs.declared.SimulatorConfig.{SimulatorConfig}
+use Rattle.cards.specs.declared.Card.{Card}
+use Rattle.cards.specs.Day.{newOf}
+use Rattle.cards.specs.Cards.{writeFloats, writeCounts}
+use Rattle.days.specs.Counts.{countEvent}
+use Rattle.days.specs.Sums.{payOn}
+use Rattle.days.specs.Due.{moveDue, noneDue}
+use Rattle.events.specs.declared.Memory.{Memory}
+use Rattle.queue.specs.Queue.{queue, frontChanged, popped, pushed}
+use Rattle.simulation.specs.declared.Outcome.{Outcome}
+use Rattle.simulation.specs.declared.Reach.{Reach}
+use Rattle.simulation.specs.declared.Progress.{Progress}
+use Rattle.simulation.specs.declared.Refusal.the-variants as refusal
+use Rattle.simulation.specs.declared.Answer.{Answer}
+use Rattle.simulation.specs.declared.Answer.the-variants as answer
+use Rattle.simulation.specs.declared.Outcome.the-variants as outcome
+use Rattle.simulation.specs.State.{State, Model, Lists, keyOf}
+use Rattle.simulation.specs.Simulate.{Result}
+use Rattle.simulation.specs.Turn.{Stop, ended, chance, full, count, putOffCard, holdCard, next}
+
+abbrev pub stoppedBy : Stop → Outcome
+stoppedBy ended = outcome.Ended
+stoppedBy (chance c) = outcome.Chance c
+stoppedBy (full c) = outcome.TableFull c
+stoppedBy (count c) = outcome.DueCount c
+
+-- a turn taken tells the queue's length and the state of the draws after it
+abbrev pub outcomeOf : Next (Turn Float) State Stop → Outcome
+outcomeOf (takes t s) = outcome.Took (s .queue .len) (s .draws)
+outcomeOf (stops x) = stoppedBy x
+
+abbrev pub afterOf : State → Next (Turn Float) State Stop → State
+afterOf s (takes t s′) = s′
+afterOf s (stops x) = s
+
+-- the outcome, and the lists as the turn leaves them: untouched where it stops
+pub record Turned (n : Next (Turn Float) State Stop) (s : State) (r : Outcome) (cards : List (List Float)) (counts rows days : List (List ℕ)) (sums : List (List Float)) (due : List ℕ) (keys : List (List ℕ)) (intervals : List Float) : Type 0 where
+  pub outcome : r ≡ outcomeOf n
+  pub lists : Lists (afterOf s n) cards counts rows days sums due keys intervals
+
+-- ---- the steps that write few lists, by those
+pub record PutOff (span c : ℕ) (k : Card) (d len : ℕ) (cards : List (List Float)) (rows : List (List ℕ)) (due : List ℕ) (cards′ : List (List Float)) (rows′ : List (List ℕ)) (due′ : List ℕ) : Type 0 where
+  pub cards-are : cards′ ≡ writeFloats cards c (putOffCard k d)
+  pub queue-is : queue rows′ len ≡ frontChanged (queue rows len) (keyOf (putOffCard k d))
+  pub due-are : due′ ≡ moveDue span due (newOf (k .«last_date»)) d
+
+pub record Untouched (cards : List (List Float)) (rows : List (List ℕ)) (due : List ℕ) (cards′ : List (List Float)) (rows′ : List (List ℕ)) (due′ : List ℕ) : Type 0 where
+  pub cards-are : cards′ ≡ cards
+  pub rows-are : rows′ ≡ rows
+  pub due-are : due′ ≡ due
+
+pub record PutOffStep (span c : ℕ) (k : Card) (d len draws : ℕ) (cards : List (List Float)) (rows : List (List ℕ)) (due : List ℕ) (r : Outcome) (cards′ : List (List Float)) (rows′ : List (List ℕ)) (due′ : List ℕ) : Type 0 where
+  pub refused : noneDue due (newOf (k .«last_date»)) d ≡ true → (r ≡ outcome.DueCount c) × Untouched cards rows due cards′ rows′ due′
+  pub done : noneDue due (newOf (k .«last_date»)) d ≡ false → (r ≡ outcome.Took len draws) × PutOff span c k d len cards rows due cards′ rows′ due′
+
+pub record RetireStep (g : SimulatorConfig) (m : Model) (k : Card) (len draws : ℕ) (sums : List (List Float)) (rows : List (List ℕ)) (r : Outcome) (sums′ : List (List Float)) (rows′ : List (List ℕ)) : Type 0 where
+  pub outcome : r ≡ outcome.Took (popped (queue rows len) .len) draws
+  pub sums-are : sums′ ≡ holdCard m sums k (g .«learn_span»)
+  pub rows-are : rows′ ≡ popped (queue rows len) .rows
+
+pub record DaysWritten (g : SimulatorConfig) (m : Model) (k : Card) (new : Bool) (d : ℕ) (x : Memory) (days : List (List ℕ)) (sums : List (List Float)) (days′ : List (List ℕ)) (sums′ : List (List Float)) : Type 0 where
+  pub days-are : days′ ≡ countEvent (g .«learn_span») days new d (x .recalled)
+  pub sums-are : sums′ ≡ holdCard m (payOn sums d (x .cost)) k d
+
+pub record CardWritten (c : ℕ) (k : Card) (len : ℕ) (cards : List (List Float)) (counts rows : List (List ℕ)) (cards′ : List (List Float)) (counts′ rows′ : List (List ℕ)) : Type 0 where
+  pub cards-are : cards′ ≡ writeFloats cards c k
+  pub counts-are : counts′ ≡ writeCounts counts c k
+  pub queue-is : queue rows′ len ≡ frontChanged (queue rows len) (keyOf k)
+
+-- what the loop over turns leaves, from a state and for at most n turns
+pub record Ran (g : SimulatorConfig) (m : Model) (s : State) (n : ℕ) (r : Reach) (cards : List (List Float)) (counts rows days : List (List ℕ)) (sums : List (List Float)) (due : List ℕ) (keys : List (List ℕ)) (intervals : List Float) : Type 0 where
+  pub outcome : r .outcome ≡ stoppedBy (stopOf (next g m) ended n s)
+  pub turns : r .turns ≡ length ((run (next g m) n [] s) .turns)
+  pub draws : r .draws ≡ (run (next g m) n [] s) .state .draws
+  pub lists : Lists ((run (next g m) n [] s) .state) cards counts rows days sums due keys intervals
+
+-- ---- set-up
+pub record Joined (k : Card) (len : ℕ) (cards : List (List Float)) (counts rows : List (List ℕ)) (r : ℕ) (cards′ : List (List Float)) (counts′ rows′ : List (List ℕ)) : Type 0 where
+  pub cards-are : cards′ ≡ writeFloats cards len k
+  pub counts-are : counts′ ≡ writeCounts counts len k
+  pub queue-is : queue rows′ r ≡ pushed (queue rows len) len (keyOf k)
+
+-- ---- the answer
+abbrev pub answered : Outcome → Progress → Answer
+answered (outcome.Took n r) p = answer.Finished p
+answered outcome.Ended p = answer.Finished p
+answered (outcome.Chance c) p = answer.Refused (refusal.Chance c) p
+answered (outcome.TableFull c) p = answer.Refused (refusal.TableFull c) p
+answered (outcome.DueCount c) p = answer.Refused (refusal.DueCount c) p
+
+-- an answer and lists are those of a result
+pub record Done (x : Result) (r : Answer) (cards : List (List Float)) (counts rows days : List (List ℕ)) (sums : List (List Float)) (due : List ℕ) (keys : List (List ℕ)) (intervals : List Float) : Type 0 where
+  pub answer : r ≡ x .answer
+  pub lists : Lists (x .state) cards counts rows days sums due keys intervals

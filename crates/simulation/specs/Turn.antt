@@ -1,0 +1,156 @@
+-- THE TURN RULE of document 01, as one definition, `next`, over any memory model. Definitions only.
+use Prim.Native.Nat.{ℕ, _+_, _-_}
+use mathlib.Core.Bool.{Bool, true, false, cond}
+use mathlib.Core.List.{List}
+use lib.Dec.{eqb}
+use lib.IntN.{pos}
+use lib.Ieee.{Float, ofBits, binary32, add, ofInt, toUnsigned}
+use Rattle.turns.specs.Turns.{Kind, learn, review, putOff, retire, Turn}
+use Rattle.turns.specs.Run.{Next, takes, stops}
+use Rattle.cards.specs.declared.SimulatorConfig.{SimulatorConfig}
+use Rattle.cards.specs.declared.Card.{Card}
+use Rattle.cards.specs.declared.Choice.{Choice}
+use Rattle.cards.specs.declared.Choice.the-variants as choice
+use Rattle.cards.specs.Day.{dayOf, newOf}
+use Rattle.cards.specs.Cards.{writeFloats, writeCounts}
+use Rattle.cards.specs.Choices.{choiceOf}
+use Rattle.days.specs.Counts.{raised, learnedAt, reviewedAt, countEvent}
+use Rattle.days.specs.Sums.{costAt, payOn, holdFrom}
+use Rattle.days.specs.Due.{addDue, moveDue, noneDue}
+use Rattle.events.specs.declared.Memory.{Memory}
+use Rattle.events.specs.declared.Event.{Event}
+use Rattle.events.specs.declared.Event.the-variants as event
+use Rattle.queue.specs.Queue.{front, frontChanged, popped}
+use Rattle.intervals.specs.declared.Slot.{Slot}
+use Rattle.intervals.specs.declared.Slot.the-variants as slot
+use Rattle.intervals.specs.Bucket.{stabilityBucket, retentionBucket}
+use Rattle.intervals.specs.Table.{Table}
+use Rattle.intervals.specs.Schedule.{slotIn, intervalOf, entered}
+use Rattle.simulation.specs.State.{State, Model, cardIn, keyOf}
+
+-- how a run stops: by its end, or by refusal 7, 8 or 9 of a card
+pub data Stop : Type 0 where
+  ended : Stop
+  chance full count : ℕ → Stop
+
+-- the next day
+abbrev pub nextDue : ℕ → Float
+nextDue d = add binary32 (ofInt binary32 (pos d)) (ofBits binary32 0x3F80_0000)
+
+-- a card put off from day d
+unfoldable pub putOffCard : Card → ℕ → Card
+putOffCard k d = record {
+  difficulty = k .difficulty;
+  stability = k .stability;
+  «last_date» = k .«last_date»;
+  due = nextDue d;
+  interval = k .interval;
+  «desired_retention» = k .«desired_retention»;
+  reps = k .reps;
+  lapses = k .lapses;
+}
+
+-- a card after an event on day d that gives it the interval v: a review that was not recalled is a lapse
+unfoldable pub eventCard : Card → Bool → Memory → ℕ → Float → Card
+eventCard k new m d v = record {
+  difficulty = m .difficulty;
+  stability = m .stability;
+  «last_date» = ofInt binary32 (pos d);
+  due = add binary32 (ofInt binary32 (pos d)) v;
+  interval = v;
+  «desired_retention» = k .«desired_retention»;
+  reps = raised (k .reps);
+  lapses = cond new (k .lapses) (cond (m .recalled) (k .lapses) (raised (k .lapses)));
+}
+
+-- the turn of card c on day d, with its cost where it is an event
+abbrev pub turnAs : ℕ → ℕ → Kind Float → Turn Float
+turnAs c d kind = record { card = c; day = d; kind = kind }
+
+abbrev pub kindAs : Bool → Memory → Kind Float
+kindAs true m = learn (m .cost)
+kindAs false m = review (m .recalled) (m .cost)
+
+-- the held sums with a card's chances from its last date up to day e, which is left out; a new card has none
+unfoldable pub holdCard : Model → List (List Float) → Card → ℕ → List (List Float)
+holdCard m sums k e =
+    cond (newOf (k .«last_date»)) sums
+    (let from = toUnsigned 32 (k .«last_date») in holdFrom (λ t. m .chance t (k .stability)) sums (e - from) from (k .«last_date»))
+
+module _ (g : SimulatorConfig) (m : Model) where
+  -- the first card leaves the queue, held to the span's end
+  unfoldable pub retired : State → Card → State
+  retired s k = record {
+    cards = s .cards;
+    counts = s .counts;
+    queue = popped (s .queue);
+    days = s .days;
+    sums = holdCard m (s .sums) k (g .«learn_span»);
+    due = s .due;
+    table = s .table;
+    draws = s .draws;
+  }
+
+  -- the first card, c, goes from day d to the next
+  unfoldable pub postponed : State → ℕ → Card → ℕ → State
+  postponed s c k d = record {
+    cards = writeFloats (s .cards) c (putOffCard k d);
+    counts = s .counts;
+    queue = frontChanged (s .queue) (keyOf (putOffCard k d));
+    days = s .days;
+    sums = s .sums;
+    due = moveDue (g .«learn_span») (s .due) (newOf (k .«last_date»)) d;
+    table = s .table;
+    draws = s .draws;
+  }
+
+  -- the first card, c, has an event on day d, which leaves the memory x and the interval of t
+  unfoldable pub handled : State → ℕ → Card → Bool → ℕ → Memory → Slot → State
+  handled s c k new d x t =
+      let k′ = eventCard k new x d (intervalOf t) in
+      record {
+        cards = writeFloats (s .cards) c k′;
+        counts = writeCounts (s .counts) c k′;
+        queue = frontChanged (s .queue) (keyOf k′);
+        days = countEvent (g .«learn_span») (s .days) new d (x .recalled);
+        sums = holdCard m (payOn (s .sums) d (x .cost)) k d;
+        due = addDue (g .«learn_span») (s .due) (dayOf (k′ .due));
+        table = entered (s .table) t;
+        draws = x .draws;
+      }
+
+  -- the interval of a stability and a retention: held and certified, or new and to be entered; or refusal 8
+  abbrev pub slotFor : Table → Float → Float → Slot
+  slotFor t s r = slotIn (m .certified s r) (m .fresh s r) t (stabilityBucket s) (retentionBucket r)
+
+  abbrev pub handleAs : State → ℕ → Card → Bool → ℕ → Memory → Slot → Next (Turn Float) State Stop
+  handleAs s c k new d x (slot.Keep v) = takes (turnAs c d (kindAs new x)) (handled s c k new d x (slot.Keep v))
+  handleAs s c k new d x (slot.Enter p a b v) = takes (turnAs c d (kindAs new x)) (handled s c k new d x (slot.Enter p a b v))
+  handleAs s c k new d x slot.Full = stops (full c)
+
+  abbrev pub eventAs : State → ℕ → Card → Bool → ℕ → Event → Next (Turn Float) State Stop
+  eventAs s c k new d (event.Happened x) = handleAs s c k new d x (slotFor (s .table) (x .stability) (k .«desired_retention»))
+  eventAs s c k new d event.Chance = stops (chance c)
+
+  unfoldable pub handle : State → ℕ → Card → Bool → ℕ → Next (Turn Float) State Stop
+  handle s c k new d = eventAs s c k new d (m .event k new d (s .draws))
+
+  abbrev pub orElse : Bool → Next (Turn Float) State Stop → Next (Turn Float) State Stop → Next (Turn Float) State Stop
+  orElse true a b = a
+  orElse false a b = b
+
+  abbrev pub act : State → ℕ → Card → ℕ → Choice → Next (Turn Float) State Stop
+  act s c k d choice.Retire = takes (turnAs c d retire) (retired s k)
+  act s c k d choice.PutOff = orElse (noneDue (s .due) (newOf (k .«last_date»)) d) (stops (count c)) (takes (turnAs c d putOff) (postponed s c k d))
+  act s c k d choice.Learn = handle s c k true d
+  act s c k d choice.Review = handle s c k false d
+
+  -- the turn of card c, which is k and of day d
+  abbrev pub turnOf : State → ℕ → Card → ℕ → Next (Turn Float) State Stop
+  turnOf s c k d = act s c k d (choiceOf g k (learnedAt (s .days) d) (reviewedAt (s .days) d) (costAt (s .sums) d))
+
+  -- a turn looks at the queue's first card; the run ends when the queue is empty
+  unfoldable pub next : State → Next (Turn Float) State Stop
+  next s =
+      orElse (eqb (s .queue .len) 0) (stops ended)
+      (let c = front (s .queue) in let k = cardIn s c in turnOf s c k (dayOf (k .due)))
