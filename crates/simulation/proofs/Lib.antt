@@ -11,3 +11,4 @@ pub mod Turning
 pub mod Dealing
 pub mod Starting
 pub mod Claims
+pub mod Demands

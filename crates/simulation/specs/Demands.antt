@@ -1,5 +1,5 @@
 -- DEMAND 3 of a run that ends Ok: the daily rules of its whole list of turns, and its rows. Definitions only.
-use Prim.Native.Nat.{ℕ, _^_, _<_}
+use Prim.Native.Nat.{ℕ, _^_, _≤_, _<_}
 use mathlib.Core.Path.{_≡_}
 use mathlib.Core.List.{List, []}
 use lib.ListN.{length, getD}
@@ -17,7 +17,7 @@ use Rattle.simulation.specs.Model.{modelOf}
 use Rattle.simulation.specs.Rules.{costs, limits}
 use Rattle.simulation.specs.Entry.{Inputs}
 use Rattle.simulation.specs.SetUp.{known, setUp}
-use Rattle.simulation.specs.Simulate.{ran}
+use Rattle.simulation.specs.Simulate.{Result, ran}
 
 -- the run ended Ok
 abbrev pub Finished : Answer → Type 0
@@ -50,3 +50,26 @@ pub record LimitsFit (g : SimulatorConfig) : Type 0 where
   pub learns : g .«learn_limit» < 2 ^ 32
   pub reviews : g .«review_limit» < 2 ^ 32
   pub lapses : g .«suspend_after_lapses» < 2 ^ 32
+
+-- A second run's lists: those of the first, but for an interval table that is longer in both its columns
+pub record LongerTable (s s′ : State) : Type 0 where
+  pub cards-are : s′ .cards ≡ s .cards
+  pub counts-are : s′ .counts ≡ s .counts
+  pub queue-is : s′ .queue ≡ s .queue
+  pub days-are : s′ .days ≡ s .days
+  pub sums-are : s′ .sums ≡ s .sums
+  pub due-are : s′ .due ≡ s .due
+  pub draws-are : s′ .draws ≡ s .draws
+  pub keys-longer : length (s .table .keys) ≤ length (s′ .table .keys)
+  pub intervals-longer : length (s .table .intervals) ≤ length (s′ .table .intervals)
+
+-- the same answer, turns included, and the same rows, due counts, cards and draws
+pub record SameRun (r r′ : Result) : Type 0 where
+  pub answers : r′ .answer ≡ r .answer
+  pub cards-are : r′ .state .cards ≡ r .state .cards
+  pub counts-are : r′ .state .counts ≡ r .state .counts
+  pub queue-is : r′ .state .queue ≡ r .state .queue
+  pub days-are : r′ .state .days ≡ r .state .days
+  pub sums-are : r′ .state .sums ≡ r .state .sums
+  pub due-are : r′ .state .due ≡ r .state .due
+  pub draws-are : r′ .state .draws ≡ r .state .draws
