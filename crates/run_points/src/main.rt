@@ -1,0 +1,149 @@
+// Runs small forecasts: the case of two streets and one day, a deck of eight over ten days, and calls at the entry's limits.
+use cards::SimulatorConfig;
+use simulation::Answer;
+use simulation::Progress;
+use simulation::Refusal;
+
+fn wide(x: u32) -> u64 {
+    x as u64
+}
+
+fn blank() {
+    io::write_all(1, b" ");
+}
+
+fn number(x: u32) {
+    blank();
+    io::print_decimal(1, wide(x));
+}
+
+fn float(x: f32) {
+    blank();
+    io::print_hex(1, wide(float32::to_bits(x)), 8);
+}
+
+// Two streets, every first rating 4, costs of 8 seconds and at most 10 a day; the rest as `SimulatorConfig::default` has it.
+fn config(deck_size: u32, learn_span: u32) -> SimulatorConfig {
+    SimulatorConfig {
+        deck_size,
+        learn_span,
+        max_cost_perday: 10.0,
+        max_ivl: 36500.0,
+        first_rating_prob: [0.0, 0.0, 0.0, 1.0],
+        review_rating_prob: model::defaults::review_rating_prob(),
+        learn_limit: 4294967295,
+        review_limit: 4294967295,
+        new_cards_ignore_review_limit: true,
+        suspend_after_lapses: 4294967295,
+        learning_step_transitions: model::defaults::learning_step_transitions(),
+        relearning_step_transitions: model::defaults::relearning_step_transitions(),
+        state_rating_costs: [8.0; 12],
+        learning_step_count: 2,
+        relearning_step_count: 1,
+    }
+}
+
+fn second_of(refusal: Refusal) -> u32 {
+    match refusal {
+        Refusal::Parameters(i) => i,
+        Refusal::ExistingCard(i) => i,
+        Refusal::Chance(c) => c,
+        Refusal::TableFull(c) => c,
+        Refusal::DueCount(c) => c,
+        Refusal::TooManyCards => 1,
+        Refusal::DeckSize => 0,
+        Refusal::LearnSpan => 0,
+        Refusal::Config => 0,
+        Refusal::Lists => 0,
+    }
+}
+
+fn number_of(refusal: Refusal) -> u32 {
+    match refusal {
+        Refusal::Parameters(_) => 1,
+        Refusal::DeckSize => 2,
+        Refusal::TooManyCards => 2,
+        Refusal::LearnSpan => 3,
+        Refusal::Config => 4,
+        Refusal::ExistingCard(_) => 5,
+        Refusal::Lists => 6,
+        Refusal::Chance(_) => 7,
+        Refusal::TableFull(_) => 8,
+        Refusal::DueCount(_) => 9,
+    }
+}
+
+fn show(progress: Progress) {
+    io::write_all(1, b"turns");
+    number(progress.turns);
+    io::write_all(1, b" cards");
+    number(progress.cards);
+    io::write_all(1, b" draws ");
+    io::print_hex(1, progress.draws, 16);
+    io::write_all(1, b"\n");
+}
+
+fn day(counts: [u32; 4], sums: [f32; 2]) {
+    io::write_all(1, b"day");
+    number(counts[0]);
+    number(counts[1]);
+    number(counts[2]);
+    number(counts[3]);
+    float(sums[0]);
+    float(sums[1]);
+    io::write_all(1, b"\n");
+}
+
+fn forecast(deck_size: u32, learn_span: u32) {
+    let mut cards: [[f32; 6]; 8] = [[0.0; 6]; 8];
+    let mut counts: [[u32; 2]; 8] = [[0; 2]; 8];
+    let mut rows: [[u64; 2]; 8] = [[0; 2]; 8];
+    let mut days: [[u32; 4]; 10] = [[0; 4]; 10];
+    let mut sums: [[f32; 2]; 10] = [[0.0; 2]; 10];
+    let mut due: [u32; 15] = [0; 15];
+    let mut keys: [[u32; 2]; 64] = [[0; 2]; 64];
+    let mut intervals: [f32; 64] = [0.0; 64];
+    let parameters: [f32; 34] = [0.5; 34];
+    let existing: [[f32; 6]; 0] = [[0.0; 6]; 0];
+    let existing_counts: [[u32; 2]; 0] = [[0; 2]; 0];
+    let answer = simulation::simulate(
+        &mut cards,
+        &mut counts,
+        &mut rows,
+        &mut days,
+        &mut sums,
+        &mut due,
+        &mut keys,
+        &mut intervals,
+        &parameters,
+        &existing,
+        &existing_counts,
+        config(deck_size, learn_span),
+        0.9,
+        42,
+    );
+    match answer {
+        Answer::Finished(progress) => {
+            show(progress);
+            day(days[0], sums[0]);
+            day(days[1], sums[1]);
+            day(days[9], sums[9]);
+        }
+        Answer::Refused(refusal, _) => {
+            io::write_all(1, b"refused");
+            number(number_of(refusal));
+            number(second_of(refusal));
+            io::write_all(1, b"\n");
+        }
+    }
+}
+
+fn main() {
+    forecast(2, 1);
+    forecast(8, 10);
+    forecast(65536, 1);
+    forecast(65537, 1);
+    forecast(2, 0);
+    forecast(2, 36500);
+    forecast(2, 36501);
+}
