@@ -1,20 +1,16 @@
 -- What a call that the entry accepts has.
-use mathlib.Core.Path.{_≡_, refl, sym, ap, _∙_, subst}
-use mathlib.Core.Bool.{Bool, true, false, not, _&&_, _||_, cond, true≢false, false≢true}
-use mathlib.Core.List.{List}
-use Prim.Native.Nat.{ℕ, zero, suc, _+_, _≤_, _<_}
-use native.Mathlib.Decide.{ℕ-discrete}
+use mathlib.Core.Path.{_≡_, refl}
+use mathlib.Core.Bool.{Bool, true, false, not, _&&_, _||_, true≢false, false≢true}
+use Prim.Native.Nat.{ℕ, _≤_, _<_}
 use native.Mathlib.Omega.{arith}
 use borrow.Author.Tests.{eqb-true, eqb-false, leb-true, ltb-false}
 use lib.Dec.{eqb, leb, ltb}
 use lib.ListN.{length}
-use lib.Ieee.{Float}
 use Rattle.float32.specs.Float32.{isFinite}
 use Rattle.cards.specs.Cards.{cardAt, isKept, cardOk}
 use Rattle.cards.specs.Config.{configOk}
 use Rattle.days.specs.Due.{dueDays}
 use Rattle.simulation.specs.declared.Refusal.{Refusal}
-use Rattle.simulation.specs.declared.Refusal.the-variants as refusal
 use Rattle.simulation.specs.declared.Check.{Check}
 use Rattle.simulation.specs.declared.Check.the-variants as check
 use Rattle.simulation.specs.State.{State}

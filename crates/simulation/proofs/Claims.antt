@@ -1,20 +1,16 @@
 -- Demand 3 of the run: what the laws of turns say of a call that the entry accepts.
-use mathlib.Core.Path.{_≡_, refl, sym, ap, _∙_, subst}
-use mathlib.Core.Bool.{Bool, true, false, not, _&&_}
-use mathlib.Core.List.{List, []}
-use Prim.Native.Nat.{ℕ, suc, _+_, _*_, _^_, _≤_, _<_}
+use mathlib.Core.Path.{_≡_, refl, subst}
+use mathlib.Core.Bool.{Bool, true, not, _&&_}
+use mathlib.Core.List.{List}
+use Prim.Native.Nat.{ℕ, suc, _*_, _≤_}
 use native.Mathlib.Omega.{arith}
-use lib.Dec.{T, lit<}
+use lib.Dec.{T}
 use lib.ListN.{length}
 use lib.IntN.{pos}
-use lib.Ieee.{Float, ofBits, ofFields, binary32, ofInt, round, le, lt, eq, isNan}
+use lib.Ieee.{Float, ofBits, ofFields, binary32, ofInt, round, le, isNan}
 use lib.Ieee.Positive.{positive, between, le-trans-positive}
-use Rattle.float32.specs.Float32.{isFinite}
 use Rattle.float32.proofs.Cmp as cmp
-use Rattle.float32.proofs.Limits.{Between}
-use Rattle.turns.specs.Turns.{Turn, Demand, Rows}
-use Rattle.turns.specs.Run.{Next, takes, stops, run, stopOf}
-use Rattle.turns.proofs.Loop.{stop-is}
+use Rattle.turns.specs.Run.{stops}
 use Rattle.model.specs.Kept as Kept
 use Rattle.model.specs.Model.{scheduled}
 use Rattle.model.proofs.Laws.{scheduled-between}
@@ -29,13 +25,12 @@ use Rattle.simulation.specs.declared.Check.the-variants as check
 use Rattle.simulation.specs.declared.Progress.{Progress}
 use Rattle.simulation.specs.declared.Answer.{Answer}
 use Rattle.simulation.specs.declared.Answer.the-variants as answer
-use Rattle.simulation.specs.State.{State, Model, Lists, state}
+use Rattle.simulation.specs.State.{State, state}
 use Rattle.simulation.specs.Model.{modelOf}
-use Rattle.simulation.specs.Turn.{Stop, ended, chance, full, count, next}
-use Rattle.simulation.specs.Rules.{costs, limits}
+use Rattle.simulation.specs.Turn.{Stop, next}
 use Rattle.simulation.specs.Entry.{Inputs, inputs, checked}
 use Rattle.simulation.specs.SetUp.{setUp}
-use Rattle.simulation.specs.Simulate.{Result, progress, answerOf, bound, ran, finished, afterCheck, simulated}
+use Rattle.simulation.specs.Simulate.{progress, bound, ran, finished, simulated}
 use Rattle.simulation.specs.Demands.{Finished, modelFor, cardsOf, turnsOf, DemandThree, LimitsFit}
 use Rattle.simulation.specs.Steps.{Done}
 use Rattle.simulation.proofs.Good.{Fine}

@@ -1,39 +1,36 @@
 -- THE DEMANDS, by number, of every call of the run. Demand 2's equation and demand 3's daily rules and rows stand in `simulate`'s own contract;
 -- here are the statements beside it.
-use mathlib.Core.Path.{_≡_, refl, sym, ap, _∙_, subst}
-use mathlib.Core.Bool.{Bool, true, false}
+use mathlib.Core.Path.{_≡_, refl, sym, ap, _∙_}
+use mathlib.Core.Bool.{true}
 use mathlib.Core.List.{List, []}
 use mathlib.Core.Option.{none}
 use mathlib.Core.Logic.{_↔_}
-use Prim.Native.Nat.{ℕ, suc, _+_, _*_, _≤_, _<_}
+use Prim.Native.Nat.{ℕ, suc, _*_, _≤_}
 use native.Mathlib.Omega.{arith}
 use lib.ListN.{length}
 use lib.Ieee.{Float}
 use Rattle.turns.specs.Turns.{Turn}
-use Rattle.turns.specs.Run.{Next, takes, stops, Reached, run, stopOf}
-use Rattle.turns.proofs.Loop.{Same, stop-is}
+use Rattle.turns.specs.Run.{stops, Reached, run, stopOf}
+use Rattle.turns.proofs.Loop.{stop-is}
 use Rattle.intervals.specs.Bucket.{stabilityBucket, retentionBucket}
 use Rattle.intervals.specs.Table.{Table, places, heldIn, countIn, clearIn}
 use Rattle.intervals.specs.Schedule.{isFull}
-use Rattle.intervals.proofs.Laws.{Sound, Twin, twin-clear}
+use Rattle.intervals.proofs.Laws.{Sound, clear-sound, twin-clear}
 use Rattle.intervals.proofs.Schedule.{slot-full-iff}
-use Rattle.cards.specs.declared.SimulatorConfig.{SimulatorConfig}
 use Rattle.simulation.specs.declared.Refusal.{Refusal}
-use Rattle.simulation.specs.declared.Refusal.the-variants as refusal
-use Rattle.simulation.specs.declared.Check.{Check}
 use Rattle.simulation.specs.declared.Check.the-variants as check
 use Rattle.simulation.specs.declared.Progress.{Progress}
-use Rattle.simulation.specs.declared.Answer.{Answer}
 use Rattle.simulation.specs.declared.Answer.the-variants as answer
 use Rattle.simulation.specs.State.{State, Model}
 use Rattle.simulation.specs.Turn.{Stop, ended, chance, full, count, slotFor, next}
 use Rattle.simulation.specs.Entry.{Inputs, checked}
-use Rattle.simulation.specs.SetUp.{emptied, dealt, setUp}
-use Rattle.simulation.specs.Simulate.{Result, progress, answerOf, bound, ran, finished, afterCheck, simulated}
+use Rattle.simulation.specs.SetUp.{emptied, setUp}
+use Rattle.simulation.specs.Simulate.{Result, progress, answerOf, bound, ran, finished, simulated}
 use Rattle.simulation.specs.Demands.{Finished, modelFor, cardsOf, turnsOf, LimitsFit, LongerTable, SameRun}
 use Rattle.simulation.proofs.Accepted.{Accepted, accepted}
 use Rattle.simulation.proofs.Claims.{fresh-fair, has-stopped, few-turns}
-use Rattle.simulation.proofs.Longer.{withTable, Alike, IsEnd, run-longer}
+use Rattle.simulation.proofs.Tables.{run-sound}
+use Rattle.simulation.proofs.Longer.{withTable, Alike, run-longer}
 
 -- DEMAND 1: an entry refusal, exactly by the table, writes nothing and takes no turn
 pub entry-refusal : (m : Model) (i : Inputs) (s : State) (r : Refusal) → checked i s ≡ check.Failed r → simulated m i s ≡ record { answer = answer.Refused r (progress 0 0 (i .seed)); state = s }
@@ -45,9 +42,16 @@ pub run-leaves : (m : Model) (i : Inputs) (s : State) → checked i s ≡ check.
 unfolding simulated finished
 run-leaves m i s e = rw e
 
--- refusal 8 exactly when the key is new and as many keys are held as the table is long
-pub table-full : (g : SimulatorConfig) (m : Model) (t : Table) → Sound t → (x y : Float) → (isFull (slotFor g m t x y) ≡ true) ↔ ((heldIn t (stabilityBucket x) (retentionBucket y) ≡ none) × (countIn t ≡ places t))
-table-full g m t ok x y = slot-full-iff t (stabilityBucket x) (retentionBucket y) (m .certified x y) (m .fresh x y) ok
+-- refusal 8 exactly when the key is new and as many keys are held as the table is long, after any number of turns of an accepted call
+pub table-full : (i : Inputs) (s : State) → checked i s ≡ check.Passed → (n : ℕ) (x y : Float)
+    → (let t = (run (next (i .config) (modelFor i)) n [] (setUp i s)) .state .table in (isFull (slotFor (i .config) (modelFor i) t x y) ≡ true) ↔ ((heldIn t (stabilityBucket x) (retentionBucket y) ≡ none) × (countIn t ≡ places t)))
+table-full i s e n x y =
+    let m = modelFor i in
+    slot-full-iff ((run (next (i .config) m) n [] (setUp i s)) .state .table) (stabilityBucket x) (retentionBucket y) (m .certified x y) (m .fresh x y)
+    (run-sound (i .config) m (fresh-fair i s (accepted i s e)) n [] (setUp i s) (empty i s))
+  where
+    empty : (i : Inputs) (s : State) → Sound (setUp i s .table)
+    empty i s = unfold setUp in clear-sound (s .table)
 
 module _ (i : Inputs) (s : State) (fit : LimitsFit (i .config)) (e : checked i s ≡ check.Passed) where
   abbrev s₀ : State

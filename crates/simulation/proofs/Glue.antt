@@ -9,8 +9,8 @@ use types.Run.{OneOf}
 use denote.Enum.Declared.{tagOf}
 use Prim.Native.Nat.{ℕ}
 use lib.Ieee.{Float}
-use Rattle.turns.specs.Turns.{Turn, retire, putOff}
-use Rattle.turns.specs.Run.{Next, takes, stops}
+use Rattle.turns.specs.Turns.{putOff}
+use Rattle.turns.specs.Run.{takes, stops}
 use Rattle.cards.specs.declared.SimulatorConfig.{SimulatorConfig}
 use Rattle.cards.specs.declared.Card.{Card}
 use Rattle.cards.specs.declared.Choice.{Choice}
@@ -32,7 +32,7 @@ use Rattle.intervals.specs.Table.{table}
 use Rattle.intervals.specs.Schedule.{isFull, intervalOf, entered}
 use Rattle.simulation.specs.declared.Outcome.{Outcome}
 use Rattle.simulation.specs.declared.Outcome.the-variants as outcome
-use Rattle.simulation.specs.State.{State, Model, Lists, state, cardIn, keyOf}
+use Rattle.simulation.specs.State.{State, Model, Lists, state, keyOf}
 use Rattle.simulation.specs.Turn.{count, full, turnAs, kindAs, eventCard, retired, postponed, handled, slotFor, handleAs, handle, orElse, act, next}
 use Rattle.simulation.specs.Steps.{Turned, PutOff, PutOffStep, RetireStep, DaysWritten, CardWritten}
 

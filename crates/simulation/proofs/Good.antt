@@ -1,16 +1,16 @@
 -- What the run's state keeps, and that putting off and retiring are steps of the theory and keep it.
-use mathlib.Core.Path.{_≡_, refl, sym, ap, _∙_}
+use mathlib.Core.Path.{_≡_, refl, sym, ap}
 use mathlib.Core.Bool.{Bool, true, false, _||_, cond}
-use mathlib.Core.List.{List, []}
+use mathlib.Core.List.{List}
 use mathlib.Core.Logic.{_≢_}
 use Prim.Native.Nat.{ℕ, _+_, _-_, _*_, _^_, _≤_, _<_, min}
 use native.Mathlib.Decide.{ℕ-discrete}
 use native.Mathlib.Omega.{arith}
 use lib.Dec.{leb}
-use lib.ListN.{getD, set, length, length-set}
+use lib.ListN.{getD, length, length-set}
 use lib.Seq.{getD-set-same, getD-set-other}
 use lib.IntN.{pos}
-use lib.Ieee.{Float, nan, binary32, ofInt, ofBits, le, toUnsigned}
+use lib.Ieee.{Float, binary32, ofInt, ofBits, le, toUnsigned}
 use Rattle.turns.specs.Sums.{bit, sumTo}
 use Rattle.turns.specs.Turns.{Turn, Kind, putOff, retire}
 use Rattle.turns.proofs.Sums.{sum-same}
@@ -24,16 +24,16 @@ use Rattle.cards.proofs.Later.{day-later, day-in-span, day-bound, Fair, one-fai
 use Rattle.days.specs.Sums.{costAt, holdFrom}
 use Rattle.days.proofs.Laws.{hold-long, hold-cost}
 use Rattle.queue.specs.Key as key
-use Rattle.queue.specs.Key.{packed, cardPriority, priorityOf}
-use Rattle.queue.specs.Queue.{Queue, front, frontChanged, popped}
+use Rattle.queue.specs.Key.{cardPriority, priorityOf}
+use Rattle.queue.specs.Queue.{front}
 use Rattle.queue.specs.Sound.{queued, Keyed}
 use Rattle.queue.proofs.Keys.{packed-day, priority-in}
 use Rattle.queue.proofs.Laws.{change-queued, pop-other, pop-front, front-queued, keyed-least, queued-named, requeue, unqueue}
-use Rattle.intervals.specs.Table.{Table, places, freeAt, valueAt}
+use Rattle.intervals.specs.Table.{places, freeAt, valueAt}
 use Rattle.simulation.specs.State.{State, Model, cardIn, keyOf}
 use Rattle.simulation.specs.Turn.{nextDue, putOffCard, holdCard, postponed, retired, turnAs}
 use Rattle.simulation.specs.Rules.{costs, limits}
-use Rattle.simulation.proofs.Views.{difficultyIn, lastIn, dueIn, dayIn, newIn, keyIn, view, columns}
+use Rattle.simulation.proofs.Views.{difficultyIn, dayIn, newIn, keyIn, view, columns}
 
 -- of the configuration and the number of cards, by the entry's refusals and by the types
 pub record Fine (g : SimulatorConfig) (cards : ℕ) : Type 0 where

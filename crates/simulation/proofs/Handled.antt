@@ -3,18 +3,18 @@ use mathlib.Core.Path.{_≡_, refl, sym, ap, _∙_}
 use mathlib.Core.Bool.{Bool, true, false, not, _&&_, cond}
 use mathlib.Core.List.{List, []}
 use mathlib.Core.Logic.{_≢_}
-use Prim.Native.Nat.{ℕ, suc, _+_, _-_, _*_, _^_, _≤_, _<_}
+use Prim.Native.Nat.{ℕ, suc, _+_, _-_, _≤_, _<_}
 use native.Mathlib.Decide.{ℕ-discrete}
 use native.Mathlib.Omega.{arith}
 use lib.Dec.{ltb, eqb}
-use lib.ListN.{getD, set, length, length-set}
+use lib.ListN.{getD, length, length-set}
 use lib.Seq.{getD-set-same, getD-set-other}
 use lib.IntN.{pos}
 use lib.Ieee.{Float, nan, inf, fin, binary32, add, ofInt, round, lt, eq}
 use lib.Ieee.Exact.{HasValue}
 use lib.Ieee.Back.{round-whole}
 use Rattle.turns.specs.Sums.{bit, sumTo}
-use Rattle.turns.specs.Turns.{Turn, Kind, learn, review}
+use Rattle.turns.specs.Turns.{Turn, learn, review}
 use Rattle.turns.proofs.Sums.{sum-same, sum-at, and-le, bit-le}
 use Rattle.turns.proofs.Demand.{Step}
 use Rattle.cards.specs.declared.SimulatorConfig.{SimulatorConfig}

@@ -1,9 +1,9 @@
 -- Set-up: the cards join the run one by one; then the state is as the theory of turns starts from, and good.
 use mathlib.Core.Path.{_≡_, refl, sym, ap, _∙_, subst}
 use mathlib.Core.Bool.{Bool, true, false, not, _&&_, cond, true≢false}
-use mathlib.Core.List.{List, [], _∷_}
+use mathlib.Core.List.{List, []}
 use mathlib.Core.Logic.{_≢_}
-use Prim.Native.Nat.{ℕ, zero, suc, _+_, _-_, _/_, _^_, _≤_, _<_}
+use Prim.Native.Nat.{ℕ, zero, suc, _+_, _-_, _/_, _≤_, _<_}
 use native.Mathlib.Decide.{ℕ-discrete}
 use native.Mathlib.Nat.{div-le-self}
 use native.Mathlib.Omega.{arith}
@@ -20,23 +20,20 @@ use Rattle.float32.proofs.Limits.{le-refl}
 use Rattle.turns.specs.Sums.{bit, sumTo}
 use Rattle.turns.proofs.Sums.{sum-same}
 use Rattle.turns.proofs.Columns.{SetUp}
-use Rattle.cards.specs.declared.SimulatorConfig.{SimulatorConfig}
 use Rattle.cards.specs.declared.Card.{Card}
 use Rattle.cards.specs.Day.{dayOf, newOf}
-use Rattle.cards.specs.Cards.{cardAt, writeFloats, writeCounts, isKept, dateOk, historyOk, cardOk}
+use Rattle.cards.specs.Cards.{cardAt, writeFloats, isKept, dateOk, historyOk, cardOk}
 use Rattle.cards.proofs.Later.{day-cut, whole-le}
-use Rattle.days.specs.Due.{dueDays}
-use Rattle.queue.specs.Queue.{Queue, queue, pushed}
+use Rattle.queue.specs.Queue.{queue, pushed}
 use Rattle.queue.specs.Sound.{Keyed}
 use Rattle.queue.proofs.Laws.{Filled, fill-none, fill-same, fill-next}
 use Rattle.intervals.specs.Table.{Table, places, freeAt, clearIn}
-use Rattle.intervals.proofs.Laws.{clear-places}
-use Rattle.simulation.specs.State.{State, keyOf}
+use Rattle.simulation.specs.State.{State}
 use Rattle.simulation.specs.Entry.{Inputs}
 use Rattle.simulation.specs.SetUp.{Deck, filled, newCard, joined, retained, retainCard, retain, known, create, newCards, emptied, dealt, firstCounts, firstSums, setUp}
 use Rattle.simulation.specs.Rules.{costs}
 use Rattle.simulation.proofs.Views.{dayIn, newIn, keyIn, columns}
-use Rattle.simulation.proofs.Good.{Fine, Good, write-long, else-key, else-day, else-new, own-day, own-new, own-key}
+use Rattle.simulation.proofs.Good.{Good, write-long, else-key, else-day, else-new, own-day, own-new, own-key}
 use Rattle.simulation.proofs.Handled.{counts-long}
 use Rattle.simulation.proofs.Accepted.{Accepted, both}
 

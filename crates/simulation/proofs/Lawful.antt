@@ -1,9 +1,9 @@
 -- Every turn of `next` is a step of the theory and keeps the state good; so demand 3 holds of the whole list of turns of a run, and the run comes to
 -- its end or to a refusal within cards × (span + 1) turns. Of the model one law is asked: a new interval is 1 to 36,500.
-use mathlib.Core.Path.{_≡_, refl, sym, ap, _∙_}
-use mathlib.Core.Bool.{Bool, true, false, not, _&&_, _||_, true≢false, false≢true}
+use mathlib.Core.Path.{_≡_, refl, sym}
+use mathlib.Core.Bool.{Bool, true, false, not, _&&_, _||_, false≢true}
 use mathlib.Core.List.{List, []}
-use Prim.Native.Nat.{ℕ, suc, _+_, _*_, _≤_, _<_}
+use Prim.Native.Nat.{ℕ, suc, _+_, _*_, _<_}
 use native.Mathlib.Omega.{arith}
 use borrow.Author.Tests.{eqb-false, leb-false}
 use lib.Dec.{leb, eqb}
@@ -11,7 +11,7 @@ use lib.IntN.{pos}
 use lib.Ieee.{Float, binary32, ofInt, lt, le}
 use Rattle.turns.specs.Sums.{sumTo}
 use Rattle.turns.specs.Turns.{Turn, putOff, Demand, Rows}
-use Rattle.turns.specs.Run.{Next, takes, stops, run}
+use Rattle.turns.specs.Run.{takes, stops, run}
 use Rattle.turns.proofs.Chain.{Chain, start, chain-map}
 use Rattle.turns.proofs.Moves.{few-turns}
 use Rattle.turns.proofs.Columns.{SetUp}
@@ -33,7 +33,6 @@ use Rattle.queue.specs.Queue.{front}
 use Rattle.intervals.specs.declared.Slot.{Slot}
 use Rattle.intervals.specs.declared.Slot.the-variants as slot
 use Rattle.intervals.specs.Bucket.{stabilityBucket, retentionBucket}
-use Rattle.intervals.specs.Table.{Table, places, freeAt, valueAt}
 use Rattle.intervals.specs.Schedule.{isFull, intervalOf}
 use Rattle.intervals.proofs.Schedule.{interval-all}
 use Rattle.simulation.specs.State.{State, Model, cardIn}

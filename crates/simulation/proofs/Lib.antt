@@ -6,6 +6,7 @@ pub mod First
 pub mod Accepted
 pub mod Joining
 pub mod Longer
+pub mod Tables
 pub mod Glue
 pub mod Turning
 pub mod Dealing

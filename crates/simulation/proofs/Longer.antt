@@ -1,13 +1,13 @@
 -- A run that ends Ok is followed, turn by turn, by one that differs in its interval table alone, where that is as long or longer.
-use mathlib.Core.Path.{_≡_, refl, sym, ap, _∙_, subst}
+use mathlib.Core.Path.{_≡_, refl}
 use native.Mathlib.Omega.{arith}
 use mathlib.Core.Bool.{Bool, true, false, true≢false, false≢true}
-use mathlib.Core.List.{List, []}
-use Prim.Native.Nat.{ℕ, _≤_}
+use mathlib.Core.List.{[]}
+use Prim.Native.Nat.{ℕ}
 use lib.Dec.{eqb}
 use lib.Ieee.{Float}
-use Rattle.turns.specs.Turns.{Turn, putOff, retire}
-use Rattle.turns.specs.Run.{Next, takes, stops, Reached, run}
+use Rattle.turns.specs.Turns.{Turn, putOff}
+use Rattle.turns.specs.Run.{Next, takes, stops, run}
 use Rattle.turns.proofs.Loop.{Follows, Same, run-follows}
 use Rattle.cards.specs.declared.SimulatorConfig.{SimulatorConfig}
 use Rattle.cards.specs.declared.Card.{Card}
@@ -31,7 +31,7 @@ use Rattle.intervals.specs.Schedule.{isFull, intervalOf, entered}
 use Rattle.intervals.proofs.Laws.{Twin}
 use Rattle.intervals.proofs.Schedule.{twin-slot}
 use Rattle.simulation.specs.State.{State, Model, cardIn}
-use Rattle.simulation.specs.Turn.{Stop, ended, chance, full, count, turnAs, kindAs, eventCard, retired, postponed, handled, slotFor, handleAs, eventAs, handle, orElse, act, turnOf, next}
+use Rattle.simulation.specs.Turn.{Stop, ended, count, turnAs, kindAs, retired, postponed, handled, slotFor, handleAs, eventAs, handle, orElse, act, turnOf, next}
 
 -- a state with another table
 abbrev pub withTable : State → Table → State

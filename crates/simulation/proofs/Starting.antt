@@ -1,8 +1,8 @@
 -- From the entry to the answer: what the entry's tests, the set-up's calls and the loop leave, put together over plain lists.
 use mathlib.Core.Path.{_≡_, refl, sym, ap, _∙_, subst}
-use mathlib.Core.Bool.{Bool, true, false, true≢false}
+use mathlib.Core.Bool.{Bool, true, false}
 use mathlib.Core.List.{List, [], _∷_}
-use Prim.Native.Nat.{ℕ, zero, suc, _+_, _*_, _≤_, _<_}
+use Prim.Native.Nat.{ℕ, zero, suc, _+_, _*_, _≤_}
 use native.Mathlib.Nat.{mul-le-mul}
 use native.Mathlib.Omega.{arith}
 use types.Run.{OneOf}
@@ -20,13 +20,13 @@ use Rattle.simulation.specs.declared.Refusal.the-variants as refusal
 use Rattle.simulation.specs.declared.Check.{Check}
 use Rattle.simulation.specs.declared.Check.the-variants as check
 use Rattle.simulation.specs.declared.Reach.{Reach}
-use Rattle.simulation.specs.State.{State, Model, Lists, state}
+use Rattle.simulation.specs.State.{State, Model, state}
 use Rattle.simulation.specs.Turn.{Stop, ended, chance, full, count, next}
 use Rattle.simulation.specs.Steps.{stoppedBy, answered, Ran, Done}
 use Rattle.simulation.specs.Entry.{Inputs, inputs, firstWhere, notFinite, failIf, checkParameters, checked}
-use Rattle.simulation.specs.SetUp.{Deck, deck, filled, newCard, joined, retain, known, create, newCards, emptied, dealt, firstCounts, firstSums, setUp}
+use Rattle.simulation.specs.SetUp.{Deck, deck, filled, joined, retain, known, create, newCards, emptied, dealt, firstSums, setUp}
 use Rattle.simulation.specs.Simulate.{progress, answerOf, bound, ran, finished}
-use Rattle.simulation.proofs.Accepted.{Accepted, accepted}
+use Rattle.simulation.proofs.Accepted.{accepted}
 use Rattle.simulation.proofs.Joining.{set-up-few}
 
 -- ---- refusal 1 comes before all that follows

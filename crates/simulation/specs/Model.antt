@@ -1,5 +1,4 @@
 -- The memory model of a run, from a configuration and a model's scalars. Definitions only.
-use lib.Ieee.{Float}
 use Rattle.cards.specs.declared.SimulatorConfig.{SimulatorConfig}
 use Rattle.events.specs.Scalars.{Scalars}
 use Rattle.events.specs.Events.{eventOf}

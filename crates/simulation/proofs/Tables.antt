@@ -1,0 +1,94 @@
+-- The interval table of a run is sound after every turn, so refusal 8 means what the table's law says.
+use mathlib.Core.Path.{_≡_, refl}
+use mathlib.Core.Bool.{Bool, true, false}
+use mathlib.Core.List.{List, _∷_}
+use Prim.Native.Nat.{ℕ, zero, suc}
+use lib.Dec.{eqb}
+use lib.Ieee.{Float}
+use Rattle.turns.specs.Turns.{Turn, putOff}
+use Rattle.turns.specs.Run.{Next, takes, stops, run}
+use Rattle.turns.proofs.Loop.{run-takes, run-stops}
+use Rattle.cards.specs.declared.SimulatorConfig.{SimulatorConfig}
+use Rattle.cards.specs.declared.Card.{Card}
+use Rattle.cards.specs.declared.Choice.{Choice}
+use Rattle.cards.specs.declared.Choice.the-variants as choice
+use Rattle.cards.specs.Day.{dayOf, newOf}
+use Rattle.cards.specs.Choices.{choiceOf}
+use Rattle.cards.proofs.Later.{Fair, fair-used}
+use Rattle.days.specs.Counts.{learnedAt, reviewedAt}
+use Rattle.days.specs.Sums.{costAt}
+use Rattle.days.specs.Due.{noneDue}
+use Rattle.events.specs.declared.Memory.{Memory}
+use Rattle.events.specs.declared.Event.{Event}
+use Rattle.events.specs.declared.Event.the-variants as event
+use Rattle.queue.specs.Queue.{front}
+use Rattle.intervals.specs.declared.Slot.{Slot}
+use Rattle.intervals.specs.declared.Slot.the-variants as slot
+use Rattle.intervals.specs.Bucket.{stabilityBucket, retentionBucket}
+use Rattle.intervals.specs.Schedule.{entered}
+use Rattle.intervals.proofs.Laws.{Sound}
+use Rattle.intervals.proofs.Schedule.{slot-sound}
+use Rattle.simulation.specs.State.{State, Model, cardIn}
+use Rattle.simulation.specs.Turn.{Stop, ended, count, turnAs, postponed, retired, handled, slotFor, handleAs, eventAs, handle, orElse, act, turnOf, next}
+
+module _ (g : SimulatorConfig) (m : Model) (fresh-law : (x y : Float) → Fair (m .fresh x y)) where
+  -- what a turn leaves of the table
+  abbrev After : Next (Turn Float) State Stop → Type 0
+  After (takes t s) = Sound (s .table)
+  After (stops x) = Unit {0}
+
+  module _ (s : State) (ok : Sound (s .table)) where
+    given : (c : ℕ) (k : Card) (new : Bool) (d : ℕ) (y : Memory) (x : Slot) → Sound (entered (s .table) x) → After (handleAs g m s c k new d y x)
+    unfolding handled
+    given c k new d y slot.Full h = tt
+    given c k new d y (slot.Keep v) h = h
+    given c k new d y (slot.Enter p a b v) h = h
+
+    event-after : (c : ℕ) (k : Card) (new : Bool) (d : ℕ) → After (handle g m s c k new d)
+    unfolding handle
+    event-after c k new d = go (m .event k new d (s .draws))
+      where
+        go : (e : Event) → After (eventAs g m s c k new d e)
+        go event.Chance = tt
+        go (event.Happened y) =
+            let r = k .«desired_retention» in
+            given c k new d y (slotFor g m (s .table) (y .stability) r)
+            (slot-sound (s .table) (stabilityBucket (y .stability)) (retentionBucket r) (m .certified (y .stability) r) (m .fresh (y .stability) r) (fair-used (m .fresh (y .stability) r) (fresh-law (y .stability) r)) ok)
+
+    act-after : (c : ℕ) (k : Card) (d : ℕ) (x : Choice) → After (act g m s c k d x)
+    unfolding retired postponed
+    act-after c k d choice.Retire = ok
+    act-after c k d choice.PutOff = go (noneDue (s .due) (newOf (k .«last_date»)) d)
+      where
+        go : (b : Bool) → After (orElse g m b (stops (count c)) (takes (turnAs c d putOff) (postponed g m s c k d)))
+        go true = tt
+        go false = ok
+    act-after c k d choice.Learn = event-after c k true d
+    act-after c k d choice.Review = event-after c k false d
+
+    turn-after : After (next g m s)
+    unfolding next
+    turn-after = go (eqb (s .queue .len) 0)
+      where
+        c : ℕ
+        c = front (s .queue)
+
+        k : Card
+        k = cardIn s c
+
+        d : ℕ
+        d = dayOf (k .due)
+
+        go : (b : Bool) → After (orElse g m b (stops ended) (turnOf g m s c k d))
+        go true = tt
+        go false = act-after c k d (choiceOf g k (learnedAt (s .days) d) (reviewedAt (s .days) d) (costAt (s .sums) d))
+
+  -- after any number of turns
+  pub run-sound : (n : ℕ) (ts : List (Turn Float)) (s : State) → Sound (s .table) → Sound ((run (next g m) n ts s) .state .table)
+  run-sound zero ts s ok = ok
+  run-sound (suc n) ts s ok = go (next g m s) refl (turn-after s ok) (λ t s′ h. run-sound n (t ∷ ts) s′ h)
+    where
+      go : (x : Next (Turn Float) State Stop) → next g m s ≡ x → After (next g m s) → ((t : Turn Float) (s′ : State) → Sound (s′ .table) → Sound ((run (next g m) n (t ∷ ts) s′) .state .table))
+          → Sound ((run (next g m) (suc n) ts s) .state .table)
+      go (takes t s′) e h ih = rw (run-takes (next g m) n ts s t s′ e) (ih t s′ (rw e at h))
+      go (stops x) e h ih = rw (run-stops (next g m) n ts s x e) ok
