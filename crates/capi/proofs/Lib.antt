@@ -1,0 +1,2 @@
+-- What the proofs of `capi` share.
+pub mod Telling

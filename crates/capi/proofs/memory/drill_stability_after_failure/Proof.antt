@@ -1,0 +1,18 @@
+-- `capi::memory::drill_stability_after_failure` meets its contract. Assumes nothing.
+use borrow.Author.Needs.{needs}
+use Rattle.capi.proofs.memory.drill_stability_after_failure.Statement.{statement}
+use Rattle.capi.proofs.memory.drill_stability_after_failure.Tie as tie
+use Rattle.model.proofs.Kept as Laws
+
+new-requires : tie.Need-new-requires
+new-requires c κs = search needs
+
+stability-after-failure-requires : tie.Need-stability-after-failure-requires
+stability-after-failure-requires c κs = search needs
+
+returns : tie.Need-returns
+returns c = rw (c .stability-after-failure .ensures, c .before .new .ensures) (Laws.stability _ _ _ _ _)
+
+pub drill-stability-after-failure-spec : {M : Type 1} → statement M
+drill-stability-after-failure-spec =
+    tie.close (tie.spec new-requires stability-after-failure-requires returns)

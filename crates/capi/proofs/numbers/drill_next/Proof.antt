@@ -1,0 +1,16 @@
+-- `capi::numbers::drill_next` meets its contract. Assumes nothing.
+use borrow.Author.Needs.{needs}
+use Rattle.capi.proofs.numbers.drill_next.Statement.{statement}
+use Rattle.capi.proofs.numbers.drill_next.Tie as tie
+
+new-requires : tie.Need-new-requires
+new-requires c κs = search needs
+
+next-requires : tie.Need-next-requires
+next-requires c κs = search needs
+
+returns : tie.Need-returns
+returns c = (rw (c .next .ensures .1, c .before .new .ensures), rw (c .next .ensures .0, c .before .new .ensures))
+
+pub drill-next-spec : {M : Type 1} → statement M
+drill-next-spec = tie.close (tie.spec new-requires next-requires returns)

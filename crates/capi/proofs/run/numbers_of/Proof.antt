@@ -1,0 +1,41 @@
+-- `capi::run::numbers_of` meets its contract. Assumes nothing.
+use borrow.Author.Needs.{needs}
+use Rattle.capi.proofs.run.numbers_of.Statement.{statement}
+use Rattle.capi.proofs.run.numbers_of.Tie as tie
+
+enum-known-answer : tie.Need-enum-known-answer
+enum-known-answer c = search needs
+
+numbers-from-requires : tie.Need-numbers-from-requires
+numbers-from-requires c κs = search needs
+
+enum-known-answer-2 : tie.Need-enum-known-answer-2
+enum-known-answer-2 c = search needs
+
+number-of-requires : tie.Need-number-of-requires
+number-of-requires c κs = search needs
+
+second-of-requires : tie.Need-second-of-requires
+second-of-requires c κs = search needs
+
+numbers-from-requires-2 : tie.Need-numbers-from-requires-2
+numbers-from-requires-2 c κs = search needs
+
+returns : tie.Need-returns
+returns c = rw (c .before .before .answer .given .1, c .numbers-from .ensures)
+
+returns-2 : tie.Need-returns-2
+returns-2 c = rw (c .before .before .before .before .answer2 .given .1, c .numbers-from2 .ensures, c .before .second-of .ensures, c .before .before .number-of .ensures)
+
+pub numbers-of-spec : {M : Type 1} → statement M
+numbers-of-spec =
+    tie.close
+    (tie.spec
+    enum-known-answer
+    numbers-from-requires
+    enum-known-answer-2
+    number-of-requires
+    second-of-requires
+    numbers-from-requires-2
+    returns
+    returns-2)

@@ -1,0 +1,37 @@
+-- `capi::table::drill_scheduled_interval` meets its contract. Assumes nothing.
+use borrow.Author.Needs.{needs}
+use Rattle.capi.proofs.table.drill_scheduled_interval.Statement.{statement}
+use Rattle.capi.proofs.table.drill_scheduled_interval.Tie as tie
+
+new-requires : tie.Need-new-requires
+new-requires c κs = search needs
+
+scheduled-interval-requires : tie.Need-scheduled-interval-requires
+scheduled-interval-requires c κs = search needs
+
+enter-slot-requires : tie.Need-enter-slot-requires
+enter-slot-requires c κs = search needs
+
+interval-in-requires : tie.Need-interval-in-requires
+interval-in-requires c κs = search needs
+
+same-length : tie.Need-same-length
+same-length c = search needs
+
+same-length-2 : tie.Need-same-length-2
+same-length-2 c = search needs
+
+returns : tie.Need-returns
+returns c = (rw (c .interval-in .ensures, c .before .before .before .before .before .before .before .scheduled-interval .ensures, c .before .before .before .before .before .before .before .before .before .before .new .ensures), rw (c .before .before .before .before .enter-slot .ensures, c .before .before .before .before .before .before .before .scheduled-interval .ensures, c .before .before .before .before .before .before .before .before .before .before .new .ensures))
+
+pub drill-scheduled-interval-spec : {M : Type 1} → statement M
+drill-scheduled-interval-spec =
+    tie.close
+    (tie.spec
+    new-requires
+    scheduled-interval-requires
+    enter-slot-requires
+    interval-in-requires
+    same-length
+    same-length-2
+    returns)

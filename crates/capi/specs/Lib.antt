@@ -1,0 +1,4 @@
+-- The definitions that the contracts of `capi` cite.
+pub mod Answer
+pub mod Config
+pub mod State

@@ -1,0 +1,82 @@
+// The interval table, in two lists of its keys and intervals.
+use model::Fsrs7;
+ghost use mathlib.Core.Path.{_≡_};
+ghost use lib.ListN.{length, replicate};
+ghost use Rattle.model.specs.Constants.{nought};
+ghost use Rattle.model.specs.Kept as Kept;
+ghost use Rattle.model.specs.Model as Model;
+ghost use Rattle.intervals.specs.Table.{table};
+ghost use Rattle.intervals.specs.Bucket.{pattern, bucketIndex, stabilityBucket, retentionBucket};
+ghost use Rattle.intervals.specs.Schedule.{certifies, slotOf, intervalOf, entered};
+
+#[no_mangle]
+pub extern "C" fn drill_bucket_index(value: f32, step: f32) -> u32
+    ensures { λ r. ⌜ r ≡ pattern (bucketIndex value step) ⌝ }
+{
+    intervals::bucket_index(value, step)
+}
+
+#[no_mangle]
+pub extern "C" fn drill_stability_bucket(stability: f32) -> u32
+    ensures { λ r. ⌜ r ≡ stabilityBucket stability ⌝ }
+{
+    intervals::stability_bucket(stability)
+}
+
+#[no_mangle]
+pub extern "C" fn drill_retention_bucket(retention: f32) -> u32
+    ensures { λ r. ⌜ r ≡ retentionBucket retention ⌝ }
+{
+    intervals::retention_bucket(retention)
+}
+
+#[no_mangle]
+pub extern "C" fn drill_certifies_rounded_interval(
+    w: &[f32],
+    stability: f32,
+    retention: f32,
+    interval: f32,
+    most: f32,
+) -> bool
+    ensures { λ r. ⌜ r ≡ certifies (Kept.retention (Kept.curveOf (Kept.newOf (now (w .entry)) .curve) (Model.ofStability stability))) stability retention interval most ⌝ }
+{
+    intervals::certifies_rounded_interval(
+        Fsrs7::new(w).curve(stability),
+        stability,
+        retention,
+        interval,
+        most,
+    )
+}
+
+// The interval that is scheduled, entered where the table did not serve; a NaN, and nothing entered, where it is full.
+#[no_mangle]
+pub extern "C" fn drill_scheduled_interval(
+    w: &[f32],
+    stability: f32,
+    retention: f32,
+    most: f32,
+    keys: &mut [[u32; 2]],
+    intervals: &mut [f32],
+) -> f32
+    ensures { λ r. ⌜ r ≡ intervalOf (slotOf (Kept.newOf (now (w .entry))) stability retention most (table (now (keys .entry)) (now (intervals .entry)))) ⌝ }
+    ensures { λ _. ⌜ table (now (keys .exit)) (now (intervals .exit)) ≡ entered (table (now (keys .entry)) (now (intervals .entry))) (slotOf (Kept.newOf (now (w .entry))) stability retention most (table (now (keys .entry)) (now (intervals .entry)))) ⌝ }
+{
+    let slot = intervals::scheduled_interval(
+        Fsrs7::new(w),
+        stability,
+        retention,
+        most,
+        keys,
+        intervals,
+    );
+    intervals::enter_slot(keys, intervals, slot);
+    intervals::interval_in(slot)
+}
+
+#[no_mangle]
+pub extern "C" fn drill_clear(intervals: &mut [f32])
+    ensures { λ _. ⌜ now (intervals .exit) ≡ replicate (length (now (intervals .entry))) nought ⌝ }
+{
+    intervals::clear(intervals);
+}
