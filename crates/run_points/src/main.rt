@@ -83,6 +83,13 @@ fn show(progress: Progress) {
     io::write_all(1, b"\n");
 }
 
+fn show_refusal(refusal: Refusal) {
+    io::write_all(1, b"refused");
+    number(number_of(refusal));
+    number(second_of(refusal));
+    io::write_all(1, b"\n");
+}
+
 fn day(counts: [u32; 4], sums: [f32; 2]) {
     io::write_all(1, b"day");
     number(counts[0]);
@@ -129,21 +136,51 @@ fn forecast(deck_size: u32, learn_span: u32) {
             day(days[1], sums[1]);
             day(days[9], sums[9]);
         }
-        Answer::Refused(refusal, _) => {
-            io::write_all(1, b"refused");
-            number(number_of(refusal));
-            number(second_of(refusal));
-            io::write_all(1, b"\n");
-        }
+        Answer::Refused(refusal, _) => show_refusal(refusal),
+    }
+}
+
+// The same with lists as long as the largest deck and the longest span need; the days are not shown.
+fn at_the_limits(deck_size: u32, learn_span: u32) {
+    let mut cards: [[f32; 6]; 65536] = [[0.0; 6]; 65536];
+    let mut counts: [[u32; 2]; 65536] = [[0; 2]; 65536];
+    let mut rows: [[u64; 2]; 65536] = [[0; 2]; 65536];
+    let mut days: [[u32; 4]; 36500] = [[0; 4]; 36500];
+    let mut sums: [[f32; 2]; 36500] = [[0.0; 2]; 36500];
+    let mut due: [u32; 54750] = [0; 54750];
+    let mut keys: [[u32; 2]; 20000] = [[0; 2]; 20000];
+    let mut intervals: [f32; 20000] = [0.0; 20000];
+    let parameters: [f32; 34] = [0.5; 34];
+    let existing: [[f32; 6]; 0] = [[0.0; 6]; 0];
+    let existing_counts: [[u32; 2]; 0] = [[0; 2]; 0];
+    let answer = simulation::simulate(
+        &mut cards,
+        &mut counts,
+        &mut rows,
+        &mut days,
+        &mut sums,
+        &mut due,
+        &mut keys,
+        &mut intervals,
+        &parameters,
+        &existing,
+        &existing_counts,
+        config(deck_size, learn_span),
+        0.9,
+        42,
+    );
+    match answer {
+        Answer::Finished(progress) => show(progress),
+        Answer::Refused(refusal, _) => show_refusal(refusal),
     }
 }
 
 fn main() {
     forecast(2, 1);
     forecast(8, 10);
-    forecast(65536, 1);
-    forecast(65537, 1);
-    forecast(2, 0);
-    forecast(2, 36500);
-    forecast(2, 36501);
+    at_the_limits(65536, 1);
+    at_the_limits(65537, 1);
+    at_the_limits(2, 0);
+    at_the_limits(2, 36500);
+    at_the_limits(2, 36501);
 }
