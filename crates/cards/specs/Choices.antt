@@ -1,4 +1,4 @@
--- What a turn does with the queue's first card (document 01, "A turn looks at the queue's first card"). Definitions only.
+-- What a turn does with the queue's first card (the rules of a turn). Definitions only.
 use Prim.Native.Nat.{ℕ, _+_}
 use mathlib.Core.Bool.{Bool, true, false, not, _&&_, _||_}
 use lib.Dec.{leb}

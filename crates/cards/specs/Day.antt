@@ -1,4 +1,4 @@
--- A card's day (document 01: "Day = max(due, 0) with its fraction dropped"), and when it is new. Definitions only.
+-- A card's day (its due date in whole days, 0 where that is past), and when it is new. Definitions only.
 use Prim.Native.Nat.{ℕ}
 use mathlib.Core.Bool.{Bool, true}
 use lib.Ieee.{Float, inf, ofBits, binary32, toUnsigned, eq}
