@@ -5,7 +5,7 @@ use Prim.Native.Nat.{ℕ, _*_, _%_, _≤_, _<_}
 use native.Mathlib.Omega.{arith}
 use lib.Dec.{T, ltb, ltb→lt, nltb→le, not-T}
 use lib.IntN.{pos}
-use lib.Ieee.{Float, nan, inf, fin, binary32, ne, isNan, nanBits, ofBits, toBits, fits}
+use lib.Ieee.{Float, nan, inf, fin, binary32, eq, ne, isNan, nanBits, ofBits, toBits, fits}
 use lib.Ieee.Bits.{nanBits-above, nanBits-is, ofBits-toBits}
 use lib.Ieee.Compare.{differs-from-itself, nan-differs}
 use lib.Ieee.Exact.{HasValue}
@@ -21,6 +21,10 @@ unfolding isNan
 is-number nan h = subst T (sym nan-differs ∙ h) tt
 is-number (inf s) h = tt
 is-number (fin s m e) h = tt
+
+pub equals-itself : (x : Float) → eq x x ≡ true → T (not (isNan x))
+unfolding ne
+equals-itself x h = is-number x (ap not h)
 
 -- NaN's own pattern is above the infinity's
 pub number-of-bits : (x : Float) → toBits binary32 x % 2147483648 ≤ 2139095040 → T (not (isNan x))

@@ -2,9 +2,11 @@
 // definition (specs/Exp, Ln, Pow) and how near that is to the exact value (specs/Accuracy).
 
 mod exp;
+mod from_one;
 mod ln;
 mod powf;
 
 pub use exp::exp_f32;
+pub use from_one::powf_from_one;
 pub use ln::ln_f32;
 pub use powf::powf_f32;

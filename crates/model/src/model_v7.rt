@@ -3,6 +3,7 @@
 use elementary::exp_f32;
 use elementary::ln_f32;
 use elementary::powf_f32;
+use elementary::powf_from_one;
 use float32::abs;
 use float32::clamp;
 use float32::is_finite;
@@ -216,7 +217,7 @@ fn after_failing(p: StabilityParameters, s: f32, r: f32) -> f32
 {
     min(
         s,
-        p.w10 * (powf_f32(s + 1.0, p.w11) - 1.0) * exp_f32((1.0 - r) * p.w12),
+        p.w10 * (powf_from_one(s + 1.0, p.w11) - 1.0) * exp_f32((1.0 - r) * p.w12),
     )
 }
 
@@ -335,8 +336,8 @@ impl Curve {
     fn weighted(self, t: f32) -> f32
         ensures { λ r. ⌜ r ≡ Kept.weighted self t ⌝ }
     {
-        self.weight1 * powf_f32(base(self.factor1, t, self.fast), self.decay1)
-            + self.weight2 * powf_f32(base(self.rate2, t, self.stability), self.decay2)
+        self.weight1 * powf_from_one(base(self.factor1, t, self.fast), self.decay1)
+            + self.weight2 * powf_from_one(base(self.rate2, t, self.stability), self.decay2)
     }
 
     // The chance of recall after t days.
@@ -355,7 +356,9 @@ impl Curve {
     fn first_slope(self, t: f32) -> f32
         ensures { λ r. ⌜ r ≡ Kept.slope1 self t ⌝ }
     {
-        self.decay1 * powf_f32(base(self.factor1, t, self.fast), self.decay1 - 1.0) * self.factor1
+        self.decay1
+            * powf_from_one(base(self.factor1, t, self.fast), self.decay1 - 1.0)
+            * self.factor1
             / self.fast
     }
 
@@ -363,7 +366,7 @@ impl Curve {
         ensures { λ r. ⌜ r ≡ Kept.slope2 self t ⌝ }
     {
         self.decay2
-            * powf_f32(base(self.rate2, t, self.stability), self.decay2 - 1.0)
+            * powf_from_one(base(self.rate2, t, self.stability), self.decay2 - 1.0)
             * self.factor2
             * self.timescale
             / self.stability

@@ -233,7 +233,7 @@ unfolding powAt
 at-num b c n m h = simp (ne-eqb (c % 2147483648) 0 n, ne-eqb b 1065353216 m, le-ltb 2147483648 b h)
 
 -- 1^y by the recipe
-one-near : (a : ℕ) → nearArg 549755813888 a ≡ 3196577161300672512
+pub one-near : (a : ℕ) → nearArg 549755813888 a ≡ 3196577161300672512
 unfolding nearArg
 one-near a =
     let m = a % 8388608 + 8388608 in
@@ -257,7 +257,7 @@ one-far a =
     ∙ ap (placed 549755813888) (grown-none (farShift a))
     ∙ placed-above 549755813888 0 (lit≤ tt)
 
-one-turned : (t : Bool) → turned t 549755813888 ≡ 549755813888
+pub one-turned : (t : Bool) → turned t 549755813888 ≡ 549755813888
 unfolding turned
 one-turned true = refl
 one-turned false = refl
@@ -266,7 +266,7 @@ log-one : logOf 1065353216 ≡ 549755813888
 unfolding logOf
 log-one = refl
 
-one-z : zBits 3196577161300672512 ≡ 1065353216
+pub one-z : zBits 3196577161300672512 ≡ 1065353216
 unfolding zBits
 one-z = refl
 

@@ -36,7 +36,7 @@ pub record Log (x : Float) (s : Bool) (w : ℕ) : Type 0 where
   pub side : Side s w
 
 -- logOf from the exponent and the significand of x
-abbrev round-at : ℕ → ℕ → ℕ
+abbrev pub round-at : ℕ → ℕ → ℕ
 round-at n m = (n * 3121657384082679 + lnMant m + 80117228234801815) / 1048576
 
 up-case : (x : Float) (u n m : ℕ) → 0 < u → HasValue x false u (2 ^ 149) → 8388608 ≤ m → m < 16777216 → 159 ≤ n → n ≤ 286 → u * 8388608 ≡ 2 ^ (n - 159) * m * 2 ^ 149 → Log x (ltb n 159) (round-at n m)
@@ -97,7 +97,7 @@ same b p = go (lt-or-ge b 8388608) (lt-or-ge b 1065353216)
     go (inr k) (inl l) = lt-ltb (exponent b) 159 (rw (exponent-normal b k) (omega arith)) ∙ sym (lt-ltb b 1065353216 l)
     go (inr k) (inr l) = le-ltb (exponent b) 159 (rw (exponent-normal b k) (omega arith)) ∙ sym (le-ltb b 1065353216 l)
 
-log-is : (b : ℕ) → logOf b ≡ round-at (exponent b) (significand b)
+pub log-is : (b : ℕ) → logOf b ≡ round-at (exponent b) (significand b)
 unfolding logOf lnFixed lnWide
 log-is b = refl
 

@@ -48,13 +48,13 @@ pub record Arg (b : Bool) (Z : ℕ) (m d P : ℕ) : Type 0 where
   pub lo : v * P ≤ m * d + P
   pub hi : m * d ≤ v * P + P
 
-module _ (m d g s : ℕ) (M : m ≤ 16777216) (S : s ≤ 63) (MP : m ≤ 4194304 * 2 ^ s) (D : d ≤ 446676598784) where
-  H-is : 9223372036854775808 / 2 ^ s * 2 ^ s ≡ 9223372036854775808
-  H-is =
-      let e : 63 - s + s ≡ 63 = omega arith in
-      let k : 2 ^ (63 - s) * 2 ^ s ≡ 9223372036854775808 = sym (pow-add 2 (63 - s) s) ∙ ap (λ (i : ℕ). 2 ^ i) e in
-      ap (λ (i : ℕ). i * 2 ^ s) (ap (λ (i : ℕ). i / 2 ^ s) (sym k) ∙ shl-shr (2 ^ (63 - s)) s) ∙ k
+pub top-cut : (s : ℕ) → s ≤ 63 → 9223372036854775808 / 2 ^ s * 2 ^ s ≡ 9223372036854775808
+top-cut s S =
+    let e : 63 - s + s ≡ 63 = omega arith in
+    let k : 2 ^ (63 - s) * 2 ^ s ≡ 9223372036854775808 = sym (pow-add 2 (63 - s) s) ∙ ap (λ (i : ℕ). 2 ^ i) e in
+    ap (λ (i : ℕ). i * 2 ^ s) (ap (λ (i : ℕ). i / 2 ^ s) (sym k) ∙ shl-shr (2 ^ (63 - s)) s) ∙ k
 
+module _ (m d g s : ℕ) (M : m ≤ 16777216) (S : s ≤ 63) (MP : m ≤ 4194304 * 2 ^ s) (D : d ≤ 446676598784) where
   bound : m * d ≤ 1873497444986126336 * 2 ^ s
   bound = le-trans (mul-le-mul MP D) (le-of-eq (go (2 ^ s)))
     where
@@ -65,7 +65,7 @@ module _ (m d g s : ℕ) (M : m ≤ 16777216) (S : s ≤ 63) (MP : m ≤ 4194304
       → Arg false ((m * g + (16777216 - m) * 549755813888) / 2 ^ s + 3196577161300672512 - 9223372036854775808 / 2 ^ s) m d (2 ^ s)
   same-arg G =
       let A : m * g + (16777216 - m) * 549755813888 ≡ 9223372036854775808 + m * d = rw G (omega arith) in
-      rw A (go (2 ^ s) ((9223372036854775808 + m * d) / 2 ^ s) (9223372036854775808 / 2 ^ s) H-is (div-mul-le-self (9223372036854775808 + m * d) (2 ^ s)) (lt-div-mul-add (pow-pos s)) (shr-mono s less))
+      rw A (go (2 ^ s) ((9223372036854775808 + m * d) / 2 ^ s) (9223372036854775808 / 2 ^ s) (top-cut s S) (div-mul-le-self (9223372036854775808 + m * d) (2 ^ s)) (lt-div-mul-add (pow-pos s)) (shr-mono s less))
     where
       less : 9223372036854775808 ≤ 9223372036854775808 + m * d
       less = omega arith
@@ -86,7 +86,7 @@ module _ (m d g s : ℕ) (M : m ≤ 16777216) (S : s ≤ 63) (MP : m ≤ 4194304
       let B = bound in
       let A : m * g + (16777216 - m) * 549755813888 + m * d ≡ 9223372036854775808 = omega (arith, ap (λ (i : ℕ). m * i) G) in
       let N = m * g + (16777216 - m) * 549755813888 in
-      go (2 ^ s) N (N / 2 ^ s) (9223372036854775808 / 2 ^ s) (pow-pos s) A H-is B (div-mul-le-self N (2 ^ s)) (lt-div-mul-add (pow-pos s)) (shr-mono s (less N A))
+      go (2 ^ s) N (N / 2 ^ s) (9223372036854775808 / 2 ^ s) (pow-pos s) A (top-cut s S) B (div-mul-le-self N (2 ^ s)) (lt-div-mul-add (pow-pos s)) (shr-mono s (less N A))
     where
       less : (N : ℕ) → N + m * d ≡ 9223372036854775808 → N ≤ 9223372036854775808
       less N A = omega arith
