@@ -1,6 +1,6 @@
 -- One turn of each of the solvers' loops, counted down. Assumes nothing.
 use mathlib.Core.Path.{_≡_, refl, ap}
-use mathlib.Core.Bool.{true, false, cond, _&&_}
+use mathlib.Core.Bool.{Bool, true, false, cond, _&&_}
 use Prim.Native.Nat.{ℕ, zero, suc, _-_, _≤_, _<_}
 use native.Mathlib.Omega.{arith}
 use lib.Ieee.{Float, lt}
@@ -11,6 +11,10 @@ use Rattle.model.specs.Model.{newton, doubled, halved}
 
 less-one : (n : ℕ) → n ≡ suc n - 1
 less-one n = omega arith
+
+either : (b : Bool) (x : Float) → cond b x x ≡ x
+either true x = refl
+either false x = refl
 
 module _ (f : Float → Float) where
   pub newton-on : (n : ℕ) (u : Float) → 0 < n → Float32.isFinite (f u) ≡ true → newton n f u ≡ newton (n - 1) f (f u)
@@ -36,6 +40,12 @@ module _ (f : Float → Float) where
     where
       no : suc n ≤ 0 → ⊥
       no p = omega arith
+
+  -- a step that changes nothing: nor does any further one
+  pub newton-still : (n : ℕ) (u : Float) → f u ≡ u → newton n f u ≡ u
+  unfolding newton
+  newton-still zero u e = refl
+  newton-still (suc n) u e = rw (e, newton-still n u e) (either (Float32.isFinite u) u)
 
   module _ (r : Float) where
     pub doubled-on : (n : ℕ) (h : Float) → 0 < n → (lt r (f h) && lt h sMax) ≡ true → doubled n f r h ≡ doubled (n - 1) f r (Float32.min (h *ᶠ two) sMax)

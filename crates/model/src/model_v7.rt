@@ -11,11 +11,12 @@ use float32::max;
 use float32::min;
 use float32::mul_add;
 use float32::round;
+use float32::to_bits;
 use std::num::nearest_u32_to_f32;
 ghost use mathlib.Core.Path.{_≡_};
 ghost use Prim.Native.Nat.{_+_, _-_, _*_};
 ghost use lib.ListN.{getD};
-ghost use mathlib.Core.Bool.{cond, _&&_};
+ghost use mathlib.Core.Bool.{true, cond, _&&_};
 ghost use lib.Dec.{eqb};
 ghost use lib.Ieee.{nan, binary32, ofBits, lt, le};
 ghost use Rattle.float32.specs.Float32 as Float32;
@@ -400,7 +401,7 @@ impl Curve {
         stepped(desired, u, t, slope.retention, slope.derivative)
     }
 
-    // Seven steps, but none after one that is not finite.
+    // Seven steps, but none after one that is not finite. One that changes nothing ends them: so would all after it.
     fn newton(self, desired: f32, start: f32) -> f32
         ensures { λ r. ⌜ r ≡ Model.newton 7 (Kept.newtonStep self desired) start ⌝ }
     {
@@ -409,7 +410,11 @@ impl Curve {
         let mut u = start;
         let mut left: u32 = 7;
         while left > 0 {
-            u = self.newton_step(least, most, desired, u);
+            let next = self.newton_step(least, most, desired, u);
+            if same(next, u) {
+                return next;
+            }
+            u = next;
             if is_finite(u) {
                 left -= 1;
             } else {
@@ -519,6 +524,13 @@ fn choose(test: bool, x: f32, y: f32) -> f32
     ensures { λ r. ⌜ r ≡ cond test x y ⌝ }
 {
     if test { x } else { y }
+}
+
+// Whether two floats are the same one: 0.0 and -0.0 are two, and NaN is one.
+fn same(x: f32, y: f32) -> bool
+    ensures { λ r. ⌜ (r ≡ true → x ≡ y) × (x ≡ y → r ≡ true) ⌝ }
+{
+    to_bits(x) == to_bits(y)
 }
 
 fn stepped(desired: f32, u: f32, t: f32, retention: f32, derivative: f32) -> f32

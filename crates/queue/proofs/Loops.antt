@@ -1,6 +1,6 @@
 -- One turn of each of the heap's loops as equations of the definitions. The code keeps the moving row aside and writes one row a level; put at the place
 -- that is left, it makes each such write an exchange. Assumes nothing.
-use mathlib.Core.Path.{_≡_, refl, sym, _∙_}
+use mathlib.Core.Path.{_≡_, refl, sym, ap, _∙_}
 use mathlib.Core.List.{List, [], _∷_}
 use mathlib.Core.Bool.{Bool, true, false, _&&_}
 use mathlib.Core.Logic.{_≢_}
@@ -11,7 +11,7 @@ use borrow.Author.Tests.{lt-ltb, le-ltb, le-leb, lt-leb, eq-eqb, ne-eqb}
 use lib.ListN.{getD, set, length, List·getD-eq-default}
 use lib.Seq.{getD-set-same, getD-set-other, set-set}
 use lib.Dec.{ltb}
-use Rattle.queue.specs.Queue.{keyAt, cardAt, parent, swap, rise, bubbleUp, lesser, least, lesserChild, sink, heapify, queue, hasRoom, hasFront, pushed, popped, rekeyed, frontChanged}
+use Rattle.queue.specs.Queue.{keyAt, cardAt, parent, swap, rise, bubbleUp, lesser, least, sink, heapify, queue, hasRoom, hasFront, pushed, popped, rekeyed, frontChanged}
 
 -- an exchange of the moving row with the one at q
 hole : (rows : List (List ℕ)) (row : List ℕ) (pos q : ℕ) → pos < length rows → q ≢ pos
@@ -99,14 +99,6 @@ pub least-one : (rows : List (List ℕ)) (len pos : ℕ) → len ≤ 2 * pos + 2
 unfolding least
 least-one rows len pos l = rw (le-ltb (2 * pos + 2) len l)
 
-pub child-two : (rows : List (List ℕ)) (len left right : ℕ) → right ≡ left + 1 → right < len → lesserChild rows len left ≡ lesser rows left right
-unfolding lesserChild
-child-two rows len left right e l = rw (e, lt-ltb (left + 1) len (omega arith))
-
-pub child-one : (rows : List (List ℕ)) (len left : ℕ) → len ≤ left + 1 → lesserChild rows len left ≡ left
-unfolding lesserChild
-child-one rows len left l = rw (le-ltb (left + 1) len l)
-
 -- the place of least key, where the moving row is put at pos: pos itself, if the lesser child's key is not less, else that child
 module _ (rows : List (List ℕ)) (row : List ℕ) (len pos : ℕ) (room : 2 * pos + 1 < len) (within : len ≤ length rows) where
   abbrev v : List (List ℕ)
@@ -127,6 +119,13 @@ module _ (rows : List (List ℕ)) (row : List ℕ) (len pos : ℕ) (room : 2 * p
   at-right : keyAt v right ≡ keyAt rows right
   at-right = key-other rows row pos right (omega arith)
 
+  -- the left child alone
+  one-stays : len ≤ right → getD row 0 0 ≤ keyAt rows left → least v len pos ≡ pos
+  one-stays l h = least-one v len pos l ∙ lesser-no v pos left (omega (arith, own, at-left))
+
+  one-moves : len ≤ right → keyAt rows left < getD row 0 0 → least v len pos ≡ left
+  one-moves l h = least-one v len pos l ∙ lesser-yes v pos left (omega (arith, own, at-left))
+
   -- both children: left first, then right against the better of the two
   both-stay : right < len → getD row 0 0 ≤ keyAt rows left → getD row 0 0 ≤ keyAt rows right → least v len pos ≡ pos
   both-stay l a b =
@@ -145,38 +144,29 @@ module _ (rows : List (List ℕ)) (row : List ℕ) (len pos : ℕ) (room : 2 * p
       at (yes d) = rw (lesser-yes v pos left (omega (arith, own, at-left))) (lesser-yes v left right (omega (arith, at-left, at-right)))
       at (no d) = rw (lesser-no v pos left (omega (arith, own, at-left))) (lesser-yes v pos right (omega (arith, own, at-right)))
 
-  pub least-stays : getD row 0 0 ≤ keyAt rows (lesserChild rows len left) → least v len pos ≡ pos
-  least-stays h = at (decLt right len) (decLt (keyAt rows right) (keyAt rows left))
+  two-stays : right < len → getD row 0 0 ≤ keyAt rows (lesser rows left right) → least v len pos ≡ pos
+  two-stays l h = at (decLt (keyAt rows right) (keyAt rows left))
     where
-      at : Dec (right < len) → Dec (keyAt rows right < keyAt rows left) → least v len pos ≡ pos
-      at (yes l) (yes d) =
-          let e : lesserChild rows len left ≡ right = child-two rows len left right (omega arith) l ∙ lesser-yes rows left right d in
-          let h′ : getD row 0 0 ≤ keyAt rows right = rw e at h in
+      at : Dec (keyAt rows right < keyAt rows left) → least v len pos ≡ pos
+      at (yes d) =
+          let h′ : getD row 0 0 ≤ keyAt rows right = rw (lesser-yes rows left right d) at h in
           both-stay l (omega arith) h′
-      at (yes l) (no d) =
-          let e : lesserChild rows len left ≡ left = child-two rows len left right (omega arith) l ∙ lesser-no rows left right (omega arith) in
-          let h′ : getD row 0 0 ≤ keyAt rows left = rw e at h in
+      at (no d) =
+          let h′ : getD row 0 0 ≤ keyAt rows left = rw (lesser-no rows left right (omega arith)) at h in
           both-stay l h′ (omega arith)
-      at (no l) d =
-          let h′ : getD row 0 0 ≤ keyAt rows left = rw (child-one rows len left (omega arith)) at h in
-          least-one v len pos (omega arith) ∙ lesser-no v pos left (omega (arith, own, at-left))
 
-  pub least-moves : keyAt rows (lesserChild rows len left) < getD row 0 0 → least v len pos ≡ lesserChild rows len left
-  least-moves h = at (decLt right len) (decLt (keyAt rows right) (keyAt rows left))
+  two-moves : right < len → keyAt rows (lesser rows left right) < getD row 0 0 → least v len pos ≡ lesser rows left right
+  two-moves l h = at (decLt (keyAt rows right) (keyAt rows left))
     where
-      at : Dec (right < len) → Dec (keyAt rows right < keyAt rows left) → least v len pos ≡ lesserChild rows len left
-      at (yes l) (yes d) =
-          let e : lesserChild rows len left ≡ right = child-two rows len left right (omega arith) l ∙ lesser-yes rows left right d in
+      at : Dec (keyAt rows right < keyAt rows left) → least v len pos ≡ lesser rows left right
+      at (yes d) =
+          let e : lesser rows left right ≡ right = lesser-yes rows left right d in
           let h′ : keyAt rows right < getD row 0 0 = rw e at h in
           both-right l h′ d ∙ sym e
-      at (yes l) (no d) =
-          let e : lesserChild rows len left ≡ left = child-two rows len left right (omega arith) l ∙ lesser-no rows left right (omega arith) in
+      at (no d) =
+          let e : lesser rows left right ≡ left = lesser-no rows left right (omega arith) in
           let h′ : keyAt rows left < getD row 0 0 = rw e at h in
           both-left l h′ (omega arith) ∙ sym e
-      at (no l) d =
-          let e : lesserChild rows len left ≡ left = child-one rows len left (omega arith) in
-          let h′ : keyAt rows left < getD row 0 0 = rw e at h in
-          least-one v len pos (omega arith) ∙ lesser-yes v pos left (omega (arith, own, at-left)) ∙ sym e
 
 -- ---- heapify
 lesser-range : (rows : List (List ℕ)) (i j a b : ℕ) → a ≤ i → a ≤ j → i < b → j < b → (a ≤ lesser rows i j) × (lesser rows i j < b)
@@ -195,13 +185,6 @@ least-range rows len pos l = at (decLt (2 * pos + 2) len)
     at : Dec (2 * pos + 2 < len) → (pos ≤ least rows len pos) × (least rows len pos < len)
     at (yes d) = rw (least-two rows len pos d) (lesser-range rows (lesser rows pos (2 * pos + 1)) (2 * pos + 2) pos len (first .0) (omega arith) (first .1) d)
     at (no d) = rw (least-one rows len pos (omega arith)) first
-
-pub child-range : (rows : List (List ℕ)) (len left : ℕ) → left < len → (left ≤ lesserChild rows len left) × (lesserChild rows len left < len)
-child-range rows len left l = at (decLt (left + 1) len)
-  where
-    at : Dec (left + 1 < len) → (left ≤ lesserChild rows len left) × (lesserChild rows len left < len)
-    at (yes d) = rw (child-two rows len left (left + 1) refl d) (lesser-range rows left (left + 1) left len (omega arith) (omega arith) l d)
-    at (no d) = rw (child-one rows len left (omega arith)) (omega arith)
 
 pub sink-stop : (n : ℕ) (rows : List (List ℕ)) (len pos : ℕ) → (2 * pos + 1 < len → least rows len pos ≡ pos) → sink n rows len pos ≡ rows
 unfolding sink
@@ -242,30 +225,49 @@ sink-step rows (suc n) pos l ne =
     let next = least rows (suc n) pos in
     sink-more n rows (suc n) pos l ne ∙ sink-fuel n (suc n) (swap rows pos next) (suc n) next (omega arith) (omega arith)
 
--- one turn of heapify's loop, where the lesser child's key is less
-pub sink-turn : (rows : List (List ℕ)) (row : List ℕ) (len pos next : ℕ) (s : List (List ℕ))
-    → sink len (set rows pos row) len pos ≡ s
-    → 2 * pos + 1 < len
-    → len ≤ length rows
-    → next ≡ lesserChild rows len (2 * pos + 1)
-    → keyAt rows next < getD row 0 0
-    → sink len (set (set rows pos (getD rows next [])) next row) len next ≡ s
-sink-turn rows row len pos next s e l w en less =
-    let r = child-range rows len (2 * pos + 1) l in
-    let less′ : keyAt rows (lesserChild rows len (2 * pos + 1)) < getD row 0 0 = rw en at less in
-    let m : least (set rows pos row) len pos ≡ next = least-moves rows row len pos l w less′ ∙ sym en in
+-- the moving row changes places with the one at next
+sink-moves : (rows : List (List ℕ)) (row : List ℕ) (len pos next : ℕ) → 2 * pos + 1 < len → len ≤ length rows → pos < next
+    → least (set rows pos row) len pos ≡ next
+    → sink len (set (set rows pos (getD rows next [])) next row) len next ≡ sink len (set rows pos row) len pos
+sink-moves rows row len pos next l w p m =
     let ne : next ≢ pos = omega arith in
     rw (← hole rows row pos next (omega arith) ne)
-    (sym (rw m at (sink-step (set rows pos row) len pos l (λ z. ne (sym m ∙ z)))) ∙ e)
+    (sym (rw m at (sink-step (set rows pos row) len pos l (λ z. ne (sym m ∙ z)))))
 
--- the loop ends where there is no child, or none with a lesser key
-pub sink-end : (rows : List (List ℕ)) (row : List ℕ) (len pos : ℕ) (s : List (List ℕ))
-    → sink len (set rows pos row) len pos ≡ s
-    → len ≤ length rows
-    → (2 * pos + 1 < len → getD row 0 0 ≤ keyAt rows (lesserChild rows len (2 * pos + 1)))
-    → set rows pos row ≡ s
-sink-end rows row len pos s e w stop =
-    sym (sink-stop len (set rows pos row) len pos (λ l. least-stays rows row len pos l w (stop l))) ∙ e
+-- heapify's loop, at a place pos with the children left and left + 1
+module _ (rows : List (List ℕ)) (row : List ℕ) (len pos left next : ℕ) (s : List (List ℕ))
+    (e : sink len (set rows pos row) len pos ≡ s)
+    (place : left ≡ 2 * pos + 1)
+    (both : left + 1 < len)
+    (within : len ≤ length rows)
+    (child : next ≡ lesser rows left (left + 1)) where
+  lesser-is : lesser rows left (left + 1) ≡ lesser rows (2 * pos + 1) (2 * pos + 2)
+  lesser-is = rw place (ap (lesser rows (2 * pos + 1)) (omega arith))
+
+  -- one turn, where the lesser child's key is less
+  pub sink-turn : left ≤ next → keyAt rows next < getD row 0 0 → sink len (set (set rows pos (getD rows next [])) next row) len next ≡ s
+  sink-turn g less =
+      let less′ : keyAt rows (lesser rows (2 * pos + 1) (2 * pos + 2)) < getD row 0 0 = rw (child, lesser-is) at less in
+      let m : least (set rows pos row) len pos ≡ next = two-moves rows row len pos (omega arith) within (omega arith) less′ ∙ sym (child ∙ lesser-is) in
+      sink-moves rows row len pos next (omega arith) within (omega arith) m ∙ e
+
+  -- the end, where it is not
+  pub sink-rests : getD row 0 0 ≤ keyAt rows next → set rows pos row ≡ s
+  sink-rests stop =
+      let stop′ : getD row 0 0 ≤ keyAt rows (lesser rows (2 * pos + 1) (2 * pos + 2)) = rw (child, lesser-is) at stop in
+      sym (sink-stop len (set rows pos row) len pos (λ l. two-stays rows row len pos l within (omega arith) stop′)) ∙ e
+
+-- at a place with at most one child, left
+module _ (rows : List (List ℕ)) (row : List ℕ) (len pos left : ℕ) (place : left ≡ 2 * pos + 1) (last : len ≤ left + 1) (within : len ≤ length rows) where
+  pub only-moves : left < len → keyAt rows left < getD row 0 0 → set (set rows pos (getD rows left [])) left row ≡ sink len (set rows pos row) len pos
+  only-moves l less =
+      let less′ : keyAt rows (2 * pos + 1) < getD row 0 0 = rw place at less in
+      let m : least (set rows pos row) len pos ≡ left = one-moves rows row len pos (omega arith) within (omega arith) less′ ∙ sym place in
+      sym (sink-stop len (set (set rows pos (getD rows left [])) left row) len left (λ z. absurd (omega arith))) ∙ sink-moves rows row len pos left (omega arith) within (omega arith) m
+
+  pub only-rests : (left < len → getD row 0 0 ≤ keyAt rows left) → set rows pos row ≡ sink len (set rows pos row) len pos
+  only-rests stop =
+      sym (sink-stop len (set rows pos row) len pos (λ l. one-stays rows row len pos l within (omega arith) (rw place at (stop (omega arith)))))
 
 -- ---- the operations, by the tests that the code makes
 and-false : (a : Bool) → (a && false) ≡ false

@@ -1,9 +1,9 @@
 // The queue of cards: rows of an order key and a card number in heap order, in a list that the caller lends, the smallest
 // key first. Every function takes any list: a length beyond the list, or a full list, leaves the queue as it is.
 ghost use mathlib.Core.Path.{_≡_};
-ghost use Prim.Native.Nat.{_-_, _^_, _<_, _≤_, min};
+ghost use Prim.Native.Nat.{_+_, _-_, _*_, _^_, _<_, _≤_, min};
 ghost use lib.ListN.{set, length};
-ghost use Rattle.queue.specs.Queue.{bubbleUp, heapify, lesserChild, queue, front, pushed, popped, frontChanged};
+ghost use Rattle.queue.specs.Queue.{bubbleUp, sink, heapify, lesser, queue, front, pushed, popped, frontChanged};
 ghost use Rattle.queue.specs.Key.{bit, shifted, cardPriority};
 
 fn shifted(priority: i32) -> u64
@@ -54,40 +54,54 @@ fn bubble_up(rows: &mut [[u64; 2]], from: usize, row: [u64; 2])
     rows[pos] = row;
 }
 
-// Of the places left and left + 1, where the second is below n, the one with the lesser key.
-fn lesser_child(rows: &[[u64; 2]], n: usize, left: usize) -> usize
-    requires { ⌜ (left < n) × (n ≤ length (now rows)) ⌝ }
-    ensures { λ r. ⌜ (r ≡ lesserChild (now (rows .entry)) n left) × (left ≤ r) × (r < n) ⌝ }
+// Of the places left and left + 1 the one with the lesser key.
+fn lesser_child(rows: &[[u64; 2]], left: usize) -> usize
+    requires { ⌜ left + 1 < length (now rows) ⌝ }
+    ensures { λ r. ⌜ (r ≡ lesser (now (rows .entry)) left (left + 1)) × (left ≤ r) × (r ≤ left + 1) ⌝ }
 {
     let right = left + 1;
-    if right < n {
-        if rows[right][0] < rows[left][0] {
-            right
-        } else {
-            left
-        }
+    if rows[right][0] < rows[left][0] {
+        right
     } else {
         left
     }
 }
 
-// The row put at the root of the first n sinks to its place: the lesser rows below it move up.
+// The end of the sinking, where the row put at pos has at most one child.
+fn only_child(rows: &mut [[u64; 2]], n: usize, pos: usize, left: usize, row: [u64; 2])
+    requires { ⌜ (left ≡ 2 * pos + 1) × (n ≤ left + 1) × (pos < length (now rows)) × (n ≤ length (now rows)) ⌝ }
+    ensures { λ _. ⌜ now (rows .exit) ≡ sink n (set (now (rows .entry)) pos row) n pos ⌝ }
+{
+    if left < n {
+        let under = rows[left];
+        if under[0] < row[0] {
+            rows[pos] = under;
+            rows[left] = row;
+            return;
+        }
+    }
+    rows[pos] = row;
+}
+
+// The row put at the root of the first n sinks to its place: the lesser rows below it move up. While both children are
+// there, one test a level does for the two.
 fn heapify(rows: &mut [[u64; 2]], n: usize, row: [u64; 2])
     requires { ⌜ (0 < length (now rows)) × (n ≤ length (now rows)) ⌝ }
     ensures { λ _. ⌜ now (rows .exit) ≡ heapify (set (now (rows .entry)) 0 row) n ⌝ }
 {
-    let half = n / 2;
     let mut pos = 0;
-    while pos < half {
-        let next = lesser_child(rows, n, 2 * pos + 1);
-        let under = rows[next];
-        if row[0] <= under[0] {
-            break;
+    let mut left = 1;
+    while left + 1 < n {
+        let next = lesser_child(rows, left);
+        if row[0] <= rows[next][0] {
+            rows[pos] = row;
+            return;
         }
-        rows[pos] = under;
+        rows[pos] = rows[next];
         pos = next;
+        left = 2 * next + 1;
     }
-    rows[pos] = row;
+    only_child(rows, n, pos, left, row);
 }
 
 // How many cards are queued. Their rows are the first places of the lent list.

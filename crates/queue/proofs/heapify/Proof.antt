@@ -1,55 +1,57 @@
-use mathlib.Core.Path.{_≡_, refl}
-use mathlib.Core.Logic.{⊎-elim}
-use Prim.Native.Nat.{_-_, _<_}
+use mathlib.Core.Path.{_≡_, refl, _∙_}
+use Prim.Native.Nat.{_+_, _-_, _*_, _<_}
 use native.Mathlib.Omega.{arith}
 use lib.ListN.{length, set, length-set}
 use Rattle.queue.specs.Queue.{sink}
-use Rattle.queue.proofs.Loops.{sink-turn, sink-end}
+use Rattle.queue.proofs.Loops.{sink-turn, sink-rests}
 use borrow.Author.Needs.{needs}
 use Rattle.queue.proofs.heapify.Statement.{statement}
 use Rattle.queue.proofs.heapify.Tie as tie
 
 abbrev Inv-loop : tie.InvT-loop
-Inv-loop rows₀ n row half pos₀ rows pos = (sink n (set rows pos row) n pos ≡ sink n (set rows₀ 0 row) n 0) × (pos < length rows) × (length rows ≡ length rows₀)
+Inv-loop rows₀ n row pos₀ left₀ rows pos left = (sink n (set rows pos row) n pos ≡ sink n (set rows₀ 0 row) n 0) × (pos < length rows) × (length rows ≡ length rows₀) × (left ≡ 2 * pos + 1)
 
 abbrev μ-loop : tie.MeasureT-loop
-μ-loop rows₀ n row half pos₀ rows pos = n - pos
+μ-loop rows₀ n row pos₀ left₀ rows pos left = n - pos
 
 loop-holds : tie.Need-loop-holds Inv-loop μ-loop
-loop-holds c = (refl, omega arith, refl)
+loop-holds c = (refl, omega arith, refl, refl)
 
-mul-lesser-child : tie.Need-mul-lesser-child Inv-loop μ-loop
-mul-lesser-child c = search needs
-
-add-lesser-child : tie.Need-add-lesser-child Inv-loop μ-loop
-add-lesser-child c = search needs
+add-loop : tie.Need-add-loop Inv-loop μ-loop
+add-loop c = search needs
 
 lesser-child-requires : tie.Need-lesser-child-requires Inv-loop μ-loop
 lesser-child-requires c κs = search needs
 
-mul-under : tie.Need-mul-under Inv-loop μ-loop
-mul-under c = search needs
-
-slice-copy-out-under : tie.Need-slice-copy-out-under Inv-loop μ-loop
-slice-copy-out-under c = search needs
-
 array-read-if1 : tie.Need-array-read-if1 Inv-loop μ-loop
 array-read-if1 c = search needs
 
-array-read-if1-2 : tie.Need-array-read-if1-2 Inv-loop μ-loop
-array-read-if1-2 c = search needs
+mul-if1 : tie.Need-mul-if1 Inv-loop μ-loop
+mul-if1 c = search needs
 
-mul-t13 : tie.Need-mul-t13 Inv-loop μ-loop
-mul-t13 c = search needs
+index-1-if1 : tie.Need-index-1-if1 Inv-loop μ-loop
+index-1-if1 c = search needs
+
+index-2-if1 : tie.Need-index-2-if1 Inv-loop μ-loop
+index-2-if1 c = search needs
+
+mul-t20 : tie.Need-mul-t20 Inv-loop μ-loop
+mul-t20 c = search needs
 
 slice-set-from-rows : tie.Need-slice-set-from-rows Inv-loop μ-loop
 slice-set-from-rows c = search needs
 
-loop-less : tie.Need-loop-less Inv-loop μ-loop
-loop-less c = search needs
+same-length : tie.Need-same-length Inv-loop μ-loop
+same-length c = search needs
 
-loop-again : tie.Need-loop-again Inv-loop μ-loop
-loop-again c = (sink-turn (c .before .before .before .before .before .loop .rows) (c .before .before .before .before .before .before .args .t3) (c .before .before .before .before .before .before .args .n) (c .before .before .before .before .before .loop .pos) (c .before .before .lesser-child .result) _ (c .before .before .before .before .before .loop .inv .0) (omega arith) (omega arith) (c .before .before .lesser-child .ensures .0) (c .if1 .left), simp length-set (omega arith), simp length-set (omega arith))
+returns : tie.Need-returns Inv-loop μ-loop
+returns c = sink-rests (c .before .before .before .before .before .loop .rows) (c .before .before .before .before .before .before .args .t3) (c .before .before .before .before .before .before .args .n) (c .before .before .before .before .before .loop .pos) (c .before .before .before .before .before .loop .left) (c .before .before .lesser-child .result) _ (c .before .before .before .before .before .loop .inv .0) (omega arith) (omega arith) (omega arith) (c .before .before .lesser-child .ensures .0) (omega arith)
+
+mul-rows : tie.Need-mul-rows Inv-loop μ-loop
+mul-rows c = search needs
+
+slice-copy-out-rows : tie.Need-slice-copy-out-rows Inv-loop μ-loop
+slice-copy-out-rows c = search needs
 
 mul-t24 : tie.Need-mul-t24 Inv-loop μ-loop
 mul-t24 c = search needs
@@ -57,11 +59,26 @@ mul-t24 c = search needs
 slice-set-from-rows-2 : tie.Need-slice-set-from-rows-2 Inv-loop μ-loop
 slice-set-from-rows-2 c = search needs
 
-same-length : tie.Need-same-length Inv-loop μ-loop
-same-length c = search needs
+mul-left : tie.Need-mul-left Inv-loop μ-loop
+mul-left c = search needs
 
-returns : tie.Need-returns Inv-loop μ-loop
-returns c = sink-end (c .before .loop .rows) (c .before .before .args .t3) (c .before .before .args .n) (c .before .loop .pos) _ (c .before .loop .inv .0) (omega arith) (⊎-elim (λ w p. absurd (omega arith)) (λ w p. rw (← w .2 .ensures .0) (w .4 .taken)) (c .loop-test .came))
+add-left : tie.Need-add-left Inv-loop μ-loop
+add-left c = search needs
+
+loop-less : tie.Need-loop-less Inv-loop μ-loop
+loop-less c = search needs
+
+loop-again : tie.Need-loop-again Inv-loop μ-loop
+loop-again c = (sink-turn (c .before .before .before .before .before .before .loop .rows) (c .before .before .before .before .before .before .before .args .t3) (c .before .before .before .before .before .before .before .args .n) (c .before .before .before .before .before .before .loop .pos) (c .before .before .before .before .before .before .loop .left) (c .before .before .before .lesser-child .result) _ (c .before .before .before .before .before .before .loop .inv .0) (omega arith) (omega arith) (omega arith) (c .before .before .before .lesser-child .ensures .0) (omega arith) (c .before .if1 .left), simp length-set (omega arith), simp length-set (omega arith), refl)
+
+only-child-requires : tie.Need-only-child-requires Inv-loop μ-loop
+only-child-requires c κs = search needs
+
+same-length-2 : tie.Need-same-length-2 Inv-loop μ-loop
+same-length-2 c = search needs
+
+returns-2 : tie.Need-returns-2 Inv-loop μ-loop
+returns-2 c = c .before .only-child .ensures ∙ c .before .before .before .before .loop .inv .0
 
 pub heapify-spec : {M : Type 1} → statement M
 heapify-spec =
@@ -70,18 +87,24 @@ heapify-spec =
     Inv-loop
     μ-loop
     loop-holds
-    mul-lesser-child
-    add-lesser-child
+    add-loop
     lesser-child-requires
-    mul-under
-    slice-copy-out-under
     array-read-if1
-    array-read-if1-2
-    mul-t13
+    mul-if1
+    index-1-if1
+    index-2-if1
+    mul-t20
     slice-set-from-rows
-    loop-less
-    loop-again
+    same-length
+    returns
+    mul-rows
+    slice-copy-out-rows
     mul-t24
     slice-set-from-rows-2
-    same-length
-    returns)
+    mul-left
+    add-left
+    loop-less
+    loop-again
+    only-child-requires
+    same-length-2
+    returns-2)
