@@ -18,7 +18,7 @@ use lib.Ieee.Back.{round-whole}
 use lib.Ieee.Positive.{positive, between, le-trans-positive}
 use Rattle.float32.proofs.Cmp.{yes, no, le-pos, gt-pos}
 use Rattle.float32.specs.Float32.{max, clamp}
-use Rattle.cards.specs.Day.{dayOf}
+use Rattle.cards.specs.Day.{dayOf, nextDue}
 
 -- a value at or above a whole number k has a whole part of k at least
 min-ge : (k a b : ℕ) → k ≤ a → k ≤ b → k ≤ min a b
@@ -249,6 +249,18 @@ day-bound n v h t = rw (day-cut (add binary32 (ofInt binary32 (pos n)) v)) (let 
 pub one-fair : Fair (ofBits binary32 0x3f80_0000)
 unfolding ofBits ofFields ofInt round le lt eq
 one-fair = record { least = tt; most = tt }
+
+one-le-one : T (le (ofBits binary32 0x3f80_0000) (ofInt binary32 (pos 1)))
+unfolding ofBits ofFields ofInt round le lt eq
+one-le-one = tt
+
+-- a card put off is put off to the next day
+pub day-next : (n : ℕ) → n < 16777216 → dayOf (nextDue n) ≡ suc n
+day-next n h =
+    let one = ofBits binary32 0x3f80_0000 in
+    let least = later binary32 32 n one (omega arith) (omega arith) (one-fair .least) in
+    let most = bound binary32 32 n 1 one (omega arith) (one-fair .least) one-le-one in
+    rw (day-cut (nextDue n)) (omega arith)
 
 -- ---- what is 1 or more is not below 1
 not-under : (one v : Float) → HasValue one false 1 1 → T (le one v) → lt v one ≡ false

@@ -1,11 +1,16 @@
 -- A card's day (its due date in whole days, 0 where that is past), and when it is new. Definitions only.
 use Prim.Native.Nat.{ℕ}
 use mathlib.Core.Bool.{Bool, true}
-use lib.Ieee.{Float, inf, ofBits, binary32, toUnsigned, eq}
+use lib.IntN.{pos}
+use lib.Ieee.{Float, inf, ofBits, binary32, add, ofInt, toUnsigned, eq}
 use Rattle.float32.specs.Float32.{max}
 
 unfoldable pub dayOf : Float → ℕ
 dayOf due = toUnsigned 32 (max due (ofBits binary32 0))
+
+-- when a card that is put off on day d falls due: the next day
+abbrev pub nextDue : ℕ → Float
+nextDue d = add binary32 (ofInt binary32 (pos d)) (ofBits binary32 0x3F80_0000)
 
 -- a card is new while its last date is minus infinity
 unfoldable pub newOf : Float → Bool

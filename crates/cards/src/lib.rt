@@ -4,7 +4,7 @@ ghost use mathlib.Core.Bool.{not, _&&_};
 ghost use lib.ListN.{getD};
 ghost use lib.Ieee.{ofBits, binary32, eq};
 ghost use Rattle.float32.specs.Float32.{isFinite};
-ghost use Rattle.cards.specs.Day.{dayOf, newOf};
+ghost use Rattle.cards.specs.Day.{dayOf, nextDue, newOf};
 ghost use Rattle.cards.specs.Cards.{noFloats, noCounts, cardAt, writeFloats, writeCounts, isKept, dateOk, historyOk, cardOk};
 ghost use Rattle.cards.specs.Config.{rowOf, threeOf, amountOk, amountsOk, weightsOk, transitionsOk, costsOk, intervalOk, configOk};
 ghost use Rattle.cards.specs.Choices.{retires, blocked, choiceOf};
@@ -47,10 +47,22 @@ pub enum Choice {
     Review,
 }
 
+// The maximum with 0 that the rule has plays no part: the cast takes what is below 0 to 0.
 pub fn day_of(due: f32) -> u32
     ensures { λ r. ⌜ r ≡ dayOf due ⌝ }
 {
-    float32::to_u32(float32::max(due, 0.0))
+    float32::to_u32(due)
+}
+
+// The day that a card put off on day d falls due: d + 1 as long as f32 tells the days apart.
+pub fn day_after(d: u32) -> u32
+    ensures { λ r. ⌜ r ≡ dayOf (nextDue d) ⌝ }
+{
+    if d < 16777216 {
+        d + 1
+    } else {
+        day_of(std::num::nearest_u32_to_f32(d) + 1.0)
+    }
 }
 
 pub fn is_new(last_date: f32) -> bool

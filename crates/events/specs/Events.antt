@@ -131,14 +131,17 @@ module _ (g : SimulatorConfig) (x : Scalars) where
       let t = shortSteps x (g .«relearning_step_transitions») (rowOf (g .«state_rating_costs») 2) (g .«relearning_step_count») 5 first in
       memoryOf t (ofRating (rowOf (g .«state_rating_costs») 1) 1 +ᶠ t .cost) false
 
-  -- a review draws once for its recall, whatever the chance
-  unfoldable pub reviewing : Card → ℕ → ℕ → Event
-  reviewing k day state =
-      let chance = chanceOn x k day in
+  -- a review at a chance to recall draws once, whatever the chance
+  unfoldable pub reviewing : Card → Float → ℕ → Event
+  reviewing k chance state =
       let draws = advance state in
       pickEvent (chanceOk chance)
       (pickEvent (recalled chance (wordOf draws)) (event.Happened (success k chance draws)) (event.Happened (lapse k chance draws)))
       event.Chance
 
+  -- a learning of a new card, or a review at a chance
+  unfoldable pub eventAt : Card → Bool → Float → ℕ → Event
+  eventAt k new chance state = pickEvent new (event.Happened (learning state)) (reviewing k chance state)
+
   unfoldable pub eventOf : Card → Bool → ℕ → ℕ → Event
-  eventOf k new day state = pickEvent new (event.Happened (learning state)) (reviewing k day state)
+  eventOf k new day state = eventAt k new (chanceOn x k day) state

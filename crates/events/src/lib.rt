@@ -9,7 +9,7 @@ ghost use mathlib.Core.Bool.{cond};
 ghost use lib.Dec.{ltb};
 ghost use Rattle.draws.specs.Draws.{word, rating};
 ghost use Rattle.events.specs.Scalars.{kept};
-ghost use Rattle.events.specs.Events.{ratingOf, recalledRatingOf, ofRating, consecutiveAfter, shortStep, shortSteps, memoryOf, learningLimit, learning, success, lapse, chanceOn, chanceOk, reviewing, eventOf};
+ghost use Rattle.events.specs.Events.{ratingOf, recalledRatingOf, ofRating, consecutiveAfter, shortStep, shortSteps, memoryOf, learningLimit, learning, success, lapse, chanceOk, reviewing, eventAt};
 
 // What an event leaves: the card's memory, what it cost, whether the card was recalled, and the state of the draws.
 pub struct Memory {
@@ -215,25 +215,15 @@ fn lapse(config: SimulatorConfig, m: Fsrs7, card: Card, chance: f32, state: u64)
     memory_of(t, of_rating(cards::row_of(all, 1), 1) + t.cost, false)
 }
 
-fn chance_on(m: Fsrs7, card: Card, day: u32) -> f32
-    ensures { λ r. ⌜ r ≡ chanceOn (kept m) card day ⌝ }
-{
-    m.forgetting_curve(
-        std::num::nearest_u32_to_f32(day) - card.last_date,
-        card.stability,
-    )
-}
-
 fn chance_ok(chance: f32) -> bool
     ensures { λ r. ⌜ r ≡ chanceOk chance ⌝ }
 {
     if chance >= 0.0 { chance <= 1.0 } else { false }
 }
 
-fn reviewing(config: SimulatorConfig, m: Fsrs7, card: Card, day: u32, state: u64) -> Event
-    ensures { λ r. ⌜ r ≡ reviewing config (kept m) card day state ⌝ }
+fn reviewing(config: SimulatorConfig, m: Fsrs7, card: Card, chance: f32, state: u64) -> Event
+    ensures { λ r. ⌜ r ≡ reviewing config (kept m) card chance state ⌝ }
 {
-    let chance = chance_on(m, card, day);
     if chance_ok(chance) {
         let drawn = SplitMix64::new(state).next();
         let generator = drawn.generator;
@@ -245,19 +235,19 @@ fn reviewing(config: SimulatorConfig, m: Fsrs7, card: Card, day: u32, state: u64
     Event::Chance
 }
 
-// A learning of a new card, or a review, on a day, from a state of the draws.
-pub fn event_of(
+// A learning of a new card, or a review at a chance to recall, from a state of the draws.
+pub fn event_at(
     config: SimulatorConfig,
     m: Fsrs7,
     card: Card,
     new: bool,
-    day: u32,
+    chance: f32,
     state: u64,
 ) -> Event
-    ensures { λ r. ⌜ r ≡ eventOf config (kept m) card new day state ⌝ }
+    ensures { λ r. ⌜ r ≡ eventAt config (kept m) card new chance state ⌝ }
 {
     if new {
         return Event::Happened(learning(config, m, state));
     }
-    reviewing(config, m, card, day, state)
+    reviewing(config, m, card, chance, state)
 }

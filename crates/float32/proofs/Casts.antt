@@ -25,7 +25,7 @@ module _ (n d P : ℕ) (D : 0 < d) where
       go : (x : ℕ) → x ≤ n * 1 → x ≤ n
       go x k = omega arith
 
-  below : n * 1 < 1 * P * d → n / d < P
+  pub below : n * 1 < 1 * P * d → n / d < P
   below h = div-lt-iff-lt-mul D .1 (go (P * d) (rw one-mul at h))
     where
       go : (x : ℕ) → n * 1 < x → n < x
@@ -38,10 +38,10 @@ module _ (n d P : ℕ) (D : 0 < d) where
       go x y q k = omega arith
 
 -- 2 ^ w is not 0, so nothing of the other sign is at least 2 ^ w in size
-above-zero : (w d : ℕ) → 0 < d → 0 < 1 * 2 ^ w * d
+pub above-zero : (w d : ℕ) → 0 < d → 0 < 1 * 2 ^ w * d
 above-zero w d h = mul-pos (mul-pos (lit< tt) (pow-pos w)) h
 
-not-zero : (a : ℕ) (p : Bool) → 0 < a → T (false || (p && (false || eqb a 0))) → ⊥
+pub not-zero : (a : ℕ) (p : Bool) → 0 < a → T (false || (p && (false || eqb a 0))) → ⊥
 not-zero a p h t = let z : a ≡ 0 = eqb→eq a 0 (and-r p (eqb a 0) t) in omega arith
 
 capped : (P q : ℕ) → P ≤ q → P - 1 ≡ min q (P - 1)

@@ -17,3 +17,4 @@ pub mod Product
 pub mod Twice
 pub mod Widened
 pub mod Once
+pub mod Cut

@@ -12,7 +12,7 @@ use Rattle.float32.specs.Sticky.{Ordered}
 use Rattle.float32.proofs.Rescale.{pow-split}
 use Rattle.float32.proofs.Sums.{test, like-same, sum-like, sum-over, sum-under, sum-level}
 
-pow-lt-back : (i j : ℕ) → 2 ^ i < 2 ^ j → i < j
+pub pow-lt-back : (i j : ℕ) → 2 ^ i < 2 ^ j → i < j
 pow-lt-back i j h = lt-of-not-le (λ (g : j ≤ i). lt-irrefl (2 ^ i) (lt-of-lt-of-le h (pow-mono g)))
 
 module _ (m z : ℕ) (P : 0 < m) (H : m < 2 ^ 60) (e : z ≡ size m) where

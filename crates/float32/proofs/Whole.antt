@@ -28,15 +28,16 @@ not-finite-round (fin s m e) h = absurd (true≢false h)
 
 -- ---- n / d is q * 2 ^ k / 2 ^ 149
 module _ (n d q k : ℕ) (D : 0 < d) (v : n * 2 ^ 149 ≡ q * 2 ^ k * d) where
+  pub cross : k ≤ 149 → n * 2 ^ (149 - k) ≡ q * d
+  cross K =
+      let u = 2 ^ (149 - k) in
+      eq-of-mul-eq-mul-right (2 ^ k) (pow-pos k) (n * u) (q * d)
+      (mul-assoc n u (2 ^ k) ∙ ap (λ (z : ℕ). n * z) (pow-split (149 - k) k 149 (omega arith)) ∙ v ∙ mul-right-comm q (2 ^ k) d)
+
   -- with a fraction
   module _ (K : k < 149) where
     abbrev u : ℕ
     u = 2 ^ (149 - k)
-
-    cross : n * u ≡ q * d
-    cross =
-        eq-of-mul-eq-mul-right (2 ^ k) (pow-pos k) (n * u) (q * d)
-        (mul-assoc n u (2 ^ k) ∙ ap (λ (z : ℕ). n * z) (pow-split (149 - k) k 149 (omega arith)) ∙ v ∙ mul-right-comm q (2 ^ k) d)
 
     pub half : (2 * n + d) / (2 * d) ≡ (2 * q + u) / (2 * u)
     half = div-same (2 * n + d) (2 * d) (2 * q + u) (2 * u) (mul-pos (lit< tt) D) (mul-pos (lit< tt) (pow-pos (149 - k))) go
@@ -48,7 +49,7 @@ module _ (n d q k : ℕ) (D : 0 < d) (v : n * 2 ^ 149 ≡ q * 2 ^ k * d) where
             four x = omega arith
 
         go : (2 * n + d) * (2 * u) ≡ (2 * q + u) * (2 * d)
-        go = spread n d u ∙ ap (λ (z : ℕ). 4 * z + 2 * (d * u)) cross ∙ ap (λ (z : ℕ). 4 * (q * d) + 2 * z) (mul-comm d u) ∙ sym (spread q u d)
+        go = spread n d u ∙ ap (λ (z : ℕ). 4 * z + 2 * (d * u)) (cross (le-of-lt K)) ∙ ap (λ (z : ℕ). 4 * (q * d) + 2 * z) (mul-comm d u) ∙ sym (spread q u d)
 
   -- with none
   module _ (K : 149 ≤ k) where

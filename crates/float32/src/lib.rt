@@ -1,8 +1,8 @@
 // Rust's functions on `f32` that Rattle's operators lack, each for every input.
 ghost use mathlib.Core.Path.{_≡_};
 ghost use mathlib.Core.Bool.{true, cond, _&&_};
-ghost use lib.Dec.{T, leb};
-ghost use Prim.Native.Nat.{ℕ, _+_, _-_, _*_, _/_, _^_, _≤_, _<_};
+ghost use lib.Dec.{leb};
+ghost use Prim.Native.Nat.{ℕ, _+_, _-_, _*_, _/_, _%_, _^_, _≤_, _<_};
 ghost use lib.Ieee as Ieee;
 ghost use lib.Ieee.Nearest.{closest};
 ghost use lib.Ieee.{binary32, binary64};
@@ -111,6 +111,26 @@ pub fn to_i32(x: f32) -> i32
 
 // Rust's `x as u32`.
 pub fn to_u32(x: f32) -> u32
+    ensures { λ r. ⌜ r ≡ Ieee.toUnsigned 32 x ⌝ }
+{
+    if x >= 1.0 {
+        if x < 16777216.0 {
+            return whole_part(f32::to_bits(x));
+        }
+    }
+    to_u32_slow(x)
+}
+
+// The whole part of a float from 1 below 2 ^ 24, of its pattern: a shift drops the fraction.
+fn whole_part(b: u32) -> u32
+    requires { ⌜ 127 ≤ b / 2 ^ 23 ⌝ ∗ ⌜ b / 2 ^ 23 ≤ 150 ⌝ }
+    ensures { λ r. ⌜ r ≡ (b % 2 ^ 23 + 2 ^ 23) / 2 ^ (150 - b / 2 ^ 23) ⌝ }
+{
+    (b % 8388608 + 8388608) >> (150 - b / 8388608)
+}
+
+// The same for any float: apart, so that the quick path is small.
+fn to_u32_slow(x: f32) -> u32
     ensures { λ r. ⌜ r ≡ Ieee.toUnsigned 32 x ⌝ }
 {
     if x >= 4294967296.0 {
@@ -349,7 +369,55 @@ pub fn mul_add(x: f32, y: f32, z: f32) -> f32
     if is_finite(x) {
         if is_finite(y) {
             if is_finite(z) {
-                mul_add_finite(x, y, z)
+                // in `f64` the product is exact, and the sum is rounded. To round that again gives the
+                // same but for a few patterns
+                let b = f64::to_bits((x as f64) * (y as f64) + (z as f64));
+                if rounds_once(b) {
+                    return narrowed(b);
+                }
+                return mul_add_slow(x, y, z);
+            }
+        }
+    }
+    mul_add_slow(x, y, z)
+}
+
+// Whether an `f64` of this pattern, rounded to an `f32`, is rounded as the exact value is. One test
+// of the low digits leaves out the powers of two and the ties, and few others.
+fn rounds_once(b: u64) -> bool
+    ensures { λ r. ⌜ (r ≡ true → RoundsOnce b) ⌝ }
+{
+    let e = b / 4503599627370496 % 2048;
+    if e < 897 {
+        false
+    } else if e > 1149 {
+        false
+    } else if b % 268435456 == 0 {
+        false
+    } else {
+        true
+    }
+}
+
+// The nearest `f32` to the `f64` of such a pattern. The exponents are 896 apart, and a carry out of
+// the digits goes into the exponent.
+fn narrowed(b: u64) -> f32
+    requires { ⌜ RoundsOnce b ⌝ }
+    ensures { λ r. ⌜ r ≡ Ieee.units binary32 (leb (2 ^ 63) b) ((significand binary64 b + 2 ^ 28) / 2 ^ 29) (exponent binary64 b - 896) ⌝ }
+{
+    let a = (b % 9223372036854775808 + 268435456) / 536870912 - 7516192768;
+    f32::from_bits((a + b / 9223372036854775808 * 2147483648) as u32)
+}
+
+// The same in whole numbers, for any three. Two calls keep it a function of its own, and the quick
+// path small enough to be inlined.
+fn mul_add_slow(x: f32, y: f32, z: f32) -> f32
+    ensures { λ r. ⌜ r ≡ Float32.mulAdd x y z ⌝ }
+{
+    if is_finite(x) {
+        if is_finite(y) {
+            if is_finite(z) {
+                fused_bits(f32::to_bits(x), f32::to_bits(y), f32::to_bits(z))
             } else {
                 z
             }
@@ -359,51 +427,6 @@ pub fn mul_add(x: f32, y: f32, z: f32) -> f32
     } else {
         x * y + z
     }
-}
-
-fn mul_add_finite(x: f32, y: f32, z: f32) -> f32
-    requires { ⌜ T (Float32.isFinite x) ⌝ ∗ ⌜ T (Float32.isFinite y) ⌝ ∗ ⌜ T (Float32.isFinite z) ⌝ }
-    ensures { λ r. ⌜ r ≡ Float32.mulAdd x y z ⌝ }
-{
-    // in `f64` the product is exact, and the sum is rounded. To round that again gives the same but
-    // for a few patterns
-    let b = f64::to_bits((x as f64) * (y as f64) + (z as f64));
-    if rounds_once(b) {
-        narrowed(b)
-    } else {
-        fused_bits(f32::to_bits(x), f32::to_bits(y), f32::to_bits(z))
-    }
-}
-
-// Whether an `f64` of this pattern, rounded to an `f32`, is rounded as the exact value is.
-fn rounds_once(b: u64) -> bool
-    ensures { λ r. ⌜ (r ≡ true → RoundsOnce b) ⌝ }
-{
-    let e = b / 4503599627370496 % 2048;
-    let t = b % 4503599627370496;
-    if e < 897 {
-        false
-    } else if e > 1149 {
-        false
-    } else if t == 0 {
-        false
-    } else if t % 536870912 == 268435456 {
-        false
-    } else {
-        true
-    }
-}
-
-// The nearest `f32` to the `f64` of such a pattern.
-fn narrowed(b: u64) -> f32
-    requires { ⌜ RoundsOnce b ⌝ }
-    ensures { λ r. ⌜ r ≡ Ieee.units binary32 (leb (2 ^ 63) b) ((significand binary64 b + 2 ^ 28) / 2 ^ 29) (exponent binary64 b - 896) ⌝ }
-{
-    from_units(
-        b >= 9223372036854775808,
-        (significand64(b) + 268435456) / 536870912,
-        wide(exponent64(b)) - 896,
-    )
 }
 
 // x * y + z of three bit patterns, rounded once.
@@ -419,24 +442,4 @@ fn fused_bits(x: u32, y: u32, z: u32) -> f32
         significand(z),
         exponent(z) + 925,
     )
-}
-
-// The same fields of an `f64`.
-fn significand64(b: u64) -> u64
-    ensures { λ r. ⌜ r ≡ significand binary64 b ⌝ }
-{
-    let t = b % 4503599627370496;
-    if b / 4503599627370496 % 2048 == 0 {
-        t
-    } else {
-        4503599627370496 + t
-    }
-}
-
-fn exponent64(b: u64) -> u32
-    requires { ⌜ exponent binary64 b ≤ 2045 ⌝ }
-    ensures { λ r. ⌜ r ≡ exponent binary64 b ⌝ }
-{
-    let e = b / 4503599627370496 % 2048;
-    if e == 0 { 0 } else { (e - 1) as u32 }
 }

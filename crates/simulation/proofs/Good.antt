@@ -17,7 +17,7 @@ use Rattle.turns.proofs.Sums.{sum-same}
 use Rattle.turns.proofs.Demand.{Step}
 use Rattle.cards.specs.declared.SimulatorConfig.{SimulatorConfig}
 use Rattle.cards.specs.declared.Card.{Card}
-use Rattle.cards.specs.Day.{dayOf, newOf}
+use Rattle.cards.specs.Day.{dayOf, newOf, nextDue}
 use Rattle.cards.specs.Cards.{noFloats, cardAt, floatsOf, writeFloats}
 use Rattle.cards.specs.Choices.{retires}
 use Rattle.cards.proofs.Later.{day-later, day-in-span, day-bound, Fair, one-fair}
@@ -31,7 +31,7 @@ use Rattle.queue.proofs.Keys.{packed-day, priority-in}
 use Rattle.queue.proofs.Laws.{change-queued, pop-other, pop-front, front-queued, keyed-least, queued-named, requeue, unqueue}
 use Rattle.intervals.specs.Table.{places, freeAt, valueAt}
 use Rattle.simulation.specs.State.{State, Model, cardIn, keyOf}
-use Rattle.simulation.specs.Turn.{nextDue, putOffCard, holdCard, postponed, retired, turnAs}
+use Rattle.simulation.specs.Turn.{putOffCard, holdCard, postponed, retired, turnAs}
 use Rattle.simulation.specs.Rules.{costs, limits}
 use Rattle.simulation.proofs.Views.{difficultyIn, dayIn, newIn, keyIn, view, columns}
 

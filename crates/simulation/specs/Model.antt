@@ -1,5 +1,10 @@
 -- The memory model of a run, from a configuration and a model's scalars. Definitions only.
 use Rattle.cards.specs.declared.SimulatorConfig.{SimulatorConfig}
+use Rattle.cards.specs.declared.Card.{Card}
+use Rattle.model.specs.declared.model_v7.Fsrs7.{Fsrs7}
+use Rattle.model.specs.declared.model_v7.Curve.{Curve}
+use Rattle.model.specs.Model as Plain
+use Rattle.model.specs.Kept as Kept
 use Rattle.events.specs.Scalars.{Scalars}
 use Rattle.events.specs.Events.{eventOf}
 use Rattle.intervals.specs.Schedule.{certifies}
@@ -12,3 +17,7 @@ modelOf g x = record {
   fresh = λ s r. x .interval s r (g .«max_ivl»);
   certified = λ s r v. certifies (λ t. x .chance t s) s r v (g .«max_ivl»);
 }
+
+-- a card's forgetting curve, which a review asks for its chance and the held sums ask for each day
+abbrev pub curveFor : Fsrs7 → Card → Curve
+curveFor m k = Kept.curveOf (m .curve) (Plain.ofStability (k .stability))

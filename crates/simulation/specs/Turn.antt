@@ -11,7 +11,7 @@ use Rattle.cards.specs.declared.SimulatorConfig.{SimulatorConfig}
 use Rattle.cards.specs.declared.Card.{Card}
 use Rattle.cards.specs.declared.Choice.{Choice}
 use Rattle.cards.specs.declared.Choice.the-variants as choice
-use Rattle.cards.specs.Day.{dayOf, newOf}
+use Rattle.cards.specs.Day.{dayOf, nextDue, newOf}
 use Rattle.cards.specs.Cards.{writeFloats, writeCounts}
 use Rattle.cards.specs.Choices.{choiceOf}
 use Rattle.days.specs.Counts.{raised, learnedAt, reviewedAt, countEvent}
@@ -32,10 +32,6 @@ use Rattle.simulation.specs.State.{State, Model, cardIn, keyOf}
 pub data Stop : Type 0 where
   ended : Stop
   chance full count : ℕ → Stop
-
--- the next day
-abbrev pub nextDue : ℕ → Float
-nextDue d = add binary32 (ofInt binary32 (pos d)) (ofBits binary32 0x3F80_0000)
 
 -- a card put off from day d
 unfoldable pub putOffCard : Card → ℕ → Card

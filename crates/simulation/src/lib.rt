@@ -5,6 +5,7 @@ use cards::SimulatorConfig;
 use events::Event;
 use events::Memory;
 use intervals::Slot;
+use model::Curve;
 use model::Fsrs7;
 use queue::CardPriorityQueue;
 ghost use mathlib.Core.Path.{_≡_};
@@ -23,8 +24,9 @@ ghost use Rattle.cards.specs.Day as Day;
 ghost use Rattle.cards.specs.Cards.{writeFloats, isKept, cardOk};
 ghost use Rattle.model.specs.Kept as Kept;
 ghost use Rattle.events.specs.Scalars.{kept, plain};
+ghost use Rattle.events.specs.Events.{eventOf};
 ghost use Rattle.simulation.specs.State.{keyOf, state};
-ghost use Rattle.simulation.specs.Model.{modelOf};
+ghost use Rattle.simulation.specs.Model.{modelOf, curveFor};
 ghost use Rattle.simulation.specs.Turn.{putOffCard, eventCard, holdCard, slotFor, handle, next};
 ghost use Rattle.simulation.specs.Steps.{Turned, PutOff, PutOffStep, RetireStep, DaysWritten, CardWritten, Ran, Joined, answered, Done};
 ghost use Rattle.simulation.specs.declared.Check.the-variants as check;
@@ -136,14 +138,21 @@ fn event_card(card: Card, new: bool, x: Memory, d: u32, v: f32) -> Card
     }
 }
 
-fn hold_card(sums: &mut [[f32; 2]], config: SimulatorConfig, m: Fsrs7, card: Card, to: u32)
+fn hold_card(
+    sums: &mut [[f32; 2]],
+    config: SimulatorConfig,
+    m: Fsrs7,
+    curve: Curve,
+    card: Card,
+    to: u32,
+)
+    requires { ⌜ curve ≡ curveFor m card ⌝ }
     ensures { λ _. ⌜ now (sums .exit) ≡ holdCard (modelOf config (kept m)) (now (sums .entry)) card to ⌝ }
 {
     if cards::is_new(card.last_date) {
         return;
     }
     let from = float32::to_u32(card.last_date);
-    let curve = m.curve(card.stability);
     days::hold_from(sums, curve, from, to, card.last_date);
 }
 
@@ -165,7 +174,7 @@ fn put_off(
 {
     let new = cards::is_new(card.last_date);
     let later = put_off_card(card, d);
-    let key = key_of(later);
+    let key = queue::card_priority(cards::day_after(d), new, card.difficulty);
     cards::write_floats(cards, c, later);
     let queue = CardPriorityQueue { len };
     queue.change_front(rows, key);
@@ -208,7 +217,8 @@ fn retire_step(
         (now (sums .entry)) (now (rows .entry))
         r (now (sums .exit)) (now (rows .exit)) ⌝ }
 {
-    hold_card(sums, config, m, card, config.learn_span);
+    let curve = m.curve(card.stability);
+    hold_card(sums, config, m, curve, card, config.learn_span);
     let queue = CardPriorityQueue { len };
     let left = queue.pop(rows);
     Outcome::Took(left.len, draws)
@@ -220,17 +230,19 @@ fn write_days(
     sums: &mut [[f32; 2]],
     config: SimulatorConfig,
     m: Fsrs7,
+    curve: Curve,
     card: Card,
     new: bool,
     d: u32,
     x: Memory,
 )
+    requires { ⌜ curve ≡ curveFor m card ⌝ }
     ensures { λ _. ⌜ DaysWritten config (modelOf config (kept m)) card new d x
         (now (days .entry)) (now (sums .entry)) (now (days .exit)) (now (sums .exit)) ⌝ }
 {
     days::count_event(days, config.learn_span, new, d, x.recalled);
     days::pay_on(sums, d, x.cost);
-    hold_card(sums, config, m, card, d);
+    hold_card(sums, config, m, curve, card, d);
 }
 
 fn write_card(
@@ -249,6 +261,23 @@ fn write_card(
     cards::write_counts(counts, c, card);
     let queue = CardPriorityQueue { len };
     queue.change_front(rows, key);
+}
+
+// The event of a card on a day; a review's chance is that of the card's curve.
+fn event_of(
+    config: SimulatorConfig,
+    m: Fsrs7,
+    curve: Curve,
+    card: Card,
+    new: bool,
+    d: u32,
+    draws: u64,
+) -> Event
+    requires { ⌜ curve ≡ curveFor m card ⌝ }
+    ensures { λ r. ⌜ r ≡ eventOf config (kept m) card new d draws ⌝ }
+{
+    let chance = curve.retention(std::num::nearest_u32_to_f32(d) - card.last_date);
+    events::event_at(config, m, card, new, chance, draws)
 }
 
 fn event_step(
@@ -277,7 +306,8 @@ fn event_step(
         r
         (now (cards .exit)) (now (counts .exit)) (now (rows .exit)) (now (days .exit)) (now (sums .exit)) (now (due .exit)) (now (keys .exit)) (now (intervals .exit)) ⌝ }
 {
-    let drawn = events::event_of(config, m, card, new, d, draws);
+    let curve = m.curve(card.stability);
+    let drawn = event_of(config, m, curve, card, new, d, draws);
     let Event::Happened(x) = drawn else {
         return Outcome::Chance(c);
     };
@@ -294,7 +324,7 @@ fn event_step(
     }
     let later = event_card(card, new, x, d, intervals::interval_in(slot));
     write_card(cards, counts, rows, c, later, len);
-    write_days(days, sums, config, m, card, new, d, x);
+    write_days(days, sums, config, m, curve, card, new, d, x);
     days::add_due(due, config.learn_span, cards::day_of(later.due));
     intervals::enter_slot(keys, intervals, slot);
     Outcome::Took(len, x.draws)

@@ -7,9 +7,6 @@ use borrow.Author.Needs.{needs}
 use Rattle.events.proofs.reviewing.Statement.{statement}
 use Rattle.events.proofs.reviewing.Tie as tie
 
-chance-on-requires : tie.Need-chance-on-requires
-chance-on-requires c κs = search needs
-
 chance-ok-requires : tie.Need-chance-ok-requires
 chance-ok-requires c κs = search needs
 
@@ -30,24 +27,23 @@ success-requires c κs = search needs
 
 returns : tie.Need-returns
 unfolding reviewing
-returns c = let e : recalled (c .before .before .before .before .before .before .before .before .before .chance-on .result) (word (mix (advance (c .before .before .before .before .before .before .before .before .before .before .args .state)))) ≡ c .before .before .recalled .result = sym (c .before .before .recalled .ensures ∙ ap (λ (z : ℕ). recalled (c .before .before .before .before .before .before .before .before .before .chance-on .result) z) (c .before .before .before .word .ensures ∙ ap (λ (z : ℕ). word z) (c .before .before .before .before .before .next .ensures .1 ∙ ap (λ (z : ℕ). mix (advance z)) (c .before .before .before .before .before .before .new .ensures)))) in rw (← c .before .before .before .before .before .before .before .before .before .chance-on .ensures, ← c .before .before .before .before .before .before .before .before .chance-ok .ensures, c .before .before .before .before .before .before .before .if1 .taken, e, c .before .if2 .taken, c .success .ensures, c .before .before .before .before .before .next .ensures .0, c .before .before .before .before .before .before .new .ensures)
+returns c = let e : recalled (c .before .before .before .before .before .before .before .before .before .args .chance) (word (mix (advance (c .before .before .before .before .before .before .before .before .before .args .state)))) ≡ c .before .before .recalled .result = sym (c .before .before .recalled .ensures ∙ ap (λ (z : ℕ). recalled (c .before .before .before .before .before .before .before .before .before .args .chance) z) (c .before .before .before .word .ensures ∙ ap (λ (z : ℕ). word z) (c .before .before .before .before .before .next .ensures .1 ∙ ap (λ (z : ℕ). mix (advance z)) (c .before .before .before .before .before .before .new .ensures)))) in rw (← c .before .before .before .before .before .before .before .before .chance-ok .ensures, c .before .before .before .before .before .before .before .if1 .taken, e, c .before .if2 .taken, c .success .ensures, c .before .before .before .before .before .next .ensures .0, c .before .before .before .before .before .before .new .ensures)
 
 lapse-requires : tie.Need-lapse-requires
 lapse-requires c κs = search needs
 
 returns-2 : tie.Need-returns-2
 unfolding reviewing
-returns-2 c = let e : recalled (c .before .before .before .before .before .before .before .before .before .chance-on .result) (word (mix (advance (c .before .before .before .before .before .before .before .before .before .before .args .state)))) ≡ c .before .before .recalled .result = sym (c .before .before .recalled .ensures ∙ ap (λ (z : ℕ). recalled (c .before .before .before .before .before .before .before .before .before .chance-on .result) z) (c .before .before .before .word .ensures ∙ ap (λ (z : ℕ). word z) (c .before .before .before .before .before .next .ensures .1 ∙ ap (λ (z : ℕ). mix (advance z)) (c .before .before .before .before .before .before .new .ensures)))) in rw (← c .before .before .before .before .before .before .before .before .before .chance-on .ensures, ← c .before .before .before .before .before .before .before .before .chance-ok .ensures, c .before .before .before .before .before .before .before .if1 .taken, e, c .before .if2 .left, c .lapse .ensures, c .before .before .before .before .before .next .ensures .0, c .before .before .before .before .before .before .new .ensures)
+returns-2 c = let e : recalled (c .before .before .before .before .before .before .before .before .before .args .chance) (word (mix (advance (c .before .before .before .before .before .before .before .before .before .args .state)))) ≡ c .before .before .recalled .result = sym (c .before .before .recalled .ensures ∙ ap (λ (z : ℕ). recalled (c .before .before .before .before .before .before .before .before .before .args .chance) z) (c .before .before .before .word .ensures ∙ ap (λ (z : ℕ). word z) (c .before .before .before .before .before .next .ensures .1 ∙ ap (λ (z : ℕ). mix (advance z)) (c .before .before .before .before .before .before .new .ensures)))) in rw (← c .before .before .before .before .before .before .before .before .chance-ok .ensures, c .before .before .before .before .before .before .before .if1 .taken, e, c .before .if2 .left, c .lapse .ensures, c .before .before .before .before .before .next .ensures .0, c .before .before .before .before .before .before .new .ensures)
 
 returns-3 : tie.Need-returns-3
 unfolding reviewing
-returns-3 c = rw (← c .before .before .chance-on .ensures, ← c .before .chance-ok .ensures, c .if1 .left)
+returns-3 c = rw (← c .before .chance-ok .ensures, c .if1 .left)
 
 pub reviewing-spec : {M : Type 1} → statement M
 reviewing-spec =
     tie.close
     (tie.spec
-    chance-on-requires
     chance-ok-requires
     new-requires
     next-requires

@@ -1,53 +1,34 @@
--- `float32::narrowed` meets its contract. Assumes nothing.
-use mathlib.Core.Path.{sym, ap, _∙_, subst}
-use Prim.Native.Nat.{ℕ, _+_, _-_, _/_, _^_, _<_}
+-- `float32::narrowed` meets its contract: `proofs/Once.antt` says what the pattern is. Assumes nothing.
+use Prim.Native.Nat.{_^_, _<_}
 use native.Mathlib.Omega.{arith}
 use borrow.Author.Needs.{needs}
-use lib.Dec.{leb}
-use lib.Ieee.{binary64, binary32, units}
-use Rattle.float32.specs.Encoding.{significand}
-use Rattle.float32.proofs.Once.{quick-lo, quick-hi, quick-place, quick-top}
+use Rattle.float32.proofs.Once.{narrow-room, narrow-is, narrow-no-nan}
 use Rattle.float32.proofs.narrowed.Statement.{statement}
 use Rattle.float32.proofs.narrowed.Tie as tie
 
-significand64-requires : tie.Need-significand64-requires
-significand64-requires c κs = search needs
+word : (c : tie.Start) → c .args .b < 2 ^ 64
+word c = omega arith
 
-add-from-units : tie.Need-add-from-units
-add-from-units c = omega (arith, quick-hi (c .before .args .b) (c .before .pre))
+add-a : tie.Need-add-a
+add-a c = search needs
 
-exponent64-requires : tie.Need-exponent64-requires
-exponent64-requires c κs = omega (arith, quick-top (c .before .args .b) (c .before .pre))
+sub-a : tie.Need-sub-a
+sub-a c = narrow-room (c .args .b) (c .pre)
 
-wide-requires : tie.Need-wide-requires
-wide-requires c κs = search needs
+mul-result : tie.Need-mul-result
+mul-result c = search needs
 
-sub-from-units : tie.Need-sub-from-units
-sub-from-units c = omega (arith, quick-place (c .before .before .before .args .b) (c .before .before .before .pre))
+add-result : tie.Need-add-result
+add-result c = search needs
 
-from-units-requires : tie.Need-from-units-requires
-from-units-requires c κs =
-    let t = c .before .before .before in
-    let h : c .before .before .significand64 .result < 2 ^ 53 = subst (λ (q : ℕ). q < 2 ^ 53) (sym (c .before .before .significand64 .ensures)) (quick-hi (t .args .b) (t .pre)) in
-    let l : 2 ^ 52 < c .before .before .significand64 .result = subst (λ (q : ℕ). 2 ^ 52 < q) (sym (c .before .before .significand64 .ensures)) (quick-lo (t .args .b) (t .pre)) in
-    (omega arith, λ k. omega arith)
+cast-result : tie.Need-cast-result
+cast-result c = search needs
+
+float-from-bits-result : tie.Need-float-from-bits-result
+float-from-bits-result c = narrow-no-nan (c .args .b) (c .pre) (word c)
 
 returns : tie.Need-returns
-returns c =
-    let t = c .before .before .before .before in
-    let b = t .args .b in
-    c .from-units .ensures
-    ∙ ap (λ (q : ℕ). units binary32 (leb 9223372036854775808 b) ((q + 268435456) / 536870912) (c .before .wide .result - 896)) (c .before .before .before .significand64 .ensures)
-    ∙ ap (λ (k : ℕ). units binary32 (leb 9223372036854775808 b) ((significand binary64 b + 268435456) / 536870912) (k - 896)) (c .before .wide .ensures ∙ c .before .before .exponent64 .ensures)
+returns c = narrow-is (c .args .b) (c .pre) (word c)
 
 pub narrowed-spec : {M : Type 1} → statement M
-narrowed-spec =
-    tie.close
-    (tie.spec
-    significand64-requires
-    add-from-units
-    exponent64-requires
-    wide-requires
-    sub-from-units
-    from-units-requires
-    returns)
+narrowed-spec = tie.close (tie.spec add-a sub-a mul-result add-result cast-result float-from-bits-result returns)

@@ -14,10 +14,7 @@ returns-3 : tie.Need-returns-3
 returns-3 c = λ e. absurd (false≢true e)
 
 returns-4 : tie.Need-returns-4
-returns-4 c = λ e. absurd (false≢true e)
-
-returns-5 : tie.Need-returns-5
-returns-5 c = search needs
+returns-4 c = search needs
 
 pub rounds-once-spec : {M : Type 1} → statement M
-rounds-once-spec = tie.close (tie.spec returns returns-2 returns-3 returns-4 returns-5)
+rounds-once-spec = tie.close (tie.spec returns returns-2 returns-3 returns-4)

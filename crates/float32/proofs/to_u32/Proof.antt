@@ -1,37 +1,47 @@
--- `float32::to_u32` meets its contract: `proofs/Casts.antt` has each range of x. Assumes nothing.
-use mathlib.Core.Path.{_≡_, sym, _∙_, subst}
-use Prim.Native.Nat.{ℕ, _^_, _<_}
-use lib.Ieee.{ofBits, neg, toUnsigned}
-use lib.Ieee.Casts.{toUnsigned-lt}
-use Rattle.float32.proofs.Cmp.{yes, no}
-use Rattle.float32.proofs.Casts.{Middle-unsigned, top-unsigned, middle-unsigned, zero-unsigned}
+-- `float32::to_u32` meets its contract: `proofs/Cut.antt` has the quick path. Assumes nothing.
+use mathlib.Core.Path.{_∙_}
+use borrow.Author.Needs.{needs}
+use lib.Dec.{T}
+use lib.Ieee.{binary32, fits, ofBits, lt, le}
+use Rattle.float32.proofs.Cmp.{yes}
+use Rattle.float32.proofs.Casts.{two-to}
+use Rattle.float32.proofs.Decode.{finite-no-nan}
+use Rattle.float32.proofs.Cut.{between-finite, cut-low, cut-high, cut-is}
 use Rattle.float32.proofs.to_u32.Statement.{statement}
 use Rattle.float32.proofs.to_u32.Tie as tie
 
-between : (c : tie.Then2) → Middle-unsigned (c .before .before .args .x)
-unfolding ofBits neg
-between c = middle-unsigned (c .before .before .args .x) (yes (c .if2 .taken)) (no (c .before .if1 .left))
+module _ (c : tie.Then2) where
+  held : T (fits binary32 (c .before .before .args .x))
+  held = yes (c .before .before .good .0 .1)
 
-truncating-f32-to-u64-requires : tie.Need-truncating-f32-to-u64-requires
-unfolding ofBits neg
-truncating-f32-to-u64-requires c κs = (yes (c .if2 .taken), between c .0)
+  from-one : T (le (two-to 0) (c .before .before .args .x))
+  unfolding ofBits
+  from-one = yes (c .before .if1 .taken)
 
-is : (c : tie.After-truncating-f32-to-u64) → c .truncating-f32-to-u64 .result ≡ toUnsigned 32 (c .before .before .before .args .x)
-is c = c .truncating-f32-to-u64 .ensures ∙ between (c .before) .1
+  under : T (lt (c .before .before .args .x) (two-to 24))
+  unfolding ofBits
+  under = yes (c .if2 .taken)
 
-cast-result : tie.Need-cast-result
-cast-result c = record { fits = subst (λ (n : ℕ). n < 2 ^ 32) (sym (is c)) (toUnsigned-lt 32 (c .before .before .before .args .x)) }
+float-to-bits-whole-part : tie.Need-float-to-bits-whole-part
+float-to-bits-whole-part c =
+    let x = c .before .before .args .x in
+    finite-no-nan x (between-finite x (from-one c) (under c))
+
+whole-part-requires : tie.Need-whole-part-requires
+whole-part-requires c κs =
+    let x = c .before .before .args .x in
+    (cut-low x (held c) (from-one c) (under c), cut-high x (held c) (from-one c) (under c))
 
 returns : tie.Need-returns
-unfolding ofBits
-returns c = top-unsigned 32 (c .before .args .x) (yes (c .if1 .taken))
+returns c =
+    let t = c .before in
+    c .whole-part .ensures ∙ cut-is (t .before .before .args .x) (held t) (from-one t) (under t)
+
+to-u32-slow-requires : tie.Need-to-u32-slow-requires
+to-u32-slow-requires c κs = search needs
 
 returns-2 : tie.Need-returns-2
-returns-2 c = is c
-
-returns-3 : tie.Need-returns-3
-unfolding ofBits neg
-returns-3 c = zero-unsigned 32 (c .before .before .args .x) (no (c .if2 .left))
+returns-2 c = search needs
 
 pub to-u32-spec : {M : Type 1} → statement M
-to-u32-spec = tie.close (tie.spec truncating-f32-to-u64-requires cast-result returns returns-2 returns-3)
+to-u32-spec = tie.close (tie.spec float-to-bits-whole-part whole-part-requires returns to-u32-slow-requires returns-2)

@@ -7,8 +7,11 @@ use borrow.Author.Needs.{needs}
 use Rattle.simulation.proofs.event_step.Statement.{statement}
 use Rattle.simulation.proofs.event_step.Tie as tie
 
+curve-requires : tie.Need-curve-requires
+curve-requires c κs = search needs
+
 event-of-requires : tie.Need-event-of-requires
-event-of-requires c κs = search needs
+event-of-requires c κs = c .curve .ensures
 
 enum-known-drawn : tie.Need-enum-known-drawn
 enum-known-drawn c = search needs
@@ -17,7 +20,7 @@ enum-told : tie.Need-enum-told
 enum-told c = search needs
 
 returns : tie.Need-returns
-returns c = chance-is (c .before .before .before .before .before .args .config) (modelOf (c .before .before .before .before .before .args .config) (kept (c .before .before .before .before .before .args .m))) (c .before .before .before .before .before .args .cards .now) (c .before .before .before .before .before .args .counts .now) (c .before .before .before .before .before .args .rows .now) (c .before .before .before .before .before .args .days .now) (c .before .before .before .before .before .args .sums .now) (c .before .before .before .before .before .args .due .now) (c .before .before .before .before .before .args .keys .now) (c .before .before .before .before .before .args .intervals .now) (c .before .before .before .before .before .args .len) (c .before .before .before .before .before .args .draws) (c .before .before .before .before .before .args .c) (c .before .before .before .before .before .args .card) (c .before .before .before .before .before .args .new) (c .before .before .before .before .before .args .d) _ (c .before .before .event-of .ensures) (not-happened _ (c .before .match .keys2))
+returns c = chance-is (c .before .before .before .before .before .before .args .config) (modelOf (c .before .before .before .before .before .before .args .config) (kept (c .before .before .before .before .before .before .args .m))) (c .before .before .before .before .before .before .args .cards .now) (c .before .before .before .before .before .before .args .counts .now) (c .before .before .before .before .before .before .args .rows .now) (c .before .before .before .before .before .before .args .days .now) (c .before .before .before .before .before .before .args .sums .now) (c .before .before .before .before .before .before .args .due .now) (c .before .before .before .before .before .before .args .keys .now) (c .before .before .before .before .before .before .args .intervals .now) (c .before .before .before .before .before .before .args .len) (c .before .before .before .before .before .before .args .draws) (c .before .before .before .before .before .before .args .c) (c .before .before .before .before .before .before .args .card) (c .before .before .before .before .before .before .args .new) (c .before .before .before .before .before .before .args .d) _ (c .before .before .event-of .ensures) (not-happened _ (c .before .match .keys2))
 
 scheduled-interval-requires : tie.Need-scheduled-interval-requires
 scheduled-interval-requires c κs = search needs
@@ -33,7 +36,7 @@ same-length-2 c = search needs
 
 returns-2 : tie.Need-returns-2
 unfolding slotOf
-returns-2 c = full-is (c .before .before .before .before .before .before .before .before .before .before .before .args .config) (modelOf (c .before .before .before .before .before .before .before .before .before .before .before .args .config) (kept (c .before .before .before .before .before .before .before .before .before .before .before .args .m))) (c .before .before .before .before .before .before .before .before .before .before .before .args .cards .now) (c .before .before .before .before .before .before .before .before .before .before .before .args .counts .now) (c .before .before .before .before .before .before .before .before .before .before .before .args .rows .now) (c .before .before .before .before .before .before .before .before .before .before .before .args .days .now) (c .before .before .before .before .before .before .before .before .before .before .before .args .sums .now) (c .before .before .before .before .before .before .before .before .before .before .before .args .due .now) (c .before .before .before .before .before .before .before .before .before .before .before .args .keys .now) (c .before .before .before .before .before .before .before .before .before .before .before .args .intervals .now) (c .before .before .before .before .before .before .before .before .before .before .before .args .len) (c .before .before .before .before .before .before .before .before .before .before .before .args .draws) (c .before .before .before .before .before .before .before .before .before .before .before .args .c) (c .before .before .before .before .before .before .before .before .before .before .before .args .card) (c .before .before .before .before .before .before .before .before .before .before .before .args .new) (c .before .before .before .before .before .before .before .before .before .before .before .args .d) _ _ (c .before .before .before .before .before .before .before .before .event-of .ensures) (c .before .before .before .before .before .before .drawn .given .1) _ (c .before .before .scheduled-interval .ensures) _ (c .before .is-full .ensures) (c .if1 .taken)
+returns-2 c = full-is (c .before .before .before .before .before .before .before .before .before .before .before .before .args .config) (modelOf (c .before .before .before .before .before .before .before .before .before .before .before .before .args .config) (kept (c .before .before .before .before .before .before .before .before .before .before .before .before .args .m))) (c .before .before .before .before .before .before .before .before .before .before .before .before .args .cards .now) (c .before .before .before .before .before .before .before .before .before .before .before .before .args .counts .now) (c .before .before .before .before .before .before .before .before .before .before .before .before .args .rows .now) (c .before .before .before .before .before .before .before .before .before .before .before .before .args .days .now) (c .before .before .before .before .before .before .before .before .before .before .before .before .args .sums .now) (c .before .before .before .before .before .before .before .before .before .before .before .before .args .due .now) (c .before .before .before .before .before .before .before .before .before .before .before .before .args .keys .now) (c .before .before .before .before .before .before .before .before .before .before .before .before .args .intervals .now) (c .before .before .before .before .before .before .before .before .before .before .before .before .args .len) (c .before .before .before .before .before .before .before .before .before .before .before .before .args .draws) (c .before .before .before .before .before .before .before .before .before .before .before .before .args .c) (c .before .before .before .before .before .before .before .before .before .before .before .before .args .card) (c .before .before .before .before .before .before .before .before .before .before .before .before .args .new) (c .before .before .before .before .before .before .before .before .before .before .before .before .args .d) _ _ (c .before .before .before .before .before .before .before .before .event-of .ensures) (c .before .before .before .before .before .before .drawn .given .1) _ (c .before .before .scheduled-interval .ensures) _ (c .before .is-full .ensures) (c .if1 .taken)
 
 interval-in-requires : tie.Need-interval-in-requires
 interval-in-requires c κs = search needs
@@ -82,12 +85,13 @@ same-length-10 c = search needs
 
 returns-3 : tie.Need-returns-3
 unfolding slotOf
-returns-3 c = handled-is (c .before .before .before .before .before .before .before .before .before .before .before .before .before .before .before .before .before .before .before .before .before .before .before .before .before .before .before .before .before .before .before .before .before .before .before .before .args .config) (modelOf (c .before .before .before .before .before .before .before .before .before .before .before .before .before .before .before .before .before .before .before .before .before .before .before .before .before .before .before .before .before .before .before .before .before .before .before .before .args .config) (kept (c .before .before .before .before .before .before .before .before .before .before .before .before .before .before .before .before .before .before .before .before .before .before .before .before .before .before .before .before .before .before .before .before .before .before .before .before .args .m))) (c .before .before .before .before .before .before .before .before .before .before .before .before .before .before .before .before .before .before .before .before .before .before .before .before .before .before .before .before .before .before .before .before .before .before .before .before .args .cards .now) (c .before .before .before .before .before .before .before .before .before .before .before .before .before .before .before .before .before .before .before .before .before .before .before .before .before .before .before .before .before .before .before .before .before .before .before .before .args .counts .now) (c .before .before .before .before .before .before .before .before .before .before .before .before .before .before .before .before .before .before .before .before .before .before .before .before .before .before .before .before .before .before .before .before .before .before .before .before .args .rows .now) (c .before .before .before .before .before .before .before .before .before .before .before .before .before .before .before .before .before .before .before .before .before .before .before .before .before .before .before .before .before .before .before .before .before .before .before .before .args .days .now) (c .before .before .before .before .before .before .before .before .before .before .before .before .before .before .before .before .before .before .before .before .before .before .before .before .before .before .before .before .before .before .before .before .before .before .before .before .args .sums .now) (c .before .before .before .before .before .before .before .before .before .before .before .before .before .before .before .before .before .before .before .before .before .before .before .before .before .before .before .before .before .before .before .before .before .before .before .before .args .due .now) (c .before .before .before .before .before .before .before .before .before .before .before .before .before .before .before .before .before .before .before .before .before .before .before .before .before .before .before .before .before .before .before .before .before .before .before .before .args .keys .now) (c .before .before .before .before .before .before .before .before .before .before .before .before .before .before .before .before .before .before .before .before .before .before .before .before .before .before .before .before .before .before .before .before .before .before .before .before .args .intervals .now) (c .before .before .before .before .before .before .before .before .before .before .before .before .before .before .before .before .before .before .before .before .before .before .before .before .before .before .before .before .before .before .before .before .before .before .before .before .args .len) (c .before .before .before .before .before .before .before .before .before .before .before .before .before .before .before .before .before .before .before .before .before .before .before .before .before .before .before .before .before .before .before .before .before .before .before .before .args .draws) (c .before .before .before .before .before .before .before .before .before .before .before .before .before .before .before .before .before .before .before .before .before .before .before .before .before .before .before .before .before .before .before .before .before .before .before .before .args .c) (c .before .before .before .before .before .before .before .before .before .before .before .before .before .before .before .before .before .before .before .before .before .before .before .before .before .before .before .before .before .before .before .before .before .before .before .before .args .card) (c .before .before .before .before .before .before .before .before .before .before .before .before .before .before .before .before .before .before .before .before .before .before .before .before .before .before .before .before .before .before .before .before .before .before .before .before .args .new) (c .before .before .before .before .before .before .before .before .before .before .before .before .before .before .before .before .before .before .before .before .before .before .before .before .before .before .before .before .before .before .before .before .before .before .before .before .args .d) _ _ (c .before .before .before .before .before .before .before .before .before .before .before .before .before .before .before .before .before .before .before .before .before .before .before .before .before .before .before .before .before .before .before .before .before .event-of .ensures) (c .before .before .before .before .before .before .before .before .before .before .before .before .before .before .before .before .before .before .before .before .before .before .before .before .before .before .before .before .before .before .before .drawn .given .1) _ (c .before .before .before .before .before .before .before .before .before .before .before .before .before .before .before .before .before .before .before .before .before .before .before .before .before .before .before .scheduled-interval .ensures) _ (c .before .before .before .before .before .before .before .before .before .before .before .before .before .before .before .before .before .before .before .before .before .before .before .before .before .before .is-full .ensures) (c .before .before .before .before .before .before .before .before .before .before .before .before .before .before .before .before .before .before .before .before .before .before .before .before .before .if1 .left) _ (c .before .before .before .before .before .before .before .before .before .before .before .before .before .before .before .before .before .before .before .before .before .before .before .before .interval-in .ensures) _ (c .before .before .before .before .before .before .before .before .before .before .before .before .before .before .before .before .before .before .before .before .before .before .before .event-card .ensures) _ (c .before .before .before .before .before .before .before .before .before .day-of .ensures) _ _ _ _ _ _ _ _ (c .before .before .before .before .before .before .before .before .before .before .before .before .before .before .before .before .before .before .before .write-card .ensures) (c .before .before .before .before .before .before .before .before .before .before .before .before .before .write-days .ensures) (c .before .before .before .before .before .before .before .before .add-due .ensures) (c .before .before .before .enter-slot .ensures)
+returns-3 c = handled-is (c .before .before .before .before .before .before .before .before .before .before .before .before .before .before .before .before .before .before .before .before .before .before .before .before .before .before .before .before .before .before .before .before .before .before .before .before .before .args .config) (modelOf (c .before .before .before .before .before .before .before .before .before .before .before .before .before .before .before .before .before .before .before .before .before .before .before .before .before .before .before .before .before .before .before .before .before .before .before .before .before .args .config) (kept (c .before .before .before .before .before .before .before .before .before .before .before .before .before .before .before .before .before .before .before .before .before .before .before .before .before .before .before .before .before .before .before .before .before .before .before .before .before .args .m))) (c .before .before .before .before .before .before .before .before .before .before .before .before .before .before .before .before .before .before .before .before .before .before .before .before .before .before .before .before .before .before .before .before .before .before .before .before .before .args .cards .now) (c .before .before .before .before .before .before .before .before .before .before .before .before .before .before .before .before .before .before .before .before .before .before .before .before .before .before .before .before .before .before .before .before .before .before .before .before .before .args .counts .now) (c .before .before .before .before .before .before .before .before .before .before .before .before .before .before .before .before .before .before .before .before .before .before .before .before .before .before .before .before .before .before .before .before .before .before .before .before .before .args .rows .now) (c .before .before .before .before .before .before .before .before .before .before .before .before .before .before .before .before .before .before .before .before .before .before .before .before .before .before .before .before .before .before .before .before .before .before .before .before .before .args .days .now) (c .before .before .before .before .before .before .before .before .before .before .before .before .before .before .before .before .before .before .before .before .before .before .before .before .before .before .before .before .before .before .before .before .before .before .before .before .before .args .sums .now) (c .before .before .before .before .before .before .before .before .before .before .before .before .before .before .before .before .before .before .before .before .before .before .before .before .before .before .before .before .before .before .before .before .before .before .before .before .before .args .due .now) (c .before .before .before .before .before .before .before .before .before .before .before .before .before .before .before .before .before .before .before .before .before .before .before .before .before .before .before .before .before .before .before .before .before .before .before .before .before .args .keys .now) (c .before .before .before .before .before .before .before .before .before .before .before .before .before .before .before .before .before .before .before .before .before .before .before .before .before .before .before .before .before .before .before .before .before .before .before .before .before .args .intervals .now) (c .before .before .before .before .before .before .before .before .before .before .before .before .before .before .before .before .before .before .before .before .before .before .before .before .before .before .before .before .before .before .before .before .before .before .before .before .before .args .len) (c .before .before .before .before .before .before .before .before .before .before .before .before .before .before .before .before .before .before .before .before .before .before .before .before .before .before .before .before .before .before .before .before .before .before .before .before .before .args .draws) (c .before .before .before .before .before .before .before .before .before .before .before .before .before .before .before .before .before .before .before .before .before .before .before .before .before .before .before .before .before .before .before .before .before .before .before .before .before .args .c) (c .before .before .before .before .before .before .before .before .before .before .before .before .before .before .before .before .before .before .before .before .before .before .before .before .before .before .before .before .before .before .before .before .before .before .before .before .before .args .card) (c .before .before .before .before .before .before .before .before .before .before .before .before .before .before .before .before .before .before .before .before .before .before .before .before .before .before .before .before .before .before .before .before .before .before .before .before .before .args .new) (c .before .before .before .before .before .before .before .before .before .before .before .before .before .before .before .before .before .before .before .before .before .before .before .before .before .before .before .before .before .before .before .before .before .before .before .before .before .args .d) _ _ (c .before .before .before .before .before .before .before .before .before .before .before .before .before .before .before .before .before .before .before .before .before .before .before .before .before .before .before .before .before .before .before .before .before .event-of .ensures) (c .before .before .before .before .before .before .before .before .before .before .before .before .before .before .before .before .before .before .before .before .before .before .before .before .before .before .before .before .before .before .before .drawn .given .1) _ (c .before .before .before .before .before .before .before .before .before .before .before .before .before .before .before .before .before .before .before .before .before .before .before .before .before .before .before .scheduled-interval .ensures) _ (c .before .before .before .before .before .before .before .before .before .before .before .before .before .before .before .before .before .before .before .before .before .before .before .before .before .before .is-full .ensures) (c .before .before .before .before .before .before .before .before .before .before .before .before .before .before .before .before .before .before .before .before .before .before .before .before .before .if1 .left) _ (c .before .before .before .before .before .before .before .before .before .before .before .before .before .before .before .before .before .before .before .before .before .before .before .before .interval-in .ensures) _ (c .before .before .before .before .before .before .before .before .before .before .before .before .before .before .before .before .before .before .before .before .before .before .before .event-card .ensures) _ (c .before .before .before .before .before .before .before .before .before .day-of .ensures) _ _ _ _ _ _ _ _ (c .before .before .before .before .before .before .before .before .before .before .before .before .before .before .before .before .before .before .before .write-card .ensures) (c .before .before .before .before .before .before .before .before .before .before .before .before .before .write-days .ensures) (c .before .before .before .before .before .before .before .before .add-due .ensures) (c .before .before .before .enter-slot .ensures)
 
 pub event-step-spec : {M : Type 1} → statement M
 event-step-spec =
     tie.close
     (tie.spec
+    curve-requires
     event-of-requires
     enum-known-drawn
     enum-told

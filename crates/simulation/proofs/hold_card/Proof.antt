@@ -14,9 +14,6 @@ returns c = rw (← c .before .is-new .ensures, c .if1 .taken)
 to-u32-requires : tie.Need-to-u32-requires
 to-u32-requires c κs = search needs
 
-curve-requires : tie.Need-curve-requires
-curve-requires c κs = search needs
-
 hold-from-requires : tie.Need-hold-from-requires
 hold-from-requires c κs = search needs
 
@@ -25,7 +22,7 @@ same-length c = search needs
 
 returns-2 : tie.Need-returns-2
 unfolding holdCard
-returns-2 c = rw (← c .before .before .before .before .before .before .is-new .ensures, c .before .before .before .before .before .if1 .left, c .before .hold-from .ensures, c .before .before .before .curve .ensures, c .before .before .before .before .to-u32 .ensures)
+returns-2 c = rw (← c .before .before .before .before .before .is-new .ensures, c .before .before .before .before .if1 .left, c .before .hold-from .ensures, c .before .before .before .before .before .before .pre, c .before .before .before .to-u32 .ensures)
 
 pub hold-card-spec : {M : Type 1} → statement M
 hold-card-spec =
@@ -34,7 +31,6 @@ hold-card-spec =
     is-new-requires
     returns
     to-u32-requires
-    curve-requires
     hold-from-requires
     same-length
     returns-2)

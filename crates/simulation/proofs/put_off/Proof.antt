@@ -1,4 +1,5 @@
 -- `simulation::put_off` meets its contract.
+use Rattle.simulation.specs.Turn.{putOffCard}
 use borrow.Author.Needs.{needs}
 use Rattle.simulation.proofs.put_off.Statement.{statement}
 use Rattle.simulation.proofs.put_off.Tie as tie
@@ -9,8 +10,11 @@ is-new-requires c κs = search needs
 put-off-card-requires : tie.Need-put-off-card-requires
 put-off-card-requires c κs = search needs
 
-key-of-requires : tie.Need-key-of-requires
-key-of-requires c κs = search needs
+day-after-requires : tie.Need-day-after-requires
+day-after-requires c κs = search needs
+
+card-priority-requires : tie.Need-card-priority-requires
+card-priority-requires c κs = search needs
 
 write-floats-requires : tie.Need-write-floats-requires
 write-floats-requires c κs = search needs
@@ -31,11 +35,15 @@ same-length-3 : tie.Need-same-length-3
 same-length-3 c = search needs
 
 returns : tie.Need-returns
-returns c = record {
-  cards-are = rw (← c .before .before .before .before .before .before .before .before .before .before .before .put-off-card .ensures) (c .before .before .before .before .before .before .before .before .write-floats .ensures);
-  queue-is = rw (← c .before .before .before .before .before .before .before .before .before .before .before .put-off-card .ensures, ← c .before .before .before .before .before .before .before .before .before .before .key-of .ensures) (c .before .before .before .before .before .change-front .ensures);
-  due-are = rw (← c .before .before .before .before .before .before .before .before .before .before .before .before .is-new .ensures) (c .before .before .move-due .ensures);
-}
+unfolding putOffCard
+returns c =
+    let p = c .before .before .before .before .before .before .before .before .before .before .before in
+    let n = p .before .before in
+    record {
+      cards-are = rw (← p .before .put-off-card .ensures) (c .before .before .before .before .before .before .before .before .write-floats .ensures);
+      queue-is = rw (← n .is-new .ensures, ← p .day-after .ensures, ← c .before .before .before .before .before .before .before .before .before .before .card-priority .ensures) (c .before .before .before .before .before .change-front .ensures);
+      due-are = rw (← n .is-new .ensures) (c .before .before .move-due .ensures);
+    }
 
 pub put-off-spec : {M : Type 1} → statement M
 put-off-spec =
@@ -43,7 +51,8 @@ put-off-spec =
     (tie.spec
     is-new-requires
     put-off-card-requires
-    key-of-requires
+    day-after-requires
+    card-priority-requires
     write-floats-requires
     change-front-requires
     move-due-requires

@@ -6,8 +6,11 @@ use borrow.Author.Needs.{needs}
 use Rattle.simulation.proofs.retire_step.Statement.{statement}
 use Rattle.simulation.proofs.retire_step.Tie as tie
 
+curve-requires : tie.Need-curve-requires
+curve-requires c κs = search needs
+
 hold-card-requires : tie.Need-hold-card-requires
-hold-card-requires c κs = search needs
+hold-card-requires c κs = c .before .curve .ensures
 
 pop-requires : tie.Need-pop-requires
 pop-requires c κs = search needs
@@ -20,11 +23,11 @@ same-length-2 c = search needs
 
 returns : tie.Need-returns
 returns c = record {
-  outcome = ap (λ (q : Queue). outcome.Took (q .len) (c .before .before .before .before .before .before .args .draws)) (c .before .pop .ensures);
+  outcome = ap (λ (q : Queue). outcome.Took (q .len) (c .before .before .before .before .before .before .before .args .draws)) (c .before .pop .ensures);
   sums-are = c .before .before .before .before .hold-card .ensures;
   rows-are = ap (λ (q : Queue). q .rows) (c .before .pop .ensures);
 }
 
 pub retire-step-spec : {M : Type 1} → statement M
 retire-step-spec =
-    tie.close (tie.spec hold-card-requires pop-requires same-length same-length-2 returns)
+    tie.close (tie.spec curve-requires hold-card-requires pop-requires same-length same-length-2 returns)

@@ -1,22 +1,22 @@
--- `events::event_of` meets its contract.
-use Rattle.events.specs.Events.{eventOf}
+-- `events::event_at` meets its contract.
+use Rattle.events.specs.Events.{eventAt}
 use borrow.Author.Needs.{needs}
-use Rattle.events.proofs.event_of.Statement.{statement}
-use Rattle.events.proofs.event_of.Tie as tie
+use Rattle.events.proofs.event_at.Statement.{statement}
+use Rattle.events.proofs.event_at.Tie as tie
 
 learning-requires : tie.Need-learning-requires
 learning-requires c κs = search needs
 
 returns : tie.Need-returns
-unfolding eventOf
+unfolding eventAt
 returns c = rw (c .before .if1 .taken, c .learning .ensures)
 
 reviewing-requires : tie.Need-reviewing-requires
 reviewing-requires c κs = search needs
 
 returns-2 : tie.Need-returns-2
-unfolding eventOf
+unfolding eventAt
 returns-2 c = rw (c .before .if1 .left, c .reviewing .ensures)
 
-pub event-of-spec : {M : Type 1} → statement M
-event-of-spec = tie.close (tie.spec learning-requires returns reviewing-requires returns-2)
+pub event-at-spec : {M : Type 1} → statement M
+event-at-spec = tie.close (tie.spec learning-requires returns reviewing-requires returns-2)

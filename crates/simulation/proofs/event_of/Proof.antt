@@ -1,0 +1,21 @@
+-- `simulation::event_of` meets its contract.
+use Rattle.events.specs.Events.{chanceOn, eventOf}
+use borrow.Author.Needs.{needs}
+use Rattle.simulation.proofs.event_of.Statement.{statement}
+use Rattle.simulation.proofs.event_of.Tie as tie
+
+nearest-u32-to-f32-requires : tie.Need-nearest-u32-to-f32-requires
+nearest-u32-to-f32-requires c κs = search needs
+
+retention-requires : tie.Need-retention-requires
+retention-requires c κs = search needs
+
+event-at-requires : tie.Need-event-at-requires
+event-at-requires c κs = search needs
+
+returns : tie.Need-returns
+unfolding chanceOn eventOf
+returns c = rw (c .event-at .ensures, c .before .retention .ensures, c .before .before .before .nearest-u32-to-f32 .ensures, c .before .before .before .before .pre)
+
+pub event-of-spec : {M : Type 1} → statement M
+event-of-spec = tie.close (tie.spec nearest-u32-to-f32-requires retention-requires event-at-requires returns)
