@@ -61,7 +61,7 @@ pub fn day_after(d: u32) -> u32
     if d < 16777216 {
         d + 1
     } else {
-        day_of(std::num::nearest_u32_to_f32(d) + 1.0)
+        day_of(float32::from_u32(d) + 1.0)
     }
 }
 
@@ -181,7 +181,7 @@ pub fn card_ok(card: Card) -> bool
 pub fn is_retired(config: SimulatorConfig, card: Card) -> bool
     ensures { λ r. ⌜ r ≡ retires config card ⌝ }
 {
-    let span = std::num::nearest_u32_to_f32(config.learn_span);
+    let span = float32::from_u32(config.learn_span);
     if card.due >= span {
         true
     } else {

@@ -134,7 +134,7 @@ pub fn hold_from(rows: &mut [[f32; 2]], curve: Curve, from: u32, to: u32, last: 
 {
     let mut d = from;
     while d < to {
-        let t = std::num::nearest_u32_to_f32(d) - last;
+        let t = float32::from_u32(d) - last;
         hold_on(rows, d, curve.retention(t));
         d += 1;
     }

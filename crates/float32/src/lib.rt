@@ -3,6 +3,7 @@ ghost use mathlib.Core.Path.{_≡_};
 ghost use mathlib.Core.Bool.{true, cond, _&&_};
 ghost use lib.Dec.{leb};
 ghost use Prim.Native.Nat.{ℕ, _+_, _-_, _*_, _/_, _%_, _^_, _≤_, _<_};
+ghost use lib.IntN.{pos};
 ghost use lib.Ieee as Ieee;
 ghost use lib.Ieee.Nearest.{closest};
 ghost use lib.Ieee.{binary32, binary64};
@@ -106,6 +107,17 @@ pub fn to_i32(x: f32) -> i32
         -2147483648
     } else {
         0
+    }
+}
+
+// Rust's `n as f32`, which is exact up to 2^24.
+pub fn from_u32(n: u32) -> f32
+    ensures { λ r. ⌜ r ≡ Ieee.ofInt binary32 (pos n) ⌝ }
+{
+    if n <= 16777216 {
+        n as f32
+    } else {
+        std::num::nearest_u32_to_f32(n)
     }
 }
 

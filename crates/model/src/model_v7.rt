@@ -234,7 +234,7 @@ fn increase(p: StabilityParameters, s: f32, d: f32, r: f32, rating: u32) -> f32
 {
     p.growth
         * (11.0 - d)
-        * powf_f32(s, p.decline)
+        * powf_from_one(s, p.decline)
         * (exp_f32((1.0 - r) * p.w9) - 1.0)
         * where_rated(rating, 2, p.w13)
         * where_rated(rating, 4, p.w14)
@@ -272,7 +272,7 @@ fn drawn_in(r: f32) -> f32
 fn first_decay(p: CurveParameters, fast: f32) -> f32
     ensures { λ r. ⌜ r ≡ Kept.decay1Of p fast ⌝ }
 {
-    decay_of(p.w23 * powf_f32(fast, p.power))
+    decay_of(p.w23 * powf_from_one(fast, p.power))
 }
 
 fn first_factor(p: CurveParameters, decay: f32) -> f32
@@ -284,13 +284,13 @@ fn first_factor(p: CurveParameters, decay: f32) -> f32
 fn first_weight(p: CurveParameters, fast: f32) -> f32
     ensures { λ r. ⌜ r ≡ Kept.weight1Of p fast ⌝ }
 {
-    p.w27 * powf_f32(fast, p.decline)
+    p.w27 * powf_from_one(fast, p.decline)
 }
 
 fn second_weight(p: CurveParameters, s: f32, d: f32) -> f32
     ensures { λ r. ⌜ r ≡ Kept.weight2Of p s d ⌝ }
 {
-    p.w28 * powf_f32(s, p.w30) * exp_f32((d - 5.0) * p.weight)
+    p.w28 * powf_from_one(s, p.w30) * exp_f32((d - 5.0) * p.weight)
 }
 
 fn timescale(p: CurveParameters, d: f32) -> f32

@@ -102,7 +102,7 @@ fn put_off_card(card: Card, d: u32) -> Card
         difficulty: card.difficulty,
         stability: card.stability,
         last_date: card.last_date,
-        due: std::num::nearest_u32_to_f32(d) + 1.0,
+        due: float32::from_u32(d) + 1.0,
         interval: card.interval,
         desired_retention: card.desired_retention,
         reps: card.reps,
@@ -125,7 +125,7 @@ fn lapses_after(lapses: u32, new: bool, recalled: bool) -> u32
 fn event_card(card: Card, new: bool, x: Memory, d: u32, v: f32) -> Card
     ensures { λ r. ⌜ r ≡ eventCard card new x d v ⌝ }
 {
-    let day = std::num::nearest_u32_to_f32(d);
+    let day = float32::from_u32(d);
     Card {
         difficulty: x.difficulty,
         stability: x.stability,
@@ -276,7 +276,7 @@ fn event_of(
     requires { ⌜ curve ≡ curveFor m card ⌝ }
     ensures { λ r. ⌜ r ≡ eventOf config (kept m) card new d draws ⌝ }
 {
-    let chance = curve.retention(std::num::nearest_u32_to_f32(d) - card.last_date);
+    let chance = curve.retention(float32::from_u32(d) - card.last_date);
     events::event_at(config, m, card, new, chance, draws)
 }
 
@@ -623,7 +623,7 @@ fn new_card(retention: f32, limit: u32, i: u32) -> Card
         difficulty: never,
         stability: never,
         last_date: never,
-        due: std::num::nearest_u32_to_f32(quotient(i, limit)),
+        due: float32::from_u32(quotient(i, limit)),
         interval: never,
         desired_retention: retention,
         reps: 0,

@@ -12,8 +12,8 @@ use Rattle.cards.proofs.day_after.Tie as tie
 add-result : tie.Need-add-result
 add-result c = search needs
 
-nearest-u32-to-f32-requires : tie.Need-nearest-u32-to-f32-requires
-nearest-u32-to-f32-requires c κs = search needs
+from-u32-requires : tie.Need-from-u32-requires
+from-u32-requires c κs = search needs
 
 day-of-requires : tie.Need-day-of-requires
 day-of-requires c κs = search needs
@@ -25,7 +25,7 @@ returns c = one-more (c .before .args .d) ∙ sym (day-next (c .before .args .d)
     one-more n = omega arith
 
 returns-2 : tie.Need-returns-2
-returns-2 c = c .day-of .ensures ∙ ap (λ (x : Float). dayOf (add binary32 x (ofBits binary32 0x3F80_0000))) (c .before .nearest-u32-to-f32 .ensures)
+returns-2 c = c .day-of .ensures ∙ ap (λ (x : Float). dayOf (add binary32 x (ofBits binary32 0x3F80_0000))) (c .before .from-u32 .ensures)
 
 pub day-after-spec : {M : Type 1} → statement M
-day-after-spec = tie.close (tie.spec add-result nearest-u32-to-f32-requires day-of-requires returns returns-2)
+day-after-spec = tie.close (tie.spec add-result from-u32-requires day-of-requires returns returns-2)

@@ -3,16 +3,16 @@ use Rattle.cards.specs.Choices.{retires}
 use Rattle.cards.proofs.is_retired.Statement.{statement}
 use Rattle.cards.proofs.is_retired.Tie as tie
 
-nearest-u32-to-f32-requires : tie.Need-nearest-u32-to-f32-requires
-nearest-u32-to-f32-requires c κs = tt
+from-u32-requires : tie.Need-from-u32-requires
+from-u32-requires c κs = tt
 
 returns : tie.Need-returns
 unfolding retires
-returns c = rw (← c .before .before .nearest-u32-to-f32 .ensures, c .if1 .taken)
+returns c = rw (← c .before .before .from-u32 .ensures, c .if1 .taken)
 
 returns-2 : tie.Need-returns-2
 unfolding retires
-returns-2 c = rw (← c .before .before .before .before .nearest-u32-to-f32 .ensures, c .before .before .if1 .left)
+returns-2 c = rw (← c .before .before .before .before .from-u32 .ensures, c .before .before .if1 .left)
 
 pub is-retired-spec : {M : Type 1} → statement M
-is-retired-spec = tie.close (tie.spec nearest-u32-to-f32-requires returns returns-2)
+is-retired-spec = tie.close (tie.spec from-u32-requires returns returns-2)

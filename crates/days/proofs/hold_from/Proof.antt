@@ -18,8 +18,8 @@ abbrev μ-loop : tie.MeasureT-loop
 loop-holds : tie.Need-loop-holds Inv-loop μ-loop
 loop-holds c = (refl, refl)
 
-nearest-u32-to-f32-requires : tie.Need-nearest-u32-to-f32-requires Inv-loop μ-loop
-nearest-u32-to-f32-requires c κs = tt
+from-u32-requires : tie.Need-from-u32-requires Inv-loop μ-loop
+from-u32-requires c κs = tt
 
 retention-requires : tie.Need-retention-requires Inv-loop μ-loop
 retention-requires c κs = tt
@@ -34,7 +34,7 @@ loop-less : tie.Need-loop-less Inv-loop μ-loop
 loop-less c = omega arith
 
 loop-again : tie.Need-loop-again Inv-loop μ-loop
-loop-again c = (hold-turn (λ t. retention (c .before .before .before .before .before .before .before .args .curve) t) (c .before .before .before .before .before .before .before .args .last) _ _ _ _ _ _ _ _ (c .before .before .before .before .before .before .loop .inv .0) (c .before .before .before .before .before .loop-test .taken) (c .before .before .before .before .nearest-u32-to-f32 .ensures) (c .before .before .retention .ensures) (c .before .hold-on .ensures), omega arith)
+loop-again c = (hold-turn (λ t. retention (c .before .before .before .before .before .before .before .args .curve) t) (c .before .before .before .before .before .before .before .args .last) _ _ _ _ _ _ _ _ (c .before .before .before .before .before .before .loop .inv .0) (c .before .before .before .before .before .loop-test .taken) (c .before .before .before .before .from-u32 .ensures) (c .before .before .retention .ensures) (c .before .hold-on .ensures), omega arith)
 
 same-length : tie.Need-same-length Inv-loop μ-loop
 same-length c = omega arith
@@ -49,7 +49,7 @@ hold-from-spec =
     Inv-loop
     μ-loop
     loop-holds
-    nearest-u32-to-f32-requires
+    from-u32-requires
     retention-requires
     hold-on-requires
     add-d

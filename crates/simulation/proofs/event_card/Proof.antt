@@ -4,8 +4,8 @@ use borrow.Author.Needs.{needs}
 use Rattle.simulation.proofs.event_card.Statement.{statement}
 use Rattle.simulation.proofs.event_card.Tie as tie
 
-nearest-u32-to-f32-requires : tie.Need-nearest-u32-to-f32-requires
-nearest-u32-to-f32-requires c κs = search needs
+from-u32-requires : tie.Need-from-u32-requires
+from-u32-requires c κs = search needs
 
 raise-requires : tie.Need-raise-requires
 raise-requires c κs = search needs
@@ -15,8 +15,8 @@ lapses-after-requires c κs = search needs
 
 returns : tie.Need-returns
 unfolding eventCard
-returns c = rw (c .lapses-after .ensures, c .before .raise .ensures, c .before .before .nearest-u32-to-f32 .ensures)
+returns c = rw (c .lapses-after .ensures, c .before .raise .ensures, c .before .before .from-u32 .ensures)
 
 pub event-card-spec : {M : Type 1} → statement M
 event-card-spec =
-    tie.close (tie.spec nearest-u32-to-f32-requires raise-requires lapses-after-requires returns)
+    tie.close (tie.spec from-u32-requires raise-requires lapses-after-requires returns)

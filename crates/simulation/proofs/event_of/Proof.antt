@@ -4,8 +4,8 @@ use borrow.Author.Needs.{needs}
 use Rattle.simulation.proofs.event_of.Statement.{statement}
 use Rattle.simulation.proofs.event_of.Tie as tie
 
-nearest-u32-to-f32-requires : tie.Need-nearest-u32-to-f32-requires
-nearest-u32-to-f32-requires c κs = search needs
+from-u32-requires : tie.Need-from-u32-requires
+from-u32-requires c κs = search needs
 
 retention-requires : tie.Need-retention-requires
 retention-requires c κs = search needs
@@ -15,7 +15,7 @@ event-at-requires c κs = search needs
 
 returns : tie.Need-returns
 unfolding chanceOn eventOf
-returns c = rw (c .event-at .ensures, c .before .retention .ensures, c .before .before .before .nearest-u32-to-f32 .ensures, c .before .before .before .before .pre)
+returns c = rw (c .event-at .ensures, c .before .retention .ensures, c .before .before .before .from-u32 .ensures, c .before .before .before .before .pre)
 
 pub event-of-spec : {M : Type 1} → statement M
-event-of-spec = tie.close (tie.spec nearest-u32-to-f32-requires retention-requires event-at-requires returns)
+event-of-spec = tie.close (tie.spec from-u32-requires retention-requires event-at-requires returns)

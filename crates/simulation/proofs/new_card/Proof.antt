@@ -8,12 +8,12 @@ use Rattle.simulation.proofs.new_card.Tie as tie
 quotient-requires : tie.Need-quotient-requires
 quotient-requires c κs = search needs
 
-nearest-u32-to-f32-requires : tie.Need-nearest-u32-to-f32-requires
-nearest-u32-to-f32-requires c κs = search needs
+from-u32-requires : tie.Need-from-u32-requires
+from-u32-requires c κs = search needs
 
 returns : tie.Need-returns
 unfolding newCard ofBits ofFields div neg
-returns c = rw (c .nearest-u32-to-f32 .ensures, c .before .quotient .ensures)
+returns c = rw (c .from-u32 .ensures, c .before .quotient .ensures)
 
 pub new-card-spec : {M : Type 1} → statement M
-new-card-spec = tie.close (tie.spec quotient-requires nearest-u32-to-f32-requires returns)
+new-card-spec = tie.close (tie.spec quotient-requires from-u32-requires returns)

@@ -4,12 +4,12 @@ use borrow.Author.Needs.{needs}
 use Rattle.simulation.proofs.put_off_card.Statement.{statement}
 use Rattle.simulation.proofs.put_off_card.Tie as tie
 
-nearest-u32-to-f32-requires : tie.Need-nearest-u32-to-f32-requires
-nearest-u32-to-f32-requires c κs = search needs
+from-u32-requires : tie.Need-from-u32-requires
+from-u32-requires c κs = search needs
 
 returns : tie.Need-returns
 unfolding putOffCard
-returns c = rw (c .nearest-u32-to-f32 .ensures)
+returns c = rw (c .from-u32 .ensures)
 
 pub put-off-card-spec : {M : Type 1} → statement M
-put-off-card-spec = tie.close (tie.spec nearest-u32-to-f32-requires returns)
+put-off-card-spec = tie.close (tie.spec from-u32-requires returns)
