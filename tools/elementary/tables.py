@@ -61,20 +61,33 @@ def second():
     return rows
 
 
-TABLES = [("Exp", "exp", "coarse", coarse), ("Exp", "exp", "fine", fine), ("Ln", "ln", "first", first), ("Ln", "ln", "second", second)]
+def power():
+    """The products that the code has ready."""
+    c, f = coarse(), fine()
+    return [c[i // 32] * f[i % 32] // 2**31 for i in range(355)]
+
+
+# (file of specs/, name, file of src/ or none, the rows); `power` is a product in specs/, not a list
+TABLES = [("Exp", "coarse", None, coarse), ("Exp", "fine", None, fine), (None, "power", "powers", power), ("Ln", "first", "ln", first), ("Ln", "second", "ln", second)]
+
+
+def listed(repo, spec, name):
+    text = open(f"{repo}/crates/elementary/specs/{spec}.antt").read()
+    body = text[text.index(f"\n{name} =") :]
+    return [int(v) for v in re.findall(r"(\d+) ∷", body[: body.index("[]")])]
+
+
+def arms(repo, source, name):
+    code = open(f"{repo}/crates/elementary/src/{source}.rt").read()
+    body = code[code.index(f"fn {name}_at(") :]
+    return [int(v) for v in re.findall(r"=> (\d+),", body[: body.index("\n}\n")])]
 
 
 def check(repo):
     bad = 0
-    for spec, source, name, make in TABLES:
+    for spec, name, source, make in TABLES:
         rows = make()
-        text = open(f"{repo}/crates/elementary/specs/{spec}.antt").read()
-        body = text[text.index(f"\n{name} =") :]
-        listed = [int(v) for v in re.findall(r"(\d+) ∷", body[: body.index("[]")])]
-        code = open(f"{repo}/crates/elementary/src/{source}.rt").read()
-        body = code[code.index(f"fn {name}_at(") :]
-        arms = [int(v) for v in re.findall(r"=> (\d+),", body[: body.index("\n}\n")])]
-        same = listed == rows and arms == rows
+        same = (spec is None or listed(repo, spec, name) == rows) and (source is None or arms(repo, source, name) == rows)
         bad += not same
         print(name, len(rows), "entries:", "as computed" if same else "DIFFERENT")
     ln2 = {48: 195103586505167, 52: 3121657384082679}
@@ -88,7 +101,7 @@ def check(repo):
 def main():
     if len(sys.argv) == 3 and sys.argv[1] == "--check":
         sys.exit(1 if check(sys.argv[2]) else 0)
-    for _, _, name, make in TABLES:
+    for _, name, _, make in TABLES:
         rows = make()
         print(f"{name} =")
         for i in range(0, len(rows), 8):

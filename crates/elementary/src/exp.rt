@@ -1,12 +1,10 @@
 // e^x. |x| becomes a fixed point number in units of 2^-48; x + 127 ln 2 is divided by ln 2 into n and a rest r below ln 2, and
-// e^x = 2^(n - 127) e^r. e^r is the product of two table entries and 1 + s (1 + s / 2) for the last s below 2^-9.
-// A table is a `match`: that becomes static data, where a `const` array is stored to the stack at each call.
+// e^x = 2^(n - 127) e^r. e^r is the product of a table entry (powers.rt) and 1 + s (1 + s / 2) for the last s below 2^-9.
 ghost use mathlib.Core.Path.{_≡_};
-ghost use lib.ListN.{getD};
 ghost use lib.Dec.{ltb};
 ghost use Prim.Native.Nat.{_<_, _≤_};
 ghost use lib.Ieee.{binary32, ofBits};
-ghost use Rattle.elementary.specs.Exp.{coarse, fine, power, small, mant, fixed, packed, shifted, limit, expBits, expOf};
+ghost use Rattle.elementary.specs.Exp.{small, mant, fixed, packed, shifted, limit, expBits, expOf};
 ghost use Rattle.elementary.specs.Accuracy.{IsExp};
 
 // e^(p / 2^48) in units of 2^-31.
@@ -18,86 +16,12 @@ fn small_exp(p: u64) -> u64
     2147483648 + s * (2147483648 + s / 1024) / 1099511627776
 }
 
-// e^(i / 16) in units of 2^-31.
-fn coarse_at(i: u64) -> u64
-    requires { ⌜ i < 16 ⌝ }
-    ensures { λ r. ⌜ r ≡ getD coarse i 0 ⌝ }
-{
-    match i {
-        0 => 2147483648,
-        1 => 2285984443,
-        2 => 2433417773,
-        3 => 2590359736,
-        4 => 2757423585,
-        5 => 2935262128,
-        6 => 3124570270,
-        7 => 3326087739,
-        8 => 3540601968,
-        9 => 3768951177,
-        10 => 4012027644,
-        11 => 4270781196,
-        12 => 4546222918,
-        13 => 4839429105,
-        14 => 5151545467,
-        _ => 5483791604,
-    }
-}
-
-// e^(i / 512) in units of 2^-31.
-fn fine_at(i: u64) -> u64
-    requires { ⌜ i < 32 ⌝ }
-    ensures { λ r. ⌜ r ≡ getD fine i 0 ⌝ }
-{
-    match i {
-        0 => 2147483648,
-        1 => 2151682050,
-        2 => 2155888661,
-        3 => 2160103496,
-        4 => 2164326571,
-        5 => 2168557902,
-        6 => 2172797505,
-        7 => 2177045397,
-        8 => 2181301594,
-        9 => 2185566112,
-        10 => 2189838967,
-        11 => 2194120176,
-        12 => 2198409755,
-        13 => 2202707720,
-        14 => 2207014087,
-        15 => 2211328874,
-        16 => 2215652096,
-        17 => 2219983770,
-        18 => 2224323913,
-        19 => 2228672541,
-        20 => 2233029671,
-        21 => 2237395319,
-        22 => 2241769502,
-        23 => 2246152237,
-        24 => 2250543540,
-        25 => 2254943428,
-        26 => 2259351918,
-        27 => 2263769027,
-        28 => 2268194771,
-        29 => 2272629168,
-        30 => 2277072235,
-        _ => 2281523987,
-    }
-}
-
-// e^(i / 512) for larger i, as a product.
-fn power_at(i: u64) -> u64
-    requires { ⌜ i < 355 ⌝ }
-    ensures { λ r. ⌜ r ≡ power i ⌝ }
-{
-    coarse_at(i / 32 % 16) * fine_at(i % 32) / 2147483648
-}
-
 // e^(r / 2^48) in units of 2^-31.
 fn mantissa(r: u64) -> u64
     requires { ⌜ r < 195103586505168 ⌝ }
     ensures { λ m. ⌜ m ≡ mant r ⌝ }
 {
-    power_at(r / 549755813888) * small_exp(r % 549755813888) / 2147483648
+    super::powers::power_at(r / 549755813888) * small_exp(r % 549755813888) / 2147483648
 }
 
 // 2^(e - 127) e^(r / 2^48), rounded to the nearest f32: the last step of exp and of powf. At e = 0 the unit is that of a subnormal.

@@ -4,6 +4,7 @@
 mod exp;
 mod from_one;
 mod ln;
+mod powers;
 mod powf;
 
 pub use exp::exp_f32;
