@@ -95,6 +95,22 @@ fn key_of(card: Card) -> u64
     )
 }
 
+// The same card once more: an event lends it on by address, and the turn's own stays in registers.
+fn copy_of(card: Card) -> Card
+    ensures { λ r. ⌜ r ≡ card ⌝ }
+{
+    Card {
+        difficulty: card.difficulty,
+        stability: card.stability,
+        last_date: card.last_date,
+        due: card.due,
+        interval: card.interval,
+        desired_retention: card.desired_retention,
+        reps: card.reps,
+        lapses: card.lapses,
+    }
+}
+
 fn put_off_card(card: Card, d: u32) -> Card
     ensures { λ r. ⌜ r ≡ putOffCard card d ⌝ }
 {
@@ -376,7 +392,7 @@ fn turn(
             config,
             m,
             c,
-            card,
+            copy_of(card),
             true,
             d,
             len,
@@ -394,7 +410,7 @@ fn turn(
             config,
             m,
             c,
-            card,
+            copy_of(card),
             false,
             d,
             len,
