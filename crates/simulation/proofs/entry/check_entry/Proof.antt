@@ -1,0 +1,101 @@
+-- `simulation::entry::check_entry` meets its contract.
+use borrow.Author.Tests.{lt-ltb, le-ltb, eq-eqb, ne-eqb}
+use mathlib.Core.Path.{_≡_, sym, _∙_}
+use Rattle.cards.proofs.Basics.{not-true, not-false}
+use Rattle.simulation.specs.declared.Check.the-variants as check
+use Rattle.simulation.specs.Entry.{checkParameters, checked}
+use Rattle.simulation.proofs.Starting.{parameters-pass, parameters-fail}
+use borrow.Author.Needs.{needs}
+use Rattle.simulation.proofs.entry.check_entry.Statement.{statement}
+use Rattle.simulation.proofs.entry.check_entry.Tie as tie
+
+check-parameters-requires : tie.Need-check-parameters-requires
+check-parameters-requires c κs = search needs
+
+enum-told : tie.Need-enum-told
+enum-told c = search needs
+
+enum-told-2 : tie.Need-enum-told-2
+enum-told-2 c = search needs
+
+returns : tie.Need-returns
+unfolding checked
+returns c = parameters-fail (c .before .before .before .before .before .before .args .parameters .now) _ _ (c .before .before .check-parameters .ensures) (c .before .match .keys2)
+
+returns-2 : tie.Need-returns-2
+unfolding checked
+returns-2 c = let e : checkParameters (c .before .before .before .before .before .before .before .before .args .parameters .now) check.Passed ≡ check.Passed = sym (c .before .before .before .before .check-parameters .ensures) ∙ c .before .before .enum-told .given .1 in rw (parameters-pass, eq-eqb _ _ (c .if1 .taken))
+
+returns-3 : tie.Need-returns-3
+unfolding checked
+returns-3 c = let e : checkParameters (c .before .before .before .before .before .before .before .before .before .before .args .parameters .now) check.Passed ≡ check.Passed = sym (c .before .before .before .before .before .before .check-parameters .ensures) ∙ c .before .before .before .before .enum-told .given .1 in rw (parameters-pass, ne-eqb _ _ (c .before .before .if1 .left), lt-ltb _ _ (c .if2 .taken))
+
+returns-4 : tie.Need-returns-4
+unfolding checked
+returns-4 c = let e : checkParameters (c .before .before .before .before .before .before .before .before .before .before .before .before .args .parameters .now) check.Passed ≡ check.Passed = sym (c .before .before .before .before .before .before .before .before .check-parameters .ensures) ∙ c .before .before .before .before .before .before .enum-told .given .1 in rw (parameters-pass, ne-eqb _ _ (c .before .before .before .before .if1 .left), le-ltb _ _ (c .before .before .if2 .left), eq-eqb _ _ (c .if3 .taken))
+
+returns-5 : tie.Need-returns-5
+unfolding checked
+returns-5 c = let e : checkParameters (c .before .before .before .before .before .before .before .before .before .before .before .before .before .before .args .parameters .now) check.Passed ≡ check.Passed = sym (c .before .before .before .before .before .before .before .before .before .before .check-parameters .ensures) ∙ c .before .before .before .before .before .before .before .before .enum-told .given .1 in rw (parameters-pass, ne-eqb _ _ (c .before .before .before .before .before .before .if1 .left), le-ltb _ _ (c .before .before .before .before .if2 .left), ne-eqb _ _ (c .before .before .if3 .left), lt-ltb _ _ (c .if4 .taken))
+
+config-ok-requires : tie.Need-config-ok-requires
+config-ok-requires c κs = search needs
+
+returns-6 : tie.Need-returns-6
+unfolding checked
+returns-6 c = let e : checkParameters (c .before .before .before .before .before .before .before .before .before .before .before .before .before .before .before .before .args .parameters .now) check.Passed ≡ check.Passed = sym (c .before .before .before .before .before .before .before .before .before .before .before .before .check-parameters .ensures) ∙ c .before .before .before .before .before .before .before .before .before .before .enum-told .given .1 in rw (parameters-pass, ne-eqb _ _ (c .before .before .before .before .before .before .before .before .if1 .left), le-ltb _ _ (c .before .before .before .before .before .before .if2 .left), ne-eqb _ _ (c .before .before .before .before .if3 .left), le-ltb _ _ (c .before .before .if4 .left), ← c .before .config-ok .ensures, not-true (c .before .config-ok .result) (c .if5 .taken))
+
+is-finite-requires : tie.Need-is-finite-requires
+is-finite-requires c κs = search needs
+
+returns-7 : tie.Need-returns-7
+unfolding checked
+returns-7 c = let e : checkParameters (c .before .before .before .before .before .before .before .before .before .before .before .before .before .before .before .before .before .before .args .parameters .now) check.Passed ≡ check.Passed = sym (c .before .before .before .before .before .before .before .before .before .before .before .before .before .before .check-parameters .ensures) ∙ c .before .before .before .before .before .before .before .before .before .before .before .before .enum-told .given .1 in rw (parameters-pass, ne-eqb _ _ (c .before .before .before .before .before .before .before .before .before .before .if1 .left), le-ltb _ _ (c .before .before .before .before .before .before .before .before .if2 .left), ne-eqb _ _ (c .before .before .before .before .before .before .if3 .left), le-ltb _ _ (c .before .before .before .before .if4 .left), ← c .before .before .before .config-ok .ensures, not-false (c .before .before .before .config-ok .result) (c .before .before .if5 .left), ← c .before .is-finite .ensures, not-true (c .before .is-finite .result) (c .if6 .taken))
+
+lists-ok-requires : tie.Need-lists-ok-requires
+lists-ok-requires c κs = search needs
+
+returns-8 : tie.Need-returns-8
+unfolding checked
+returns-8 c = let e : checkParameters (c .before .before .before .before .before .before .before .before .before .before .before .before .before .before .before .before .before .before .before .before .args .parameters .now) check.Passed ≡ check.Passed = sym (c .before .before .before .before .before .before .before .before .before .before .before .before .before .before .before .before .check-parameters .ensures) ∙ c .before .before .before .before .before .before .before .before .before .before .before .before .before .before .enum-told .given .1 in rw (parameters-pass, ne-eqb _ _ (c .before .before .before .before .before .before .before .before .before .before .before .before .if1 .left), le-ltb _ _ (c .before .before .before .before .before .before .before .before .before .before .if2 .left), ne-eqb _ _ (c .before .before .before .before .before .before .before .before .if3 .left), le-ltb _ _ (c .before .before .before .before .before .before .if4 .left), ← c .before .before .before .before .before .config-ok .ensures, not-false (c .before .before .before .before .before .config-ok .result) (c .before .before .before .before .if5 .left), ← c .before .before .before .is-finite .ensures, not-false (c .before .before .before .is-finite .result) (c .before .before .if6 .left), ← c .before .lists-ok .ensures, not-true (c .before .lists-ok .result) (c .if7 .taken))
+
+cast-if8 : tie.Need-cast-if8
+cast-if8 c = search needs
+
+returns-9 : tie.Need-returns-9
+unfolding checked
+returns-9 c = let e : checkParameters (c .before .before .before .before .before .before .before .before .before .before .before .before .before .before .before .before .before .before .before .before .before .before .args .parameters .now) check.Passed ≡ check.Passed = sym (c .before .before .before .before .before .before .before .before .before .before .before .before .before .before .before .before .before .before .check-parameters .ensures) ∙ c .before .before .before .before .before .before .before .before .before .before .before .before .before .before .before .before .enum-told .given .1 in rw (parameters-pass, ne-eqb _ _ (c .before .before .before .before .before .before .before .before .before .before .before .before .before .before .if1 .left), le-ltb _ _ (c .before .before .before .before .before .before .before .before .before .before .before .before .if2 .left), ne-eqb _ _ (c .before .before .before .before .before .before .before .before .before .before .if3 .left), le-ltb _ _ (c .before .before .before .before .before .before .before .before .if4 .left), ← c .before .before .before .before .before .before .before .config-ok .ensures, not-false (c .before .before .before .before .before .before .before .config-ok .result) (c .before .before .before .before .before .before .if5 .left), ← c .before .before .before .before .before .is-finite .ensures, not-false (c .before .before .before .before .before .is-finite .result) (c .before .before .before .before .if6 .left), ← c .before .before .before .lists-ok .ensures, not-false (c .before .before .before .lists-ok .result) (c .before .before .if7 .left), lt-ltb _ _ (c .if8 .taken))
+
+cast-check-cards : tie.Need-cast-check-cards
+cast-check-cards c = search needs
+
+check-cards-requires : tie.Need-check-cards-requires
+check-cards-requires c κs = search needs
+
+returns-10 : tie.Need-returns-10
+unfolding checked
+returns-10 c = let e : checkParameters (c .before .before .before .before .before .before .before .before .before .before .before .before .before .before .before .before .before .before .before .before .before .before .before .args .parameters .now) check.Passed ≡ check.Passed = sym (c .before .before .before .before .before .before .before .before .before .before .before .before .before .before .before .before .before .before .before .check-parameters .ensures) ∙ c .before .before .before .before .before .before .before .before .before .before .before .before .before .before .before .before .before .enum-told .given .1 in rw (parameters-pass, ne-eqb _ _ (c .before .before .before .before .before .before .before .before .before .before .before .before .before .before .before .if1 .left), le-ltb _ _ (c .before .before .before .before .before .before .before .before .before .before .before .before .before .if2 .left), ne-eqb _ _ (c .before .before .before .before .before .before .before .before .before .before .before .if3 .left), le-ltb _ _ (c .before .before .before .before .before .before .before .before .before .if4 .left), ← c .before .before .before .before .before .before .before .before .config-ok .ensures, not-false (c .before .before .before .before .before .before .before .before .config-ok .result) (c .before .before .before .before .before .before .before .if5 .left), ← c .before .before .before .before .before .before .is-finite .ensures, not-false (c .before .before .before .before .before .before .is-finite .result) (c .before .before .before .before .before .if6 .left), ← c .before .before .before .before .lists-ok .ensures, not-false (c .before .before .before .before .lists-ok .result) (c .before .before .before .if7 .left), le-ltb _ _ (c .before .if8 .left)) (c .check-cards .ensures)
+
+pub check-entry-spec : {M : Type 1} → statement M
+check-entry-spec =
+    tie.close
+    (tie.spec
+    check-parameters-requires
+    enum-told
+    enum-told-2
+    returns
+    returns-2
+    returns-3
+    returns-4
+    returns-5
+    config-ok-requires
+    returns-6
+    is-finite-requires
+    returns-7
+    lists-ok-requires
+    returns-8
+    cast-if8
+    returns-9
+    cast-check-cards
+    check-cards-requires
+    returns-10)

@@ -1,0 +1,55 @@
+-- `simulation::entry::first_not_finite` meets its contract.
+use mathlib.Core.Bool.{true, false, not}
+use Prim.Native.Nat.{ℕ, _-_, _≤_}
+use native.Mathlib.Omega.{arith}
+use mathlib.Core.Path.{_≡_, sym, ap, _∙_}
+use Rattle.simulation.specs.Entry.{firstWhere, notFinite}
+use Rattle.simulation.proofs.First.{first-here, first-on, first-end}
+use Rattle.float32.specs.Float32.{isFinite}
+use Rattle.simulation.proofs.entry.first_not_finite.Statement.{statement}
+use Rattle.simulation.proofs.entry.first_not_finite.Tie as tie
+
+abbrev Inv-loop : tie.InvT-loop
+Inv-loop w n i₀ i = (firstWhere (notFinite w) (n - i) i ≡ firstWhere (notFinite w) n 0) × (i ≤ n)
+
+abbrev μ-loop : tie.MeasureT-loop
+μ-loop w n i₀ i = n - i
+
+loop-holds : tie.Need-loop-holds Inv-loop μ-loop
+loop-holds c = (ap (λ (z : ℕ). firstWhere (notFinite (c .before .args .w .now)) z 0) (let z : c .before .args .n - 0 ≡ c .before .args .n = omega arith in z), omega arith)
+
+parameter-requires : tie.Need-parameter-requires Inv-loop μ-loop
+parameter-requires c κs = tt
+
+is-finite-requires : tie.Need-is-finite-requires Inv-loop μ-loop
+is-finite-requires c κs = tt
+
+returns : tie.Need-returns Inv-loop μ-loop
+returns c = let e : notFinite (c .before .before .before .before .before .before .args .w .now) (c .before .before .before .before .loop .i) ≡ true = sym (ap not (c .before .is-finite .ensures ∙ ap isFinite (c .before .before .parameter .ensures))) ∙ c .if1 .taken in sym (first-here (notFinite (c .before .before .before .before .before .before .args .w .now)) (c .before .before .before .before .before .before .args .n) (c .before .before .before .before .loop .i) (c .before .before .before .loop-test .taken) e) ∙ c .before .before .before .before .loop .inv .0
+
+add-i : tie.Need-add-i Inv-loop μ-loop
+add-i c = omega arith
+
+loop-less : tie.Need-loop-less Inv-loop μ-loop
+loop-less c = omega arith
+
+loop-again : tie.Need-loop-again Inv-loop μ-loop
+loop-again c = let e : notFinite (c .before .before .before .before .before .before .args .w .now) (c .before .before .before .before .loop .i) ≡ false = sym (ap not (c .before .is-finite .ensures ∙ ap isFinite (c .before .before .parameter .ensures))) ∙ c .if1 .left in (first-on (notFinite (c .before .before .before .before .before .before .args .w .now)) (c .before .before .before .before .before .before .args .n) (c .before .before .before .before .loop .i) (c .before .before .before .loop-test .taken) e ∙ c .before .before .before .before .loop .inv .0, omega arith)
+
+returns-2 : tie.Need-returns-2 Inv-loop μ-loop
+returns-2 c = sym (first-end (notFinite (c .before .before .before .args .w .now)) (c .before .before .before .args .n) (c .before .loop .i) (c .loop-test .left) (c .before .loop .inv .1)) ∙ c .before .loop .inv .0
+
+pub first-not-finite-spec : {M : Type 1} → statement M
+first-not-finite-spec =
+    tie.close
+    (tie.spec
+    Inv-loop
+    μ-loop
+    loop-holds
+    parameter-requires
+    is-finite-requires
+    returns
+    add-i
+    loop-less
+    loop-again
+    returns-2)

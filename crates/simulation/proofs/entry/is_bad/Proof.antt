@@ -1,0 +1,19 @@
+-- `simulation::entry::is_bad` meets its contract.
+use borrow.Author.Needs.{needs}
+use Rattle.simulation.proofs.entry.is_bad.Statement.{statement}
+use Rattle.simulation.proofs.entry.is_bad.Tie as tie
+
+is-kept-requires : tie.Need-is-kept-requires
+is-kept-requires c κs = search needs
+
+card-ok-requires : tie.Need-card-ok-requires
+card-ok-requires c κs = search needs
+
+returns : tie.Need-returns
+returns c = rw (← c .before .before .is-kept .ensures, c .before .if1 .taken, ← c .card-ok .ensures)
+
+returns-2 : tie.Need-returns-2
+returns-2 c = rw (← c .before .is-kept .ensures, c .if1 .left)
+
+pub is-bad-spec : {M : Type 1} → statement M
+is-bad-spec = tie.close (tie.spec is-kept-requires card-ok-requires returns returns-2)

@@ -1,0 +1,55 @@
+-- `simulation::entry::lists_ok` meets its contract.
+use borrow.Author.Tests.{le-leb, lt-leb, eq-eqb, ne-eqb}
+use Rattle.simulation.specs.Entry.{lengthsOk}
+use borrow.Author.Needs.{needs}
+use Rattle.simulation.proofs.entry.lists_ok.Statement.{statement}
+use Rattle.simulation.proofs.entry.lists_ok.Tie as tie
+
+returns : tie.Need-returns
+unfolding lengthsOk
+returns c = rw (ne-eqb _ _ (c .if1 .taken))
+
+returns-2 : tie.Need-returns-2
+unfolding lengthsOk
+returns-2 c = rw (eq-eqb _ _ (c .before .if1 .left), ne-eqb _ _ (c .if2 .taken))
+
+returns-3 : tie.Need-returns-3
+unfolding lengthsOk
+returns-3 c = rw (eq-eqb _ _ (c .before .before .if1 .left), eq-eqb _ _ (c .before .if2 .left), lt-leb _ _ (c .if3 .taken))
+
+returns-4 : tie.Need-returns-4
+unfolding lengthsOk
+returns-4 c = rw (eq-eqb _ _ (c .before .before .before .if1 .left), eq-eqb _ _ (c .before .before .if2 .left), le-leb _ _ (c .before .if3 .left), lt-leb _ _ (c .if4 .taken))
+
+returns-5 : tie.Need-returns-5
+unfolding lengthsOk
+returns-5 c = rw (eq-eqb _ _ (c .before .before .before .before .if1 .left), eq-eqb _ _ (c .before .before .before .if2 .left), le-leb _ _ (c .before .before .if3 .left), le-leb _ _ (c .before .if4 .left), lt-leb _ _ (c .if5 .taken))
+
+returns-6 : tie.Need-returns-6
+unfolding lengthsOk
+returns-6 c = rw (eq-eqb _ _ (c .before .before .before .before .before .if1 .left), eq-eqb _ _ (c .before .before .before .before .if2 .left), le-leb _ _ (c .before .before .before .if3 .left), le-leb _ _ (c .before .before .if4 .left), le-leb _ _ (c .before .if5 .left), lt-leb _ _ (c .if6 .taken))
+
+returns-7 : tie.Need-returns-7
+unfolding lengthsOk
+returns-7 c = rw (eq-eqb _ _ (c .before .before .before .before .before .before .if1 .left), eq-eqb _ _ (c .before .before .before .before .before .if2 .left), le-leb _ _ (c .before .before .before .before .if3 .left), le-leb _ _ (c .before .before .before .if4 .left), le-leb _ _ (c .before .before .if5 .left), le-leb _ _ (c .before .if6 .left), lt-leb _ _ (c .if7 .taken))
+
+due-days-requires : tie.Need-due-days-requires
+due-days-requires c κs = search needs
+
+returns-8 : tie.Need-returns-8
+unfolding lengthsOk
+returns-8 c = rw (eq-eqb _ _ (c .before .before .before .before .before .before .before .if1 .left), eq-eqb _ _ (c .before .before .before .before .before .before .if2 .left), le-leb _ _ (c .before .before .before .before .before .if3 .left), le-leb _ _ (c .before .before .before .before .if4 .left), le-leb _ _ (c .before .before .before .if5 .left), le-leb _ _ (c .before .before .if6 .left), le-leb _ _ (c .before .if7 .left), ← c .due-days .ensures)
+
+pub lists-ok-spec : {M : Type 1} → statement M
+lists-ok-spec =
+    tie.close
+    (tie.spec
+    returns
+    returns-2
+    returns-3
+    returns-4
+    returns-5
+    returns-6
+    returns-7
+    due-days-requires
+    returns-8)

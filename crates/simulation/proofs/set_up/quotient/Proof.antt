@@ -1,0 +1,18 @@
+-- `simulation::set_up::quotient` meets its contract.
+use mathlib.Core.Path.{sym}
+use native.Mathlib.Nat.{div-zero}
+use borrow.Author.Needs.{needs}
+use Rattle.simulation.proofs.set_up.quotient.Statement.{statement}
+use Rattle.simulation.proofs.set_up.quotient.Tie as tie
+
+div-result : tie.Need-div-result
+div-result c = search needs
+
+returns : tie.Need-returns
+returns c = rw (c .if1 .taken) (sym (div-zero (c .before .args .i)))
+
+returns-2 : tie.Need-returns-2
+returns-2 c = search needs
+
+pub quotient-spec : {M : Type 1} → statement M
+quotient-spec = tie.close (tie.spec div-result returns returns-2)

@@ -1,0 +1,50 @@
+-- `simulation::set_up::retain_card` meets its contract.
+use Rattle.simulation.proofs.Dealing.{retained-is, dropped-is}
+use borrow.Author.Needs.{needs}
+use Rattle.simulation.proofs.set_up.retain_card.Statement.{statement}
+use Rattle.simulation.proofs.set_up.retain_card.Tie as tie
+
+is-kept-requires : tie.Need-is-kept-requires
+is-kept-requires c κs = search needs
+
+join-requires : tie.Need-join-requires
+join-requires c κs = search needs
+
+day-of-requires : tie.Need-day-of-requires
+day-of-requires c κs = search needs
+
+add-due-requires : tie.Need-add-due-requires
+add-due-requires c κs = search needs
+
+same-length : tie.Need-same-length
+same-length c = search needs
+
+same-length-2 : tie.Need-same-length-2
+same-length-2 c = search needs
+
+same-length-3 : tie.Need-same-length-3
+same-length-3 c = search needs
+
+same-length-4 : tie.Need-same-length-4
+same-length-4 c = search needs
+
+returns : tie.Need-returns
+returns c = retained-is (c .before .before .before .before .before .before .before .before .before .before .before .before .before .before .before .args .card) (c .before .before .before .before .before .before .before .before .before .before .before .before .before .before .before .args .len) _ _ _ _ _ _ _ (c .before .before .before .before .before .before .before .before .join .ensures) (c .before .before .before .before .before .before .before .before .before .before .before .before .before .before .before .args .span) _ _ _ _ (c .before .before .before .before .before .before .before .before .before .before .before .before .before .is-kept .ensures) (c .before .before .before .before .before .before .before .before .before .before .before .before .if1 .taken) (c .before .before .before .day-of .ensures) (c .before .before .add-due .ensures)
+
+returns-2 : tie.Need-returns-2
+returns-2 c = dropped-is (c .before .before .before .args .span) _ (c .before .before .before .args .card) _ (c .before .is-kept .ensures) (c .if1 .left)
+
+pub retain-card-spec : {M : Type 1} → statement M
+retain-card-spec =
+    tie.close
+    (tie.spec
+    is-kept-requires
+    join-requires
+    day-of-requires
+    add-due-requires
+    same-length
+    same-length-2
+    same-length-3
+    same-length-4
+    returns
+    returns-2)

@@ -1,0 +1,22 @@
+-- `simulation::turn::event_card` meets its contract.
+use Rattle.simulation.specs.Turn.{eventCard}
+use borrow.Author.Needs.{needs}
+use Rattle.simulation.proofs.turn.event_card.Statement.{statement}
+use Rattle.simulation.proofs.turn.event_card.Tie as tie
+
+from-u32-requires : tie.Need-from-u32-requires
+from-u32-requires c κs = search needs
+
+raise-requires : tie.Need-raise-requires
+raise-requires c κs = search needs
+
+lapses-after-requires : tie.Need-lapses-after-requires
+lapses-after-requires c κs = search needs
+
+returns : tie.Need-returns
+unfolding eventCard
+returns c = rw (c .lapses-after .ensures, c .before .raise .ensures, c .before .before .from-u32 .ensures)
+
+pub event-card-spec : {M : Type 1} → statement M
+event-card-spec =
+    tie.close (tie.spec from-u32-requires raise-requires lapses-after-requires returns)

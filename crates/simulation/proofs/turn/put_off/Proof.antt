@@ -1,0 +1,62 @@
+-- `simulation::turn::put_off` meets its contract.
+use Rattle.simulation.specs.Turn.{putOffCard}
+use borrow.Author.Needs.{needs}
+use Rattle.simulation.proofs.turn.put_off.Statement.{statement}
+use Rattle.simulation.proofs.turn.put_off.Tie as tie
+
+is-new-requires : tie.Need-is-new-requires
+is-new-requires c κs = search needs
+
+put-off-card-requires : tie.Need-put-off-card-requires
+put-off-card-requires c κs = search needs
+
+day-after-requires : tie.Need-day-after-requires
+day-after-requires c κs = search needs
+
+card-priority-requires : tie.Need-card-priority-requires
+card-priority-requires c κs = search needs
+
+write-floats-requires : tie.Need-write-floats-requires
+write-floats-requires c κs = search needs
+
+change-front-requires : tie.Need-change-front-requires
+change-front-requires c κs = search needs
+
+move-due-requires : tie.Need-move-due-requires
+move-due-requires c κs = search needs
+
+same-length : tie.Need-same-length
+same-length c = search needs
+
+same-length-2 : tie.Need-same-length-2
+same-length-2 c = search needs
+
+same-length-3 : tie.Need-same-length-3
+same-length-3 c = search needs
+
+returns : tie.Need-returns
+unfolding putOffCard
+returns c =
+    let p = c .before .before .before .before .before .before .before .before .before .before .before in
+    let n = p .before .before in
+    record {
+      cards-are = rw (← p .before .put-off-card .ensures) (c .before .before .before .before .before .before .before .before .write-floats .ensures);
+      queue-is = rw (← n .is-new .ensures, ← p .day-after .ensures, ← c .before .before .before .before .before .before .before .before .before .before .card-priority .ensures) (c .before .before .before .before .before .change-front .ensures);
+      due-are = rw (← n .is-new .ensures) (c .before .before .move-due .ensures);
+    }
+
+pub put-off-spec : {M : Type 1} → statement M
+put-off-spec =
+    tie.close
+    (tie.spec
+    is-new-requires
+    put-off-card-requires
+    day-after-requires
+    card-priority-requires
+    write-floats-requires
+    change-front-requires
+    move-due-requires
+    same-length
+    same-length-2
+    same-length-3
+    returns)

@@ -1,0 +1,177 @@
+// The run of a call that the entry accepts: set-up, and turns until one stops.
+use super::Answer;
+use super::Outcome;
+use super::Progress;
+use super::Reach;
+use super::Refusal;
+use cards::SimulatorConfig;
+use model::Fsrs7;
+ghost use mathlib.Core.Path.{_≡_};
+ghost use Prim.Native.Nat.{suc, _*_, _≤_};
+ghost use Rattle.model.specs.Kept as Kept;
+ghost use Rattle.events.specs.Scalars.{kept};
+ghost use Rattle.simulation.specs.State.{state};
+ghost use Rattle.simulation.specs.Model.{modelOf};
+ghost use Rattle.simulation.specs.Steps.{Ran, answered, Done};
+ghost use Rattle.simulation.specs.declared.Check.the-variants as check;
+ghost use Rattle.simulation.specs.Entry.{inputs, checked};
+ghost use Rattle.simulation.specs.SetUp.{setUp};
+ghost use Rattle.simulation.specs.Simulate.{progress, finished};
+
+// At most `bound` turns.
+fn run_turns(
+    cards: &mut [[f32; 6]],
+    counts: &mut [[u32; 2]],
+    rows: &mut [[u64; 2]],
+    days: &mut [[u32; 4]],
+    sums: &mut [[f32; 2]],
+    due: &mut [u32],
+    keys: &mut [[u32; 2]],
+    intervals: &mut [f32],
+    config: SimulatorConfig,
+    m: Fsrs7,
+    len: u32,
+    seed: u64,
+    bound: u32,
+) -> Reach
+    ensures { λ r. ⌜ Ran config (modelOf config (kept m)) (state (now (cards .entry)) (now (counts .entry)) (now (rows .entry)) (now (days .entry)) (now (sums .entry)) (now (due .entry)) (now (keys .entry)) (now (intervals .entry)) len seed) bound r
+        (now (cards .exit)) (now (counts .exit)) (now (rows .exit)) (now (days .exit)) (now (sums .exit)) (now (due .exit)) (now (keys .exit)) (now (intervals .exit)) ⌝ }
+{
+    let mut n = len;
+    let mut draws = seed;
+    let mut turns: u32 = 0;
+    while turns < bound {
+        let o = super::turn::turn(
+            cards,
+            counts,
+            rows,
+            days,
+            sums,
+            due,
+            keys,
+            intervals,
+            config,
+            m,
+            n,
+            draws,
+        );
+        let Outcome::Took(left, after) = o else {
+            return Reach {
+                outcome: o,
+                turns,
+                draws,
+            };
+        };
+        n = left;
+        draws = after;
+        turns += 1;
+    }
+    Reach {
+        outcome: Outcome::Ended,
+        turns,
+        draws,
+    }
+}
+
+fn bound_of(len: u32, span: u32) -> u32
+    requires { ⌜ (len ≤ 65536) × (span ≤ 36500) ⌝ }
+    ensures { λ r. ⌜ r ≡ suc (len * suc span) ⌝ }
+{
+    len * (span + 1) + 1
+}
+
+fn answer_of(r: Reach, cards: u32) -> Answer
+    ensures { λ x. ⌜ x ≡ answered (r .outcome) (progress (r .turns) cards (r .draws)) ⌝ }
+{
+    let progress = Progress {
+        turns: r.turns,
+        cards,
+        draws: r.draws,
+    };
+    let outcome = r.outcome;
+    match outcome {
+        Outcome::Took(_, _) => Answer::Finished(progress),
+        Outcome::Ended => Answer::Finished(progress),
+        Outcome::Chance(c) => Answer::Refused(Refusal::Chance(c), progress),
+        Outcome::TableFull(c) => Answer::Refused(Refusal::TableFull(c), progress),
+        Outcome::DueCount(c) => Answer::Refused(Refusal::DueCount(c), progress),
+    }
+}
+
+// A call that the entry accepts: set-up, and the turns.
+pub(crate) fn start(
+    cards: &mut [[f32; 6]],
+    counts: &mut [[u32; 2]],
+    rows: &mut [[u64; 2]],
+    days: &mut [[u32; 4]],
+    sums: &mut [[f32; 2]],
+    due: &mut [u32],
+    keys: &mut [[u32; 2]],
+    intervals: &mut [f32],
+    parameters: &[f32],
+    existing: &[[f32; 6]],
+    existing_counts: &[[u32; 2]],
+    config: SimulatorConfig,
+    retention: f32,
+    seed: u64,
+) -> Answer
+    requires { ⌜ checked
+        (inputs config (now parameters) retention seed (now existing) (now «existing_counts»))
+        (state (now cards) (now counts) (now rows) (now days) (now sums) (now due) (now keys) (now intervals) 0 seed) ≡ check.Passed ⌝ }
+    ensures { λ r. ⌜ Done
+        (finished (modelOf config (kept (Kept.newOf (now (parameters .entry)))))
+        (inputs config (now (parameters .entry)) retention seed (now (existing .entry)) (now («existing_counts» .entry)))
+        (setUp (inputs config (now (parameters .entry)) retention seed (now (existing .entry)) (now («existing_counts» .entry)))
+        (state (now (cards .entry)) (now (counts .entry)) (now (rows .entry)) (now (days .entry)) (now (sums .entry)) (now (due .entry)) (now (keys .entry)) (now (intervals .entry)) 0 seed)))
+        r
+        (now (cards .exit)) (now (counts .exit)) (now (rows .exit)) (now (days .exit)) (now (sums .exit)) (now (due .exit)) (now (keys .exit)) (now (intervals .exit)) ⌝ }
+{
+    let span = config.learn_span;
+    let n = existing.len() as u32;
+    super::set_up::first_due(due, span + span / 2);
+    let retained = super::set_up::retain(
+        cards,
+        counts,
+        rows,
+        due,
+        existing,
+        existing_counts,
+        span,
+        n,
+    );
+    let more = super::set_up::new_cards(config, retained);
+    let len = super::set_up::create(
+        cards,
+        counts,
+        rows,
+        retention,
+        config.learn_limit,
+        more,
+        retained,
+    );
+    super::set_up::first_counts(
+        days,
+        span,
+        super::set_up::known(existing, existing_counts, n),
+    );
+    super::set_up::first_sums(sums, span);
+    intervals::clear(intervals);
+    let m = Fsrs7::new(parameters);
+    let bound = bound_of(len, span);
+    let reach = run_turns(
+        cards,
+        counts,
+        rows,
+        days,
+        sums,
+        due,
+        keys,
+        intervals,
+        config,
+        m,
+        len,
+        seed,
+        bound,
+    );
+    answer_of(reach, len)
+}

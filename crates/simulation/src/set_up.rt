@@ -1,0 +1,222 @@
+// Set-up: the lists as a run finds them. Places past what is needed never change.
+use cards::Card;
+use cards::SimulatorConfig;
+use queue::CardPriorityQueue;
+ghost use mathlib.Core.Path.{_≡_};
+ghost use mathlib.Core.Bool.{not, _&&_};
+ghost use mathlib.Core.List.{[]};
+ghost use Prim.Native.Nat.{_+_, _/_, _<_};
+ghost use lib.ListN.{set};
+ghost use Rattle.turns.specs.Sums.{bit};
+ghost use Rattle.days.specs.Counts.{dayRow};
+ghost use Rattle.cards.specs.Day as Day;
+ghost use Rattle.cards.specs.Cards.{isKept};
+ghost use Rattle.events.specs.Scalars.{kept};
+ghost use Rattle.simulation.specs.Steps.{Joined};
+ghost use Rattle.simulation.specs.SetUp.{deck, filled, newCard, retainCard, retain, known, create, newCards, firstSums};
+
+fn put_due(due: &mut [u32], i: u32)
+    ensures { λ _. ⌜ now (due .exit) ≡ set (now (due .entry)) i 0 ⌝ }
+{
+    let at = i as usize;
+    if at < due.len() {
+        due[at] = 0;
+    }
+}
+
+pub(crate) fn first_due(due: &mut [u32], n: u32)
+    ensures { λ _. ⌜ now (due .exit) ≡ filled 0 n (now (due .entry)) ⌝ }
+{
+    let mut i: u32 = 0;
+    while i < n {
+        put_due(due, i);
+        i += 1;
+    }
+}
+
+fn put_counts(days: &mut [[u32; 4]], i: u32, row: [u32; 4])
+    ensures { λ _. ⌜ now (days .exit) ≡ set (now (days .entry)) i row ⌝ }
+{
+    let at = i as usize;
+    if at < days.len() {
+        days[at] = row;
+    }
+}
+
+pub(crate) fn first_counts(days: &mut [[u32; 4]], span: u32, known: u32)
+    ensures { λ _. ⌜ now (days .exit) ≡ filled (dayRow 0 0 0 known) span (now (days .entry)) ⌝ }
+{
+    let mut i: u32 = 0;
+    while i < span {
+        put_counts(days, i, [0, 0, 0, known]);
+        i += 1;
+    }
+}
+
+fn put_sums(sums: &mut [[f32; 2]], i: u32)
+    ensures { λ _. ⌜ now (sums .exit) ≡ set (now (sums .entry)) i firstSums ⌝ }
+{
+    let at = i as usize;
+    if at < sums.len() {
+        sums[at] = [0.0, 0.0];
+    }
+}
+
+pub(crate) fn first_sums(sums: &mut [[f32; 2]], span: u32)
+    ensures { λ _. ⌜ now (sums .exit) ≡ filled firstSums span (now (sums .entry)) ⌝ }
+{
+    let mut i: u32 = 0;
+    while i < span {
+        put_sums(sums, i);
+        i += 1;
+    }
+}
+
+fn join(
+    cards: &mut [[f32; 6]],
+    counts: &mut [[u32; 2]],
+    rows: &mut [[u64; 2]],
+    card: Card,
+    len: u32,
+) -> u32
+    ensures { λ r. ⌜ Joined card len
+        (now (cards .entry)) (now (counts .entry)) (now (rows .entry)) r (now (cards .exit)) (now (counts .exit)) (now (rows .exit)) ⌝ }
+{
+    let key = super::turn::key_of(card);
+    cards::write_floats(cards, len, card);
+    cards::write_counts(counts, len, card);
+    let queue = CardPriorityQueue { len };
+    let more = queue.push(rows, len, key);
+    more.len
+}
+
+fn retain_card(
+    cards: &mut [[f32; 6]],
+    counts: &mut [[u32; 2]],
+    rows: &mut [[u64; 2]],
+    due: &mut [u32],
+    span: u32,
+    card: Card,
+    len: u32,
+) -> u32
+    ensures { λ r. ⌜ deck (now (cards .exit)) (now (counts .exit)) (now (rows .exit)) (now (due .exit)) r
+        ≡ retainCard span (deck (now (cards .entry)) (now (counts .entry)) (now (rows .entry)) (now (due .entry)) len) card ⌝ }
+{
+    if cards::is_kept(card) {
+        let more = join(cards, counts, rows, card, len);
+        days::add_due(due, span, cards::day_of(card.due));
+        return more;
+    }
+    len
+}
+
+// The kept ones of the first n existing cards join an empty queue.
+pub(crate) fn retain(
+    cards: &mut [[f32; 6]],
+    counts: &mut [[u32; 2]],
+    rows: &mut [[u64; 2]],
+    due: &mut [u32],
+    existing: &[[f32; 6]],
+    existing_counts: &[[u32; 2]],
+    span: u32,
+    n: u32,
+) -> u32
+    ensures { λ r. ⌜ deck (now (cards .exit)) (now (counts .exit)) (now (rows .exit)) (now (due .exit)) r
+        ≡ retain span (now (existing .entry)) (now («existing_counts» .entry)) n (deck (now (cards .entry)) (now (counts .entry)) (now (rows .entry)) (now (due .entry)) 0) ⌝ }
+{
+    let mut len: u32 = 0;
+    let mut i: u32 = 0;
+    while i < n {
+        let card = cards::card_at(existing, existing_counts, i);
+        len = retain_card(cards, counts, rows, due, span, card, len);
+        i += 1;
+    }
+    len
+}
+
+fn is_known(card: Card) -> bool
+    ensures { λ r. ⌜ r ≡ isKept card && not (Day.newOf (card .«last_date»)) ⌝ }
+{
+    if cards::is_kept(card) {
+        !cards::is_new(card.last_date)
+    } else {
+        false
+    }
+}
+
+fn one_more_if(n: u32, more: bool) -> u32
+    requires { ⌜ n < 4294967295 ⌝ }
+    ensures { λ r. ⌜ r ≡ n + bit more ⌝ }
+{
+    if more { n + 1 } else { n }
+}
+
+pub(crate) fn known(existing: &[[f32; 6]], existing_counts: &[[u32; 2]], n: u32) -> u32
+    ensures { λ r. ⌜ r ≡ known (now (existing .entry)) (now («existing_counts» .entry)) n ⌝ }
+{
+    let mut count: u32 = 0;
+    let mut i: u32 = 0;
+    while i < n {
+        let card = cards::card_at(existing, existing_counts, i);
+        count = one_more_if(count, is_known(card));
+        i += 1;
+    }
+    count
+}
+
+fn quotient(i: u32, limit: u32) -> u32
+    ensures { λ r. ⌜ r ≡ i / limit ⌝ }
+{
+    if limit == 0 { 0 } else { i / limit }
+}
+
+fn new_card(retention: f32, limit: u32, i: u32) -> Card
+    ensures { λ r. ⌜ r ≡ newCard retention limit i ⌝ }
+{
+    let never: f32 = -1.0 / 0.0;
+    Card {
+        difficulty: never,
+        stability: never,
+        last_date: never,
+        due: float32::from_u32(quotient(i, limit)),
+        interval: never,
+        desired_retention: retention,
+        reps: 0,
+        lapses: 0,
+    }
+}
+
+pub(crate) fn new_cards(config: SimulatorConfig, kept: u32) -> u32
+    ensures { λ r. ⌜ r ≡ newCards config kept ⌝ }
+{
+    if config.learn_limit == 0 {
+        return 0;
+    }
+    if kept < config.deck_size {
+        return config.deck_size - kept;
+    }
+    0
+}
+
+// n new cards join after the first `from`.
+pub(crate) fn create(
+    cards: &mut [[f32; 6]],
+    counts: &mut [[u32; 2]],
+    rows: &mut [[u64; 2]],
+    retention: f32,
+    limit: u32,
+    n: u32,
+    from: u32,
+) -> u32
+    ensures { λ r. ⌜ deck (now (cards .exit)) (now (counts .exit)) (now (rows .exit)) [] r
+        ≡ create retention limit n (deck (now (cards .entry)) (now (counts .entry)) (now (rows .entry)) [] from) ⌝ }
+{
+    let mut len = from;
+    let mut i: u32 = 0;
+    while i < n {
+        let card = new_card(retention, limit, i);
+        len = join(cards, counts, rows, card, len);
+        i += 1;
+    }
+    len
+}
