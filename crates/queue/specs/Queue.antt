@@ -41,10 +41,6 @@ least rows len pos =
     let first = lesser rows pos (2 * pos + 1) in
     cond (ltb (2 * pos + 2) len) (lesser rows first (2 * pos + 2)) first
 
--- of the places left and left + 1, the second only if it is among the first len, the one with the lesser key
-unfoldable pub lesserChild : List (List ℕ) → ℕ → ℕ → ℕ
-lesserChild rows len left = cond (ltb (left + 1) len) (lesser rows left (left + 1)) left
-
 -- the row at pos changes places with its lesser child while that child's key is less; n is at least len - pos
 unfoldable pub sink : ℕ → List (List ℕ) → ℕ → ℕ → List (List ℕ)
 sink zero rows len pos = rows
