@@ -3,7 +3,7 @@
 ghost use mathlib.Core.Path.{_≡_};
 ghost use Prim.Native.Nat.{_+_, _-_, _*_, _^_, _<_, _≤_, min};
 ghost use lib.ListN.{set, length};
-ghost use Rattle.queue.specs.Queue.{bubbleUp, sink, heapify, lesser, queue, front, pushed, popped, frontChanged};
+ghost use Rattle.queue.specs.Queue.{keyAt, bubbleUp, sink, heapify, lesser, queue, front, pushed, popped, frontChanged};
 ghost use Rattle.queue.specs.Key.{bit, shifted, cardPriority};
 
 fn shifted(priority: i32) -> u64
@@ -67,6 +67,19 @@ fn lesser_child(rows: &[[u64; 2]], left: usize) -> usize
     }
 }
 
+// That child's key, from the two that were compared.
+fn lesser_key(rows: &[[u64; 2]], left: usize) -> u64
+    requires { ⌜ left + 1 < length (now rows) ⌝ }
+    ensures { λ r. ⌜ r ≡ keyAt (now (rows .entry)) (lesser (now (rows .entry)) left (left + 1)) ⌝ }
+{
+    let right = left + 1;
+    if rows[right][0] < rows[left][0] {
+        rows[right][0]
+    } else {
+        rows[left][0]
+    }
+}
+
 // The end of the sinking, where the row put at pos has at most one child.
 fn only_child(rows: &mut [[u64; 2]], n: usize, pos: usize, left: usize, row: [u64; 2])
     requires { ⌜ (left ≡ 2 * pos + 1) × (n ≤ left + 1) × (pos < length (now rows)) × (n ≤ length (now rows)) ⌝ }
@@ -93,7 +106,7 @@ fn heapify(rows: &mut [[u64; 2]], n: usize, row: [u64; 2])
     let mut left = 1;
     while left + 1 < n {
         let next = lesser_child(rows, left);
-        if row[0] <= rows[next][0] {
+        if row[0] <= lesser_key(rows, left) {
             rows[pos] = row;
             return;
         }

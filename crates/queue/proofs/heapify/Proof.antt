@@ -1,8 +1,8 @@
-use mathlib.Core.Path.{_≡_, refl, _∙_}
+use mathlib.Core.Path.{_≡_, refl, sym, ap, _∙_}
 use Prim.Native.Nat.{_+_, _-_, _*_, _<_}
 use native.Mathlib.Omega.{arith}
 use lib.ListN.{length, set, length-set}
-use Rattle.queue.specs.Queue.{sink}
+use Rattle.queue.specs.Queue.{keyAt, sink}
 use Rattle.queue.proofs.Loops.{sink-turn, sink-rests}
 use borrow.Author.Needs.{needs}
 use Rattle.queue.proofs.heapify.Statement.{statement}
@@ -26,17 +26,11 @@ lesser-child-requires c κs = search needs
 array-read-if1 : tie.Need-array-read-if1 Inv-loop μ-loop
 array-read-if1 c = search needs
 
-mul-if1 : tie.Need-mul-if1 Inv-loop μ-loop
-mul-if1 c = search needs
+lesser-key-requires : tie.Need-lesser-key-requires Inv-loop μ-loop
+lesser-key-requires c κs = search needs
 
-index-1-if1 : tie.Need-index-1-if1 Inv-loop μ-loop
-index-1-if1 c = search needs
-
-index-2-if1 : tie.Need-index-2-if1 Inv-loop μ-loop
-index-2-if1 c = search needs
-
-mul-t20 : tie.Need-mul-t20 Inv-loop μ-loop
-mul-t20 c = search needs
+mul-t19 : tie.Need-mul-t19 Inv-loop μ-loop
+mul-t19 c = search needs
 
 slice-set-from-rows : tie.Need-slice-set-from-rows Inv-loop μ-loop
 slice-set-from-rows c = search needs
@@ -45,7 +39,12 @@ same-length : tie.Need-same-length Inv-loop μ-loop
 same-length c = search needs
 
 returns : tie.Need-returns Inv-loop μ-loop
-returns c = sink-rests (c .before .before .before .before .before .loop .rows) (c .before .before .before .before .before .before .args .t3) (c .before .before .before .before .before .before .args .n) (c .before .before .before .before .before .loop .pos) (c .before .before .before .before .before .loop .left) (c .before .before .lesser-child .result) _ (c .before .before .before .before .before .loop .inv .0) (omega arith) (omega arith) (omega arith) (c .before .before .lesser-child .ensures .0) (omega arith)
+returns c =
+    let k = c .before in
+    let l = k .before .before in
+    let p = l .before .before .before in
+    let e : k .lesser-key .result ≡ keyAt (p .loop .rows) (l .lesser-child .result) = k .lesser-key .ensures ∙ ap (keyAt (p .loop .rows)) (sym (l .lesser-child .ensures .0)) in
+    sink-rests (p .loop .rows) (p .before .args .t3) (p .before .args .n) (p .loop .pos) (p .loop .left) (l .lesser-child .result) _ (p .loop .inv .0) (omega arith) (omega arith) (omega arith) (l .lesser-child .ensures .0) (omega arith)
 
 mul-rows : tie.Need-mul-rows Inv-loop μ-loop
 mul-rows c = search needs
@@ -53,8 +52,8 @@ mul-rows c = search needs
 slice-copy-out-rows : tie.Need-slice-copy-out-rows Inv-loop μ-loop
 slice-copy-out-rows c = search needs
 
-mul-t24 : tie.Need-mul-t24 Inv-loop μ-loop
-mul-t24 c = search needs
+mul-t23 : tie.Need-mul-t23 Inv-loop μ-loop
+mul-t23 c = search needs
 
 slice-set-from-rows-2 : tie.Need-slice-set-from-rows-2 Inv-loop μ-loop
 slice-set-from-rows-2 c = search needs
@@ -69,7 +68,16 @@ loop-less : tie.Need-loop-less Inv-loop μ-loop
 loop-less c = search needs
 
 loop-again : tie.Need-loop-again Inv-loop μ-loop
-loop-again c = (sink-turn (c .before .before .before .before .before .before .loop .rows) (c .before .before .before .before .before .before .before .args .t3) (c .before .before .before .before .before .before .before .args .n) (c .before .before .before .before .before .before .loop .pos) (c .before .before .before .before .before .before .loop .left) (c .before .before .before .lesser-child .result) _ (c .before .before .before .before .before .before .loop .inv .0) (omega arith) (omega arith) (omega arith) (c .before .before .before .lesser-child .ensures .0) (omega arith) (c .before .if1 .left), simp length-set (omega arith), simp length-set (omega arith), refl)
+loop-again c =
+    let k = c .before .before in
+    let l = k .before .before in
+    let p = l .before .before .before in
+    let e : k .lesser-key .result ≡ keyAt (p .loop .rows) (l .lesser-child .result) = k .lesser-key .ensures ∙ ap (keyAt (p .loop .rows)) (sym (l .lesser-child .ensures .0)) in (
+      sink-turn (p .loop .rows) (p .before .args .t3) (p .before .args .n) (p .loop .pos) (p .loop .left) (l .lesser-child .result) _ (p .loop .inv .0) (omega arith) (omega arith) (omega arith) (l .lesser-child .ensures .0) (omega arith) (omega arith),
+      simp length-set (omega arith),
+      simp length-set (omega arith),
+      refl,
+    )
 
 only-child-requires : tie.Need-only-child-requires Inv-loop μ-loop
 only-child-requires c κs = search needs
@@ -90,16 +98,14 @@ heapify-spec =
     add-loop
     lesser-child-requires
     array-read-if1
-    mul-if1
-    index-1-if1
-    index-2-if1
-    mul-t20
+    lesser-key-requires
+    mul-t19
     slice-set-from-rows
     same-length
     returns
     mul-rows
     slice-copy-out-rows
-    mul-t24
+    mul-t23
     slice-set-from-rows-2
     mul-left
     add-left

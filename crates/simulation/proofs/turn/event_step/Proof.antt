@@ -20,7 +20,12 @@ enum-told : tie.Need-enum-told
 enum-told c = search needs
 
 returns : tie.Need-returns
-returns c = chance-is (c .before .before .before .before .before .before .args .config) (modelOf (c .before .before .before .before .before .before .args .config) (kept (c .before .before .before .before .before .before .args .m))) (c .before .before .before .before .before .before .args .cards .now) (c .before .before .before .before .before .before .args .counts .now) (c .before .before .before .before .before .before .args .rows .now) (c .before .before .before .before .before .before .args .days .now) (c .before .before .before .before .before .before .args .sums .now) (c .before .before .before .before .before .before .args .due .now) (c .before .before .before .before .before .before .args .keys .now) (c .before .before .before .before .before .before .args .intervals .now) (c .before .before .before .before .before .before .args .len) (c .before .before .before .before .before .before .args .draws) (c .before .before .before .before .before .before .args .c) (c .before .before .before .before .before .before .args .card) (c .before .before .before .before .before .before .args .new) (c .before .before .before .before .before .before .args .d) _ (c .before .before .event-of .ensures) (not-happened _ (c .before .match .keys2))
+returns c =
+    let start = c .before .before .before .before .before .before in
+    chance-is (start .args .config) (modelOf (start .args .config) (kept (start .args .m))) (start .args .cards .now) (start .args .counts .now)
+    (start .args .rows .now) (start .args .days .now) (start .args .sums .now) (start .args .due .now) (start .args .keys .now)
+    (start .args .intervals .now) (start .args .len) (start .args .draws) (start .args .c) (start .args .card) (start .args .new) (start .args .d) _
+    (c .before .before .event-of .ensures) (not-happened _ (c .before .match .keys2))
 
 scheduled-interval-requires : tie.Need-scheduled-interval-requires
 scheduled-interval-requires c κs = search needs
@@ -36,7 +41,15 @@ same-length-2 c = search needs
 
 returns-2 : tie.Need-returns-2
 unfolding slotOf
-returns-2 c = full-is (c .before .before .before .before .before .before .before .before .before .before .before .before .args .config) (modelOf (c .before .before .before .before .before .before .before .before .before .before .before .before .args .config) (kept (c .before .before .before .before .before .before .before .before .before .before .before .before .args .m))) (c .before .before .before .before .before .before .before .before .before .before .before .before .args .cards .now) (c .before .before .before .before .before .before .before .before .before .before .before .before .args .counts .now) (c .before .before .before .before .before .before .before .before .before .before .before .before .args .rows .now) (c .before .before .before .before .before .before .before .before .before .before .before .before .args .days .now) (c .before .before .before .before .before .before .before .before .before .before .before .before .args .sums .now) (c .before .before .before .before .before .before .before .before .before .before .before .before .args .due .now) (c .before .before .before .before .before .before .before .before .before .before .before .before .args .keys .now) (c .before .before .before .before .before .before .before .before .before .before .before .before .args .intervals .now) (c .before .before .before .before .before .before .before .before .before .before .before .before .args .len) (c .before .before .before .before .before .before .before .before .before .before .before .before .args .draws) (c .before .before .before .before .before .before .before .before .before .before .before .before .args .c) (c .before .before .before .before .before .before .before .before .before .before .before .before .args .card) (c .before .before .before .before .before .before .before .before .before .before .before .before .args .new) (c .before .before .before .before .before .before .before .before .before .before .before .before .args .d) _ _ (c .before .before .before .before .before .before .before .before .event-of .ensures) (c .before .before .before .before .before .before .drawn .given .1) _ (c .before .before .scheduled-interval .ensures) _ (c .before .is-full .ensures) (c .if1 .taken)
+returns-2 c =
+    let at-drawn = c .before .before .before .before .before .before in
+    let at-event-of = at-drawn .before .before in
+    let start = at-event-of .before .before .before .before in
+    full-is (start .args .config) (modelOf (start .args .config) (kept (start .args .m))) (start .args .cards .now) (start .args .counts .now)
+    (start .args .rows .now) (start .args .days .now) (start .args .sums .now) (start .args .due .now) (start .args .keys .now)
+    (start .args .intervals .now) (start .args .len) (start .args .draws) (start .args .c) (start .args .card) (start .args .new) (start .args .d) _ _
+    (at-event-of .event-of .ensures) (at-drawn .drawn .given .1) _ (c .before .before .scheduled-interval .ensures) _ (c .before .is-full .ensures)
+    (c .if1 .taken)
 
 interval-in-requires : tie.Need-interval-in-requires
 interval-in-requires c κs = search needs
@@ -85,7 +98,26 @@ same-length-10 c = search needs
 
 returns-3 : tie.Need-returns-3
 unfolding slotOf
-returns-3 c = handled-is (c .before .before .before .before .before .before .before .before .before .before .before .before .before .before .before .before .before .before .before .before .before .before .before .before .before .before .before .before .before .before .before .before .before .before .before .before .before .args .config) (modelOf (c .before .before .before .before .before .before .before .before .before .before .before .before .before .before .before .before .before .before .before .before .before .before .before .before .before .before .before .before .before .before .before .before .before .before .before .before .before .args .config) (kept (c .before .before .before .before .before .before .before .before .before .before .before .before .before .before .before .before .before .before .before .before .before .before .before .before .before .before .before .before .before .before .before .before .before .before .before .before .before .args .m))) (c .before .before .before .before .before .before .before .before .before .before .before .before .before .before .before .before .before .before .before .before .before .before .before .before .before .before .before .before .before .before .before .before .before .before .before .before .before .args .cards .now) (c .before .before .before .before .before .before .before .before .before .before .before .before .before .before .before .before .before .before .before .before .before .before .before .before .before .before .before .before .before .before .before .before .before .before .before .before .before .args .counts .now) (c .before .before .before .before .before .before .before .before .before .before .before .before .before .before .before .before .before .before .before .before .before .before .before .before .before .before .before .before .before .before .before .before .before .before .before .before .before .args .rows .now) (c .before .before .before .before .before .before .before .before .before .before .before .before .before .before .before .before .before .before .before .before .before .before .before .before .before .before .before .before .before .before .before .before .before .before .before .before .before .args .days .now) (c .before .before .before .before .before .before .before .before .before .before .before .before .before .before .before .before .before .before .before .before .before .before .before .before .before .before .before .before .before .before .before .before .before .before .before .before .before .args .sums .now) (c .before .before .before .before .before .before .before .before .before .before .before .before .before .before .before .before .before .before .before .before .before .before .before .before .before .before .before .before .before .before .before .before .before .before .before .before .before .args .due .now) (c .before .before .before .before .before .before .before .before .before .before .before .before .before .before .before .before .before .before .before .before .before .before .before .before .before .before .before .before .before .before .before .before .before .before .before .before .before .args .keys .now) (c .before .before .before .before .before .before .before .before .before .before .before .before .before .before .before .before .before .before .before .before .before .before .before .before .before .before .before .before .before .before .before .before .before .before .before .before .before .args .intervals .now) (c .before .before .before .before .before .before .before .before .before .before .before .before .before .before .before .before .before .before .before .before .before .before .before .before .before .before .before .before .before .before .before .before .before .before .before .before .before .args .len) (c .before .before .before .before .before .before .before .before .before .before .before .before .before .before .before .before .before .before .before .before .before .before .before .before .before .before .before .before .before .before .before .before .before .before .before .before .before .args .draws) (c .before .before .before .before .before .before .before .before .before .before .before .before .before .before .before .before .before .before .before .before .before .before .before .before .before .before .before .before .before .before .before .before .before .before .before .before .before .args .c) (c .before .before .before .before .before .before .before .before .before .before .before .before .before .before .before .before .before .before .before .before .before .before .before .before .before .before .before .before .before .before .before .before .before .before .before .before .before .args .card) (c .before .before .before .before .before .before .before .before .before .before .before .before .before .before .before .before .before .before .before .before .before .before .before .before .before .before .before .before .before .before .before .before .before .before .before .before .before .args .new) (c .before .before .before .before .before .before .before .before .before .before .before .before .before .before .before .before .before .before .before .before .before .before .before .before .before .before .before .before .before .before .before .before .before .before .before .before .before .args .d) _ _ (c .before .before .before .before .before .before .before .before .before .before .before .before .before .before .before .before .before .before .before .before .before .before .before .before .before .before .before .before .before .before .before .before .before .event-of .ensures) (c .before .before .before .before .before .before .before .before .before .before .before .before .before .before .before .before .before .before .before .before .before .before .before .before .before .before .before .before .before .before .before .drawn .given .1) _ (c .before .before .before .before .before .before .before .before .before .before .before .before .before .before .before .before .before .before .before .before .before .before .before .before .before .before .before .scheduled-interval .ensures) _ (c .before .before .before .before .before .before .before .before .before .before .before .before .before .before .before .before .before .before .before .before .before .before .before .before .before .before .is-full .ensures) (c .before .before .before .before .before .before .before .before .before .before .before .before .before .before .before .before .before .before .before .before .before .before .before .before .before .if1 .left) _ (c .before .before .before .before .before .before .before .before .before .before .before .before .before .before .before .before .before .before .before .before .before .before .before .before .interval-in .ensures) _ (c .before .before .before .before .before .before .before .before .before .before .before .before .before .before .before .before .before .before .before .before .before .before .before .event-card .ensures) _ (c .before .before .before .before .before .before .before .before .before .day-of .ensures) _ _ _ _ _ _ _ _ (c .before .before .before .before .before .before .before .before .before .before .before .before .before .before .before .before .before .before .before .write-card .ensures) (c .before .before .before .before .before .before .before .before .before .before .before .before .before .write-days .ensures) (c .before .before .before .before .before .before .before .before .add-due .ensures) (c .before .before .before .enter-slot .ensures)
+returns-3 c =
+    let at-enter-slot = c .before .before .before in
+    let at-add-due = at-enter-slot .before .before .before .before .before in
+    let at-day-of = at-add-due .before in
+    let at-write-days = at-day-of .before .before .before .before in
+    let at-write-card = at-write-days .before .before .before .before .before .before in
+    let at-event-card = at-write-card .before .before .before .before in
+    let at-interval-in = at-event-card .before in
+    let at-if1 = at-interval-in .before in
+    let at-is-full = at-if1 .before in
+    let at-scheduled-interval = at-is-full .before in
+    let at-drawn = at-scheduled-interval .before .before .before .before in
+    let at-event-of = at-drawn .before .before in
+    let start = at-event-of .before .before .before .before in
+    handled-is (start .args .config) (modelOf (start .args .config) (kept (start .args .m))) (start .args .cards .now) (start .args .counts .now)
+    (start .args .rows .now) (start .args .days .now) (start .args .sums .now) (start .args .due .now) (start .args .keys .now)
+    (start .args .intervals .now) (start .args .len) (start .args .draws) (start .args .c) (start .args .card) (start .args .new) (start .args .d) _ _
+    (at-event-of .event-of .ensures) (at-drawn .drawn .given .1) _ (at-scheduled-interval .scheduled-interval .ensures) _ (at-is-full .is-full .ensures)
+    (at-if1 .if1 .left) _ (at-interval-in .interval-in .ensures) _ (at-event-card .event-card .ensures) _ (at-day-of .day-of .ensures) _ _ _ _ _ _ _ _
+    (at-write-card .write-card .ensures) (at-write-days .write-days .ensures) (at-add-due .add-due .ensures) (at-enter-slot .enter-slot .ensures)
 
 pub event-step-spec : {M : Type 1} → statement M
 event-step-spec =

@@ -80,7 +80,22 @@ same-length-5 : tie.Need-same-length-5
 same-length-5 c = search needs
 
 returns-2 : tie.Need-returns-2
-returns-2 c = retired-is (c .before .before .before .before .before .before .before .before .before .before .before .before .before .before .before .before .before .before .before .before .before .before .before .args .config) (modelOf (c .before .before .before .before .before .before .before .before .before .before .before .before .before .before .before .before .before .before .before .before .before .before .before .args .config) (kept (c .before .before .before .before .before .before .before .before .before .before .before .before .before .before .before .before .before .before .before .before .before .before .before .args .m))) (c .before .before .before .before .before .before .before .before .before .before .before .before .before .before .before .before .before .before .before .before .before .before .before .args .cards .now) (c .before .before .before .before .before .before .before .before .before .before .before .before .before .before .before .before .before .before .before .before .before .before .before .args .counts .now) (c .before .before .before .before .before .before .before .before .before .before .before .before .before .before .before .before .before .before .before .before .before .before .before .args .rows .now) (c .before .before .before .before .before .before .before .before .before .before .before .before .before .before .before .before .before .before .before .before .before .before .before .args .days .now) (c .before .before .before .before .before .before .before .before .before .before .before .before .before .before .before .before .before .before .before .before .before .before .before .args .sums .now) (c .before .before .before .before .before .before .before .before .before .before .before .before .before .before .before .before .before .before .before .before .before .before .before .args .due .now) (c .before .before .before .before .before .before .before .before .before .before .before .before .before .before .before .before .before .before .before .before .before .before .before .args .keys .now) (c .before .before .before .before .before .before .before .before .before .before .before .before .before .before .before .before .before .before .before .before .before .before .before .args .intervals .now) (c .before .before .before .before .before .before .before .before .before .before .before .before .before .before .before .before .before .before .before .before .before .before .before .args .len) (c .before .before .before .before .before .before .before .before .before .before .before .before .before .before .before .before .before .before .before .before .before .before .before .args .draws) (c .before .before .before .before .before .before .before .before .before .before .before .before .before .before .before .before .before .before .before .before .if1 .left) _ _ _ _ _ _ _ (c .before .before .before .before .before .before .before .before .before .before .before .before .before .before .before .before .before .before .peek-index .ensures) (c .before .before .before .before .before .before .before .before .before .before .before .before .before .before .before .card-at .ensures) (c .before .before .before .before .before .before .before .before .before .before .before .before .before .before .day-of .ensures) (c .before .before .before .before .before .before .before .before .before .before .before .before .learned-at .ensures) (c .before .before .before .before .before .before .before .before .before .before .reviewed-at .ensures) (c .before .before .before .before .before .before .before .before .cost-at .ensures) (c .before .before .before .before .before .before .before .decide .ensures) _ _ _ (c .before .before .before .before .before .enum-told .given .1) (c .before .before .retire-step .ensures)
+returns-2 c =
+    let at-enum-told = c .before .before .before .before .before in
+    let at-decide = at-enum-told .before .before in
+    let at-cost-at = at-decide .before in
+    let at-reviewed-at = at-cost-at .before .before in
+    let at-learned-at = at-reviewed-at .before .before in
+    let at-day-of = at-learned-at .before .before in
+    let at-card-at = at-day-of .before in
+    let at-peek-index = at-card-at .before .before .before in
+    let at-if1 = at-peek-index .before .before in
+    let start = at-if1 .before .before .before in
+    retired-is (start .args .config) (modelOf (start .args .config) (kept (start .args .m))) (start .args .cards .now) (start .args .counts .now)
+    (start .args .rows .now) (start .args .days .now) (start .args .sums .now) (start .args .due .now) (start .args .keys .now)
+    (start .args .intervals .now) (start .args .len) (start .args .draws) (at-if1 .if1 .left) _ _ _ _ _ _ _ (at-peek-index .peek-index .ensures)
+    (at-card-at .card-at .ensures) (at-day-of .day-of .ensures) (at-learned-at .learned-at .ensures) (at-reviewed-at .reviewed-at .ensures)
+    (at-cost-at .cost-at .ensures) (at-decide .decide .ensures) _ _ _ (at-enum-told .enum-told .given .1) (c .before .before .retire-step .ensures)
 
 same-length-6 : tie.Need-same-length-6
 same-length-6 c = search needs
@@ -101,7 +116,23 @@ same-length-11 : tie.Need-same-length-11
 same-length-11 c = search needs
 
 returns-3 : tie.Need-returns-3
-returns-3 c = put-off-is (c .before .before .before .before .before .before .before .before .before .before .before .before .before .before .before .before .before .before .before .before .before .before .before .before .before .before .args .config) (modelOf (c .before .before .before .before .before .before .before .before .before .before .before .before .before .before .before .before .before .before .before .before .before .before .before .before .before .before .args .config) (kept (c .before .before .before .before .before .before .before .before .before .before .before .before .before .before .before .before .before .before .before .before .before .before .before .before .before .before .args .m))) (c .before .before .before .before .before .before .before .before .before .before .before .before .before .before .before .before .before .before .before .before .before .before .before .before .before .before .args .cards .now) (c .before .before .before .before .before .before .before .before .before .before .before .before .before .before .before .before .before .before .before .before .before .before .before .before .before .before .args .counts .now) (c .before .before .before .before .before .before .before .before .before .before .before .before .before .before .before .before .before .before .before .before .before .before .before .before .before .before .args .rows .now) (c .before .before .before .before .before .before .before .before .before .before .before .before .before .before .before .before .before .before .before .before .before .before .before .before .before .before .args .days .now) (c .before .before .before .before .before .before .before .before .before .before .before .before .before .before .before .before .before .before .before .before .before .before .before .before .before .before .args .sums .now) (c .before .before .before .before .before .before .before .before .before .before .before .before .before .before .before .before .before .before .before .before .before .before .before .before .before .before .args .due .now) (c .before .before .before .before .before .before .before .before .before .before .before .before .before .before .before .before .before .before .before .before .before .before .before .before .before .before .args .keys .now) (c .before .before .before .before .before .before .before .before .before .before .before .before .before .before .before .before .before .before .before .before .before .before .before .before .before .before .args .intervals .now) (c .before .before .before .before .before .before .before .before .before .before .before .before .before .before .before .before .before .before .before .before .before .before .before .before .before .before .args .len) (c .before .before .before .before .before .before .before .before .before .before .before .before .before .before .before .before .before .before .before .before .before .before .before .before .before .before .args .draws) (c .before .before .before .before .before .before .before .before .before .before .before .before .before .before .before .before .before .before .before .before .before .before .before .if1 .left) _ _ _ _ _ _ _ (c .before .before .before .before .before .before .before .before .before .before .before .before .before .before .before .before .before .before .before .before .before .peek-index .ensures) (c .before .before .before .before .before .before .before .before .before .before .before .before .before .before .before .before .before .before .card-at .ensures) (c .before .before .before .before .before .before .before .before .before .before .before .before .before .before .before .before .before .day-of .ensures) (c .before .before .before .before .before .before .before .before .before .before .before .before .before .before .before .learned-at .ensures) (c .before .before .before .before .before .before .before .before .before .before .before .before .before .reviewed-at .ensures) (c .before .before .before .before .before .before .before .before .before .before .before .cost-at .ensures) (c .before .before .before .before .before .before .before .before .before .before .decide .ensures) _ _ _ _ (c .before .before .before .before .before .before .before .before .enum-told2 .given .1) (c .before .before .before .before .put-off-step .ensures)
+returns-3 c =
+    let at-put-off-step = c .before .before .before .before in
+    let at-enum-told2 = at-put-off-step .before .before .before .before in
+    let at-decide = at-enum-told2 .before .before in
+    let at-cost-at = at-decide .before in
+    let at-reviewed-at = at-cost-at .before .before in
+    let at-learned-at = at-reviewed-at .before .before in
+    let at-day-of = at-learned-at .before .before in
+    let at-card-at = at-day-of .before in
+    let at-peek-index = at-card-at .before .before .before in
+    let at-if1 = at-peek-index .before .before in
+    let start = at-if1 .before .before .before in
+    put-off-is (start .args .config) (modelOf (start .args .config) (kept (start .args .m))) (start .args .cards .now) (start .args .counts .now)
+    (start .args .rows .now) (start .args .days .now) (start .args .sums .now) (start .args .due .now) (start .args .keys .now)
+    (start .args .intervals .now) (start .args .len) (start .args .draws) (at-if1 .if1 .left) _ _ _ _ _ _ _ (at-peek-index .peek-index .ensures)
+    (at-card-at .card-at .ensures) (at-day-of .day-of .ensures) (at-learned-at .learned-at .ensures) (at-reviewed-at .reviewed-at .ensures)
+    (at-cost-at .cost-at .ensures) (at-decide .decide .ensures) _ _ _ _ (at-enum-told2 .enum-told2 .given .1) (at-put-off-step .put-off-step .ensures)
 
 same-length-12 : tie.Need-same-length-12
 same-length-12 c = search needs
@@ -128,7 +159,26 @@ same-length-19 : tie.Need-same-length-19
 same-length-19 c = search needs
 
 returns-4 : tie.Need-returns-4
-returns-4 c = event-is (c .before .before .before .before .before .before .before .before .before .before .before .before .before .before .before .before .before .before .before .before .before .before .before .before .before .before .before .before .before .before .before .before .before .before .before .before .before .before .args .config) (modelOf (c .before .before .before .before .before .before .before .before .before .before .before .before .before .before .before .before .before .before .before .before .before .before .before .before .before .before .before .before .before .before .before .before .before .before .before .before .before .before .args .config) (kept (c .before .before .before .before .before .before .before .before .before .before .before .before .before .before .before .before .before .before .before .before .before .before .before .before .before .before .before .before .before .before .before .before .before .before .before .before .before .before .args .m))) (c .before .before .before .before .before .before .before .before .before .before .before .before .before .before .before .before .before .before .before .before .before .before .before .before .before .before .before .before .before .before .before .before .before .before .before .before .before .before .args .cards .now) (c .before .before .before .before .before .before .before .before .before .before .before .before .before .before .before .before .before .before .before .before .before .before .before .before .before .before .before .before .before .before .before .before .before .before .before .before .before .before .args .counts .now) (c .before .before .before .before .before .before .before .before .before .before .before .before .before .before .before .before .before .before .before .before .before .before .before .before .before .before .before .before .before .before .before .before .before .before .before .before .before .before .args .rows .now) (c .before .before .before .before .before .before .before .before .before .before .before .before .before .before .before .before .before .before .before .before .before .before .before .before .before .before .before .before .before .before .before .before .before .before .before .before .before .before .args .days .now) (c .before .before .before .before .before .before .before .before .before .before .before .before .before .before .before .before .before .before .before .before .before .before .before .before .before .before .before .before .before .before .before .before .before .before .before .before .before .before .args .sums .now) (c .before .before .before .before .before .before .before .before .before .before .before .before .before .before .before .before .before .before .before .before .before .before .before .before .before .before .before .before .before .before .before .before .before .before .before .before .before .before .args .due .now) (c .before .before .before .before .before .before .before .before .before .before .before .before .before .before .before .before .before .before .before .before .before .before .before .before .before .before .before .before .before .before .before .before .before .before .before .before .before .before .args .keys .now) (c .before .before .before .before .before .before .before .before .before .before .before .before .before .before .before .before .before .before .before .before .before .before .before .before .before .before .before .before .before .before .before .before .before .before .before .before .before .before .args .intervals .now) (c .before .before .before .before .before .before .before .before .before .before .before .before .before .before .before .before .before .before .before .before .before .before .before .before .before .before .before .before .before .before .before .before .before .before .before .before .before .before .args .len) (c .before .before .before .before .before .before .before .before .before .before .before .before .before .before .before .before .before .before .before .before .before .before .before .before .before .before .before .before .before .before .before .before .before .before .before .before .before .before .args .draws) (c .before .before .before .before .before .before .before .before .before .before .before .before .before .before .before .before .before .before .before .before .before .before .before .before .before .before .before .before .before .before .before .before .before .before .before .if1 .left) _ _ _ _ _ _ _ (c .before .before .before .before .before .before .before .before .before .before .before .before .before .before .before .before .before .before .before .before .before .before .before .before .before .before .before .before .before .before .before .before .before .peek-index .ensures) (c .before .before .before .before .before .before .before .before .before .before .before .before .before .before .before .before .before .before .before .before .before .before .before .before .before .before .before .before .before .before .card-at .ensures) (c .before .before .before .before .before .before .before .before .before .before .before .before .before .before .before .before .before .before .before .before .before .before .before .before .before .before .before .before .before .day-of .ensures) (c .before .before .before .before .before .before .before .before .before .before .before .before .before .before .before .before .before .before .before .before .before .before .before .before .before .before .before .learned-at .ensures) (c .before .before .before .before .before .before .before .before .before .before .before .before .before .before .before .before .before .before .before .before .before .before .before .before .before .reviewed-at .ensures) (c .before .before .before .before .before .before .before .before .before .before .before .before .before .before .before .before .before .before .before .before .before .before .before .cost-at .ensures) (c .before .before .before .before .before .before .before .before .before .before .before .before .before .before .before .before .before .before .before .before .before .before .decide .ensures) true _ _ _ _ _ _ _ _ _ (ap (act (c .before .before .before .before .before .before .before .before .before .before .before .before .before .before .before .before .before .before .before .before .before .before .before .before .before .before .before .before .before .before .before .before .before .before .before .before .before .before .args .config) (modelOf (c .before .before .before .before .before .before .before .before .before .before .before .before .before .before .before .before .before .before .before .before .before .before .before .before .before .before .before .before .before .before .before .before .before .before .before .before .before .before .args .config) (kept (c .before .before .before .before .before .before .before .before .before .before .before .before .before .before .before .before .before .before .before .before .before .before .before .before .before .before .before .before .before .before .before .before .before .before .before .before .before .before .args .m))) (state (c .before .before .before .before .before .before .before .before .before .before .before .before .before .before .before .before .before .before .before .before .before .before .before .before .before .before .before .before .before .before .before .before .before .before .before .before .before .before .args .cards .now) (c .before .before .before .before .before .before .before .before .before .before .before .before .before .before .before .before .before .before .before .before .before .before .before .before .before .before .before .before .before .before .before .before .before .before .before .before .before .before .args .counts .now) (c .before .before .before .before .before .before .before .before .before .before .before .before .before .before .before .before .before .before .before .before .before .before .before .before .before .before .before .before .before .before .before .before .before .before .before .before .before .before .args .rows .now) (c .before .before .before .before .before .before .before .before .before .before .before .before .before .before .before .before .before .before .before .before .before .before .before .before .before .before .before .before .before .before .before .before .before .before .before .before .before .before .args .days .now) (c .before .before .before .before .before .before .before .before .before .before .before .before .before .before .before .before .before .before .before .before .before .before .before .before .before .before .before .before .before .before .before .before .before .before .before .before .before .before .args .sums .now) (c .before .before .before .before .before .before .before .before .before .before .before .before .before .before .before .before .before .before .before .before .before .before .before .before .before .before .before .before .before .before .before .before .before .before .before .before .before .before .args .due .now) (c .before .before .before .before .before .before .before .before .before .before .before .before .before .before .before .before .before .before .before .before .before .before .before .before .before .before .before .before .before .before .before .before .before .before .before .before .before .before .args .keys .now) (c .before .before .before .before .before .before .before .before .before .before .before .before .before .before .before .before .before .before .before .before .before .before .before .before .before .before .before .before .before .before .before .before .before .before .before .before .before .before .args .intervals .now) (c .before .before .before .before .before .before .before .before .before .before .before .before .before .before .before .before .before .before .before .before .before .before .before .before .before .before .before .before .before .before .before .before .before .before .before .before .before .before .args .len) (c .before .before .before .before .before .before .before .before .before .before .before .before .before .before .before .before .before .before .before .before .before .before .before .before .before .before .before .before .before .before .before .before .before .before .before .before .before .before .args .draws)) _ _ _) (c .before .before .before .before .before .before .before .before .before .before .before .before .before .before .before .before .before .before .before .before .enum-told3 .given .1)) (rw (c .before .before .before .before .before .before .before .before .before .before .before .copy-of .ensures) at (c .before .before .before .before .before .before .before .before .before .before .event-step .ensures))
+returns-4 c =
+    let at-event-step = c .before .before .before .before .before .before .before .before .before .before in
+    let at-copy-of = at-event-step .before in
+    let at-enum-told3 = at-copy-of .before .before .before .before .before .before .before .before .before in
+    let at-decide = at-enum-told3 .before .before in
+    let at-cost-at = at-decide .before in
+    let at-reviewed-at = at-cost-at .before .before in
+    let at-learned-at = at-reviewed-at .before .before in
+    let at-day-of = at-learned-at .before .before in
+    let at-card-at = at-day-of .before in
+    let at-peek-index = at-card-at .before .before .before in
+    let at-if1 = at-peek-index .before .before in
+    let start = at-if1 .before .before .before in
+    event-is (start .args .config) (modelOf (start .args .config) (kept (start .args .m))) (start .args .cards .now) (start .args .counts .now)
+    (start .args .rows .now) (start .args .days .now) (start .args .sums .now) (start .args .due .now) (start .args .keys .now)
+    (start .args .intervals .now) (start .args .len) (start .args .draws) (at-if1 .if1 .left) _ _ _ _ _ _ _ (at-peek-index .peek-index .ensures)
+    (at-card-at .card-at .ensures) (at-day-of .day-of .ensures) (at-learned-at .learned-at .ensures) (at-reviewed-at .reviewed-at .ensures)
+    (at-cost-at .cost-at .ensures) (at-decide .decide .ensures) true _ _ _ _ _ _ _ _ _
+    (ap (act (start .args .config) (modelOf (start .args .config) (kept (start .args .m))) (state (start .args .cards .now) (start .args .counts .now) (start .args .rows .now) (start .args .days .now) (start .args .sums .now) (start .args .due .now) (start .args .keys .now) (start .args .intervals .now) (start .args .len) (start .args .draws)) _ _ _) (at-enum-told3 .enum-told3 .given .1))
+    (rw (at-copy-of .copy-of .ensures) at (at-event-step .event-step .ensures))
 
 same-length-20 : tie.Need-same-length-20
 same-length-20 c = search needs
@@ -155,7 +205,26 @@ same-length-27 : tie.Need-same-length-27
 same-length-27 c = search needs
 
 returns-5 : tie.Need-returns-5
-returns-5 c = event-is (c .before .before .before .before .before .before .before .before .before .before .before .before .before .before .before .before .before .before .before .before .before .before .before .before .before .before .before .before .before .before .before .before .before .before .before .before .before .before .args .config) (modelOf (c .before .before .before .before .before .before .before .before .before .before .before .before .before .before .before .before .before .before .before .before .before .before .before .before .before .before .before .before .before .before .before .before .before .before .before .before .before .before .args .config) (kept (c .before .before .before .before .before .before .before .before .before .before .before .before .before .before .before .before .before .before .before .before .before .before .before .before .before .before .before .before .before .before .before .before .before .before .before .before .before .before .args .m))) (c .before .before .before .before .before .before .before .before .before .before .before .before .before .before .before .before .before .before .before .before .before .before .before .before .before .before .before .before .before .before .before .before .before .before .before .before .before .before .args .cards .now) (c .before .before .before .before .before .before .before .before .before .before .before .before .before .before .before .before .before .before .before .before .before .before .before .before .before .before .before .before .before .before .before .before .before .before .before .before .before .before .args .counts .now) (c .before .before .before .before .before .before .before .before .before .before .before .before .before .before .before .before .before .before .before .before .before .before .before .before .before .before .before .before .before .before .before .before .before .before .before .before .before .before .args .rows .now) (c .before .before .before .before .before .before .before .before .before .before .before .before .before .before .before .before .before .before .before .before .before .before .before .before .before .before .before .before .before .before .before .before .before .before .before .before .before .before .args .days .now) (c .before .before .before .before .before .before .before .before .before .before .before .before .before .before .before .before .before .before .before .before .before .before .before .before .before .before .before .before .before .before .before .before .before .before .before .before .before .before .args .sums .now) (c .before .before .before .before .before .before .before .before .before .before .before .before .before .before .before .before .before .before .before .before .before .before .before .before .before .before .before .before .before .before .before .before .before .before .before .before .before .before .args .due .now) (c .before .before .before .before .before .before .before .before .before .before .before .before .before .before .before .before .before .before .before .before .before .before .before .before .before .before .before .before .before .before .before .before .before .before .before .before .before .before .args .keys .now) (c .before .before .before .before .before .before .before .before .before .before .before .before .before .before .before .before .before .before .before .before .before .before .before .before .before .before .before .before .before .before .before .before .before .before .before .before .before .before .args .intervals .now) (c .before .before .before .before .before .before .before .before .before .before .before .before .before .before .before .before .before .before .before .before .before .before .before .before .before .before .before .before .before .before .before .before .before .before .before .before .before .before .args .len) (c .before .before .before .before .before .before .before .before .before .before .before .before .before .before .before .before .before .before .before .before .before .before .before .before .before .before .before .before .before .before .before .before .before .before .before .before .before .before .args .draws) (c .before .before .before .before .before .before .before .before .before .before .before .before .before .before .before .before .before .before .before .before .before .before .before .before .before .before .before .before .before .before .before .before .before .before .before .if1 .left) _ _ _ _ _ _ _ (c .before .before .before .before .before .before .before .before .before .before .before .before .before .before .before .before .before .before .before .before .before .before .before .before .before .before .before .before .before .before .before .before .before .peek-index .ensures) (c .before .before .before .before .before .before .before .before .before .before .before .before .before .before .before .before .before .before .before .before .before .before .before .before .before .before .before .before .before .before .card-at .ensures) (c .before .before .before .before .before .before .before .before .before .before .before .before .before .before .before .before .before .before .before .before .before .before .before .before .before .before .before .before .before .day-of .ensures) (c .before .before .before .before .before .before .before .before .before .before .before .before .before .before .before .before .before .before .before .before .before .before .before .before .before .before .before .learned-at .ensures) (c .before .before .before .before .before .before .before .before .before .before .before .before .before .before .before .before .before .before .before .before .before .before .before .before .before .reviewed-at .ensures) (c .before .before .before .before .before .before .before .before .before .before .before .before .before .before .before .before .before .before .before .before .before .before .before .cost-at .ensures) (c .before .before .before .before .before .before .before .before .before .before .before .before .before .before .before .before .before .before .before .before .before .before .decide .ensures) false _ _ _ _ _ _ _ _ _ (ap (act (c .before .before .before .before .before .before .before .before .before .before .before .before .before .before .before .before .before .before .before .before .before .before .before .before .before .before .before .before .before .before .before .before .before .before .before .before .before .before .args .config) (modelOf (c .before .before .before .before .before .before .before .before .before .before .before .before .before .before .before .before .before .before .before .before .before .before .before .before .before .before .before .before .before .before .before .before .before .before .before .before .before .before .args .config) (kept (c .before .before .before .before .before .before .before .before .before .before .before .before .before .before .before .before .before .before .before .before .before .before .before .before .before .before .before .before .before .before .before .before .before .before .before .before .before .before .args .m))) (state (c .before .before .before .before .before .before .before .before .before .before .before .before .before .before .before .before .before .before .before .before .before .before .before .before .before .before .before .before .before .before .before .before .before .before .before .before .before .before .args .cards .now) (c .before .before .before .before .before .before .before .before .before .before .before .before .before .before .before .before .before .before .before .before .before .before .before .before .before .before .before .before .before .before .before .before .before .before .before .before .before .before .args .counts .now) (c .before .before .before .before .before .before .before .before .before .before .before .before .before .before .before .before .before .before .before .before .before .before .before .before .before .before .before .before .before .before .before .before .before .before .before .before .before .before .args .rows .now) (c .before .before .before .before .before .before .before .before .before .before .before .before .before .before .before .before .before .before .before .before .before .before .before .before .before .before .before .before .before .before .before .before .before .before .before .before .before .before .args .days .now) (c .before .before .before .before .before .before .before .before .before .before .before .before .before .before .before .before .before .before .before .before .before .before .before .before .before .before .before .before .before .before .before .before .before .before .before .before .before .before .args .sums .now) (c .before .before .before .before .before .before .before .before .before .before .before .before .before .before .before .before .before .before .before .before .before .before .before .before .before .before .before .before .before .before .before .before .before .before .before .before .before .before .args .due .now) (c .before .before .before .before .before .before .before .before .before .before .before .before .before .before .before .before .before .before .before .before .before .before .before .before .before .before .before .before .before .before .before .before .before .before .before .before .before .before .args .keys .now) (c .before .before .before .before .before .before .before .before .before .before .before .before .before .before .before .before .before .before .before .before .before .before .before .before .before .before .before .before .before .before .before .before .before .before .before .before .before .before .args .intervals .now) (c .before .before .before .before .before .before .before .before .before .before .before .before .before .before .before .before .before .before .before .before .before .before .before .before .before .before .before .before .before .before .before .before .before .before .before .before .before .before .args .len) (c .before .before .before .before .before .before .before .before .before .before .before .before .before .before .before .before .before .before .before .before .before .before .before .before .before .before .before .before .before .before .before .before .before .before .before .before .before .before .args .draws)) _ _ _) (c .before .before .before .before .before .before .before .before .before .before .before .before .before .before .before .before .before .before .before .before .enum-told4 .given .1)) (rw (c .before .before .before .before .before .before .before .before .before .before .before .copy-of2 .ensures) at (c .before .before .before .before .before .before .before .before .before .before .event-step2 .ensures))
+returns-5 c =
+    let at-event-step2 = c .before .before .before .before .before .before .before .before .before .before in
+    let at-copy-of2 = at-event-step2 .before in
+    let at-enum-told4 = at-copy-of2 .before .before .before .before .before .before .before .before .before in
+    let at-decide = at-enum-told4 .before .before in
+    let at-cost-at = at-decide .before in
+    let at-reviewed-at = at-cost-at .before .before in
+    let at-learned-at = at-reviewed-at .before .before in
+    let at-day-of = at-learned-at .before .before in
+    let at-card-at = at-day-of .before in
+    let at-peek-index = at-card-at .before .before .before in
+    let at-if1 = at-peek-index .before .before in
+    let start = at-if1 .before .before .before in
+    event-is (start .args .config) (modelOf (start .args .config) (kept (start .args .m))) (start .args .cards .now) (start .args .counts .now)
+    (start .args .rows .now) (start .args .days .now) (start .args .sums .now) (start .args .due .now) (start .args .keys .now)
+    (start .args .intervals .now) (start .args .len) (start .args .draws) (at-if1 .if1 .left) _ _ _ _ _ _ _ (at-peek-index .peek-index .ensures)
+    (at-card-at .card-at .ensures) (at-day-of .day-of .ensures) (at-learned-at .learned-at .ensures) (at-reviewed-at .reviewed-at .ensures)
+    (at-cost-at .cost-at .ensures) (at-decide .decide .ensures) false _ _ _ _ _ _ _ _ _
+    (ap (act (start .args .config) (modelOf (start .args .config) (kept (start .args .m))) (state (start .args .cards .now) (start .args .counts .now) (start .args .rows .now) (start .args .days .now) (start .args .sums .now) (start .args .due .now) (start .args .keys .now) (start .args .intervals .now) (start .args .len) (start .args .draws)) _ _ _) (at-enum-told4 .enum-told4 .given .1))
+    (rw (at-copy-of2 .copy-of2 .ensures) at (at-event-step2 .event-step2 .ensures))
 
 pub turn-spec : {M : Type 1} → statement M
 turn-spec =
