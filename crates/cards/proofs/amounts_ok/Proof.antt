@@ -29,7 +29,18 @@ amount-ok-requires-3 : tie.Need-amount-ok-requires-3
 amount-ok-requires-3 c κs = tt
 
 returns-3 : tie.Need-returns-3
-returns-3 c = rw (← c .before .before .before .before .before .amount-ok .ensures, not-false (c .before .before .before .before .before .amount-ok .result) (c .before .before .before .before .if1 .left), ← c .before .before .before .amount-ok2 .ensures, not-false (c .before .before .before .amount-ok2 .result) (c .before .before .if2 .left), ← c .before .amount-ok3 .ensures, not-true (c .before .amount-ok3 .result) (c .if3 .taken))
+returns-3 c =
+    let at-amount-ok2 = c .before .before .before in
+    let at-if1 = at-amount-ok2 .before in
+    let at-amount-ok = at-if1 .before in
+    rw (
+      ← at-amount-ok .amount-ok .ensures,
+      not-false (at-amount-ok .amount-ok .result) (at-if1 .if1 .left),
+      ← at-amount-ok2 .amount-ok2 .ensures,
+      not-false (at-amount-ok2 .amount-ok2 .result) (c .before .before .if2 .left),
+      ← c .before .amount-ok3 .ensures,
+      not-true (c .before .amount-ok3 .result) (c .if3 .taken),
+    )
 
 array-read-amount-ok-4 : tie.Need-array-read-amount-ok-4
 array-read-amount-ok-4 c = search needs
@@ -38,7 +49,20 @@ amount-ok-requires-4 : tie.Need-amount-ok-requires-4
 amount-ok-requires-4 c κs = tt
 
 returns-4 : tie.Need-returns-4
-returns-4 c = rw (← c .before .before .before .before .before .before .amount-ok .ensures, not-false (c .before .before .before .before .before .before .amount-ok .result) (c .before .before .before .before .before .if1 .left), ← c .before .before .before .before .amount-ok2 .ensures, not-false (c .before .before .before .before .amount-ok2 .result) (c .before .before .before .if2 .left), ← c .before .before .amount-ok3 .ensures, not-false (c .before .before .amount-ok3 .result) (c .before .if3 .left), ← c .amount-ok4 .ensures) (and-true (c .amount-ok4 .result))
+returns-4 c =
+    let at-if2 = c .before .before .before in
+    let at-amount-ok2 = at-if2 .before in
+    let at-if1 = at-amount-ok2 .before in
+    let at-amount-ok = at-if1 .before in
+    rw (
+      ← at-amount-ok .amount-ok .ensures,
+      not-false (at-amount-ok .amount-ok .result) (at-if1 .if1 .left),
+      ← at-amount-ok2 .amount-ok2 .ensures,
+      not-false (at-amount-ok2 .amount-ok2 .result) (at-if2 .if2 .left),
+      ← c .before .before .amount-ok3 .ensures,
+      not-false (c .before .before .amount-ok3 .result) (c .before .if3 .left),
+      ← c .amount-ok4 .ensures,
+    ) (and-true (c .amount-ok4 .result))
 
 pub amounts-ok-spec : {M : Type 1} → statement M
 amounts-ok-spec =

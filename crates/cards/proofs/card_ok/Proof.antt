@@ -23,18 +23,60 @@ date-ok-requires c κs = tt
 
 returns-3 : tie.Need-returns-3
 unfolding cardOk
-returns-3 c = rw (← c .before .before .before .before .before .is-finite .ensures, not-false (c .before .before .before .before .before .is-finite .result) (c .before .before .before .before .if1 .left), ← c .before .before .before .is-finite2 .ensures, not-false (c .before .before .before .is-finite2 .result) (c .before .before .if2 .left), ← c .before .date-ok .ensures, not-true (c .before .date-ok .result) (c .if3 .taken))
+returns-3 c =
+    let at-is-finite2 = c .before .before .before in
+    let at-if1 = at-is-finite2 .before in
+    let at-is-finite = at-if1 .before in
+    rw (
+      ← at-is-finite .is-finite .ensures,
+      not-false (at-is-finite .is-finite .result) (at-if1 .if1 .left),
+      ← at-is-finite2 .is-finite2 .ensures,
+      not-false (at-is-finite2 .is-finite2 .result) (c .before .before .if2 .left),
+      ← c .before .date-ok .ensures,
+      not-true (c .before .date-ok .result) (c .if3 .taken),
+    )
 
 history-ok-requires : tie.Need-history-ok-requires
 history-ok-requires c κs = tt
 
 returns-4 : tie.Need-returns-4
 unfolding cardOk
-returns-4 c = rw (← c .before .before .before .before .before .before .before .is-finite .ensures, not-false (c .before .before .before .before .before .before .before .is-finite .result) (c .before .before .before .before .before .before .if1 .left), ← c .before .before .before .before .before .is-finite2 .ensures, not-false (c .before .before .before .before .before .is-finite2 .result) (c .before .before .before .before .if2 .left), ← c .before .before .before .date-ok .ensures, not-false (c .before .before .before .date-ok .result) (c .before .before .if3 .left), ← c .before .history-ok .ensures, not-true (c .before .history-ok .result) (c .if4 .taken))
+returns-4 c =
+    let at-date-ok = c .before .before .before in
+    let at-if2 = at-date-ok .before in
+    let at-is-finite2 = at-if2 .before in
+    let at-if1 = at-is-finite2 .before in
+    let at-is-finite = at-if1 .before in
+    rw (
+      ← at-is-finite .is-finite .ensures,
+      not-false (at-is-finite .is-finite .result) (at-if1 .if1 .left),
+      ← at-is-finite2 .is-finite2 .ensures,
+      not-false (at-is-finite2 .is-finite2 .result) (at-if2 .if2 .left),
+      ← at-date-ok .date-ok .ensures,
+      not-false (at-date-ok .date-ok .result) (c .before .before .if3 .left),
+      ← c .before .history-ok .ensures,
+      not-true (c .before .history-ok .result) (c .if4 .taken),
+    )
 
 returns-5 : tie.Need-returns-5
 unfolding cardOk
-returns-5 c = rw (← c .before .before .before .before .before .before .before .before .is-finite .ensures, not-false (c .before .before .before .before .before .before .before .before .is-finite .result) (c .before .before .before .before .before .before .before .if1 .left), ← c .before .before .before .before .before .before .is-finite2 .ensures, not-false (c .before .before .before .before .before .before .is-finite2 .result) (c .before .before .before .before .before .if2 .left), ← c .before .before .before .before .date-ok .ensures, not-false (c .before .before .before .before .date-ok .result) (c .before .before .before .if3 .left), ← c .before .before .history-ok .ensures, not-false (c .before .before .history-ok .result) (c .before .if4 .left))
+returns-5 c =
+    let at-if3 = c .before .before .before in
+    let at-date-ok = at-if3 .before in
+    let at-if2 = at-date-ok .before in
+    let at-is-finite2 = at-if2 .before in
+    let at-if1 = at-is-finite2 .before in
+    let at-is-finite = at-if1 .before in
+    rw (
+      ← at-is-finite .is-finite .ensures,
+      not-false (at-is-finite .is-finite .result) (at-if1 .if1 .left),
+      ← at-is-finite2 .is-finite2 .ensures,
+      not-false (at-is-finite2 .is-finite2 .result) (at-if2 .if2 .left),
+      ← at-date-ok .date-ok .ensures,
+      not-false (at-date-ok .date-ok .result) (at-if3 .if3 .left),
+      ← c .before .before .history-ok .ensures,
+      not-false (c .before .before .history-ok .result) (c .before .if4 .left),
+    )
 
 pub card-ok-spec : {M : Type 1} → statement M
 card-ok-spec =

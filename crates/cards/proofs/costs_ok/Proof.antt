@@ -25,7 +25,16 @@ amounts-ok-requires-2 c κs = tt
 
 returns-2 : tie.Need-returns-2
 unfolding costsOk
-returns-2 c = rw (← (c .before .before .before .before .amounts-ok .ensures ∙ ap (λ (z : List Float). amountsOk (rowOf z 0)) (c .before .before .before .before .before .row-of .ensures)), not-false (c .before .before .before .before .amounts-ok .result) (c .before .before .before .if1 .left), ← (c .before .amounts-ok2 .ensures ∙ ap (λ (z : List Float). amountsOk (rowOf z 0)) (c .before .before .row-of2 .ensures)), not-true (c .before .amounts-ok2 .result) (c .if2 .taken))
+returns-2 c =
+    let at-if1 = c .before .before .before in
+    let at-amounts-ok = at-if1 .before in
+    let at-row-of = at-amounts-ok .before in
+    rw (
+      ← (at-amounts-ok .amounts-ok .ensures ∙ ap (λ (z : List Float). amountsOk (rowOf z 0)) (at-row-of .row-of .ensures)),
+      not-false (at-amounts-ok .amounts-ok .result) (at-if1 .if1 .left),
+      ← (c .before .amounts-ok2 .ensures ∙ ap (λ (z : List Float). amountsOk (rowOf z 0)) (c .before .before .row-of2 .ensures)),
+      not-true (c .before .amounts-ok2 .result) (c .if2 .taken),
+    )
 
 row-of-requires-3 : tie.Need-row-of-requires-3
 row-of-requires-3 c κs = tt
@@ -35,7 +44,19 @@ amounts-ok-requires-3 c κs = tt
 
 returns-3 : tie.Need-returns-3
 unfolding costsOk
-returns-3 c = rw (← (c .before .before .before .before .before .before .amounts-ok .ensures ∙ ap (λ (z : List Float). amountsOk (rowOf z 0)) (c .before .before .before .before .before .before .before .row-of .ensures)), not-false (c .before .before .before .before .before .before .amounts-ok .result) (c .before .before .before .before .before .if1 .left), ← (c .before .before .before .amounts-ok2 .ensures ∙ ap (λ (z : List Float). amountsOk (rowOf z 0)) (c .before .before .before .before .row-of2 .ensures)), not-false (c .before .before .before .amounts-ok2 .result) (c .before .before .if2 .left), ← (c .amounts-ok3 .ensures ∙ ap (λ (z : List Float). amountsOk (rowOf z 0)) (c .before .row-of3 .ensures)))
+returns-3 c =
+    let at-amounts-ok2 = c .before .before .before in
+    let at-row-of2 = at-amounts-ok2 .before in
+    let at-if1 = at-row-of2 .before in
+    let at-amounts-ok = at-if1 .before in
+    let at-row-of = at-amounts-ok .before in
+    rw (
+      ← (at-amounts-ok .amounts-ok .ensures ∙ ap (λ (z : List Float). amountsOk (rowOf z 0)) (at-row-of .row-of .ensures)),
+      not-false (at-amounts-ok .amounts-ok .result) (at-if1 .if1 .left),
+      ← (at-amounts-ok2 .amounts-ok2 .ensures ∙ ap (λ (z : List Float). amountsOk (rowOf z 0)) (at-row-of2 .row-of2 .ensures)),
+      not-false (at-amounts-ok2 .amounts-ok2 .result) (c .before .before .if2 .left),
+      ← (c .amounts-ok3 .ensures ∙ ap (λ (z : List Float). amountsOk (rowOf z 0)) (c .before .row-of3 .ensures)),
+    )
 
 pub costs-ok-spec : {M : Type 1} → statement M
 costs-ok-spec =

@@ -25,7 +25,16 @@ weights-ok-requires-2 c κs = tt
 
 returns-2 : tie.Need-returns-2
 unfolding transitionsOk
-returns-2 c = rw (← (c .before .before .before .before .weights-ok .ensures ∙ ap (λ (z : List Float). weightsOk (rowOf z 0)) (c .before .before .before .before .before .row-of .ensures)), not-false (c .before .before .before .before .weights-ok .result) (c .before .before .before .if1 .left), ← (c .before .weights-ok2 .ensures ∙ ap (λ (z : List Float). weightsOk (rowOf z 0)) (c .before .before .row-of2 .ensures)), not-true (c .before .weights-ok2 .result) (c .if2 .taken))
+returns-2 c =
+    let at-if1 = c .before .before .before in
+    let at-weights-ok = at-if1 .before in
+    let at-row-of = at-weights-ok .before in
+    rw (
+      ← (at-weights-ok .weights-ok .ensures ∙ ap (λ (z : List Float). weightsOk (rowOf z 0)) (at-row-of .row-of .ensures)),
+      not-false (at-weights-ok .weights-ok .result) (at-if1 .if1 .left),
+      ← (c .before .weights-ok2 .ensures ∙ ap (λ (z : List Float). weightsOk (rowOf z 0)) (c .before .before .row-of2 .ensures)),
+      not-true (c .before .weights-ok2 .result) (c .if2 .taken),
+    )
 
 row-of-requires-3 : tie.Need-row-of-requires-3
 row-of-requires-3 c κs = tt
@@ -35,7 +44,19 @@ weights-ok-requires-3 c κs = tt
 
 returns-3 : tie.Need-returns-3
 unfolding transitionsOk
-returns-3 c = rw (← (c .before .before .before .before .before .before .weights-ok .ensures ∙ ap (λ (z : List Float). weightsOk (rowOf z 0)) (c .before .before .before .before .before .before .before .row-of .ensures)), not-false (c .before .before .before .before .before .before .weights-ok .result) (c .before .before .before .before .before .if1 .left), ← (c .before .before .before .weights-ok2 .ensures ∙ ap (λ (z : List Float). weightsOk (rowOf z 0)) (c .before .before .before .before .row-of2 .ensures)), not-false (c .before .before .before .weights-ok2 .result) (c .before .before .if2 .left), ← (c .weights-ok3 .ensures ∙ ap (λ (z : List Float). weightsOk (rowOf z 0)) (c .before .row-of3 .ensures)))
+returns-3 c =
+    let at-weights-ok2 = c .before .before .before in
+    let at-row-of2 = at-weights-ok2 .before in
+    let at-if1 = at-row-of2 .before in
+    let at-weights-ok = at-if1 .before in
+    let at-row-of = at-weights-ok .before in
+    rw (
+      ← (at-weights-ok .weights-ok .ensures ∙ ap (λ (z : List Float). weightsOk (rowOf z 0)) (at-row-of .row-of .ensures)),
+      not-false (at-weights-ok .weights-ok .result) (at-if1 .if1 .left),
+      ← (at-weights-ok2 .weights-ok2 .ensures ∙ ap (λ (z : List Float). weightsOk (rowOf z 0)) (at-row-of2 .row-of2 .ensures)),
+      not-false (at-weights-ok2 .weights-ok2 .result) (c .before .before .if2 .left),
+      ← (c .weights-ok3 .ensures ∙ ap (λ (z : List Float). weightsOk (rowOf z 0)) (c .before .row-of3 .ensures)),
+    )
 
 pub transitions-ok-spec : {M : Type 1} → statement M
 transitions-ok-spec =

@@ -34,7 +34,14 @@ loop-less : tie.Need-loop-less Inv-loop μ-loop
 loop-less c = omega arith
 
 loop-again : tie.Need-loop-again Inv-loop μ-loop
-loop-again c = (hold-turn (λ t. retention (c .before .before .before .before .before .before .before .args .curve) t) (c .before .before .before .before .before .before .before .args .last) _ _ _ _ _ _ _ _ (c .before .before .before .before .before .before .loop .inv .0) (c .before .before .before .before .before .loop-test .taken) (c .before .before .before .before .from-u32 .ensures) (c .before .before .retention .ensures) (c .before .hold-on .ensures), omega arith)
+loop-again c =
+    let at-from-u32 = c .before .before .before .before in
+    let at-loop-test = at-from-u32 .before in
+    let at-loop = at-loop-test .before in
+    let start = at-loop .before in (
+      hold-turn (λ t. retention (start .args .curve) t) (start .args .last) _ _ _ _ _ _ _ _ (at-loop .loop .inv .0) (at-loop-test .loop-test .taken) (at-from-u32 .from-u32 .ensures) (c .before .before .retention .ensures) (c .before .hold-on .ensures),
+      omega arith,
+    )
 
 same-length : tie.Need-same-length Inv-loop μ-loop
 same-length c = omega arith

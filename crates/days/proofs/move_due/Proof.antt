@@ -28,7 +28,12 @@ same-length c = search needs
 
 returns-2 : tie.Need-returns-2
 unfolding moveDue
-returns-2 c = rw (c .before .before .before .before .before .before .before .before .before .before .before .if1 .left, c .before .before .add-due-at .ensures, c .before .before .before .before .before .before .put-due .ensures, c .before .before .before .before .before .before .before .lower .ensures, c .before .before .before .before .before .before .before .before .before .due-at .ensures)
+returns-2 c =
+    let at-put-due = c .before .before .before .before .before .before in
+    let at-lower = at-put-due .before in
+    let at-due-at = at-lower .before .before in
+    let at-if1 = at-due-at .before .before in
+    rw (at-if1 .if1 .left, c .before .before .add-due-at .ensures, at-put-due .put-due .ensures, at-lower .lower .ensures, at-due-at .due-at .ensures)
 
 pub move-due-spec : {M : Type 1} → statement M
 move-due-spec =

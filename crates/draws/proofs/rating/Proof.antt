@@ -33,7 +33,13 @@ shared-slice-read-weight c = search needs
 
 returns : tie.Need-returns Inv-loop μ-loop
 unfolding rating
-returns c = sym (rw (← c .before .before .before .before .before .unit .ensures, ← c .before .before .before .before .total .ensures) (c .before .before .before .loop .inv .1 ∙ choose-here (c .before .before .before .before .before .before .before .args .weights .now) _ (c .before .before .before .loop .sum) (c .before .before .before .loop .i) (c .before .before .before .loop .positive) (omega arith) (c .if1 .taken)))
+returns c =
+    let at-loop = c .before .before .before in
+    let at-total = at-loop .before in
+    let at-unit = at-total .before in
+    let start = at-unit .before .before in
+    sym
+    (rw (← at-unit .unit .ensures, ← at-total .total .ensures) (at-loop .loop .inv .1 ∙ choose-here (start .args .weights .now) _ (at-loop .loop .sum) (at-loop .loop .i) (at-loop .loop .positive) (omega arith) (c .if1 .taken)))
 
 last-positive-requires : tie.Need-last-positive-requires Inv-loop μ-loop
 last-positive-requires c κs = search needs
@@ -45,7 +51,12 @@ loop-less : tie.Need-loop-less Inv-loop μ-loop
 loop-less c = search needs
 
 loop-again : tie.Need-loop-again Inv-loop μ-loop
-loop-again c = (omega arith, rw (c .last-positive .ensures) (c .before .before .before .before .loop .inv .1 ∙ choose-next (c .before .before .before .before .before .before .before .before .args .weights .now) _ (c .before .before .before .before .loop .sum) (c .before .before .before .before .loop .i) (c .before .before .before .before .loop .positive) (omega arith) (c .before .if1 .left)))
+loop-again c =
+    let at-loop = c .before .before .before .before in
+    let start = at-loop .before .before .before .before in (
+      omega arith,
+      rw (c .last-positive .ensures) (at-loop .loop .inv .1 ∙ choose-next (start .args .weights .now) _ (at-loop .loop .sum) (at-loop .loop .i) (at-loop .loop .positive) (omega arith) (c .before .if1 .left)),
+    )
 
 returns-2 : tie.Need-returns-2 Inv-loop μ-loop
 unfolding rating

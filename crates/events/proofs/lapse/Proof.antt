@@ -29,7 +29,21 @@ memory-of-requires c κs = search needs
 
 returns : tie.Need-returns
 unfolding lapse
-returns c = rw (c .memory-of .ensures, c .before .before .of-rating .ensures, c .before .before .before .row-of2 .ensures, c .before .before .before .before .short-steps .ensures, c .before .before .before .before .before .row-of .ensures, c .before .before .before .before .before .before .before .before .next-difficulty .ensures, c .before .before .before .before .before .before .before .before .before .stability-after-failure .ensures)
+returns c =
+    let at-row-of2 = c .before .before .before in
+    let at-short-steps = at-row-of2 .before in
+    let at-row-of = at-short-steps .before in
+    let at-next-difficulty = at-row-of .before .before .before in
+    let at-stability-after-failure = at-next-difficulty .before in
+    rw (
+      c .memory-of .ensures,
+      c .before .before .of-rating .ensures,
+      at-row-of2 .row-of2 .ensures,
+      at-short-steps .short-steps .ensures,
+      at-row-of .row-of .ensures,
+      at-next-difficulty .next-difficulty .ensures,
+      at-stability-after-failure .stability-after-failure .ensures,
+    )
 
 pub lapse-spec : {M : Type 1} → statement M
 lapse-spec =

@@ -41,7 +41,29 @@ memory-of-requires c κs = search needs
 
 returns : tie.Need-returns
 unfolding learning
-returns c = rw (c .memory-of .ensures, c .before .short-steps .ensures, c .before .before .learning-limit .ensures, c .before .before .before .before .of-rating .ensures, c .before .before .before .before .before .clamp .ensures, c .before .before .before .before .before .before .init-difficulty .ensures, c .before .before .before .before .before .before .before .init-stability .ensures, c .before .before .before .before .before .before .before .before .before .row-of .ensures, c .before .before .before .before .before .before .before .before .before .before .before .drawn-rating .ensures, c .before .before .before .before .before .before .before .before .before .before .before .before .before .next .ensures .0, c .before .before .before .before .before .before .before .before .before .before .before .before .before .next .ensures .1, c .before .before .before .before .before .before .before .before .before .before .before .before .before .before .new .ensures)
+returns c =
+    let at-of-rating = c .before .before .before .before in
+    let at-clamp = at-of-rating .before in
+    let at-init-difficulty = at-clamp .before in
+    let at-init-stability = at-init-difficulty .before in
+    let at-row-of = at-init-stability .before .before in
+    let at-drawn-rating = at-row-of .before .before in
+    let at-next = at-drawn-rating .before .before in
+    let at-new = at-next .before in
+    rw (
+      c .memory-of .ensures,
+      c .before .short-steps .ensures,
+      c .before .before .learning-limit .ensures,
+      at-of-rating .of-rating .ensures,
+      at-clamp .clamp .ensures,
+      at-init-difficulty .init-difficulty .ensures,
+      at-init-stability .init-stability .ensures,
+      at-row-of .row-of .ensures,
+      at-drawn-rating .drawn-rating .ensures,
+      at-next .next .ensures .0,
+      at-next .next .ensures .1,
+      at-new .new .ensures,
+    )
 
 pub learning-spec : {M : Type 1} → statement M
 learning-spec =

@@ -27,14 +27,41 @@ success-requires c κs = search needs
 
 returns : tie.Need-returns
 unfolding reviewing
-returns c = let e : recalled (c .before .before .before .before .before .before .before .before .before .args .chance) (word (mix (advance (c .before .before .before .before .before .before .before .before .before .args .state)))) ≡ c .before .before .recalled .result = sym (c .before .before .recalled .ensures ∙ ap (λ (z : ℕ). recalled (c .before .before .before .before .before .before .before .before .before .args .chance) z) (c .before .before .before .word .ensures ∙ ap (λ (z : ℕ). word z) (c .before .before .before .before .before .next .ensures .1 ∙ ap (λ (z : ℕ). mix (advance z)) (c .before .before .before .before .before .before .new .ensures)))) in rw (← c .before .before .before .before .before .before .before .before .chance-ok .ensures, c .before .before .before .before .before .before .before .if1 .taken, e, c .before .if2 .taken, c .success .ensures, c .before .before .before .before .before .next .ensures .0, c .before .before .before .before .before .before .new .ensures)
+returns c =
+    let at-word = c .before .before .before in
+    let at-next = at-word .before .before in
+    let at-new = at-next .before in
+    let at-if1 = at-new .before in
+    let at-chance-ok = at-if1 .before in
+    let start = at-chance-ok .before in
+    let e : recalled (start .args .chance) (word (mix (advance (start .args .state)))) ≡ c .before .before .recalled .result = sym
+    (c .before .before .recalled .ensures ∙ ap (λ (z : ℕ). recalled (start .args .chance) z) (at-word .word .ensures ∙ ap (λ (z : ℕ). word z) (at-next .next .ensures .1 ∙ ap (λ (z : ℕ). mix (advance z)) (at-new .new .ensures))))
+    in rw (
+      ← at-chance-ok .chance-ok .ensures,
+      at-if1 .if1 .taken,
+      e,
+      c .before .if2 .taken,
+      c .success .ensures,
+      at-next .next .ensures .0,
+      at-new .new .ensures,
+    )
 
 lapse-requires : tie.Need-lapse-requires
 lapse-requires c κs = search needs
 
 returns-2 : tie.Need-returns-2
 unfolding reviewing
-returns-2 c = let e : recalled (c .before .before .before .before .before .before .before .before .before .args .chance) (word (mix (advance (c .before .before .before .before .before .before .before .before .before .args .state)))) ≡ c .before .before .recalled .result = sym (c .before .before .recalled .ensures ∙ ap (λ (z : ℕ). recalled (c .before .before .before .before .before .before .before .before .before .args .chance) z) (c .before .before .before .word .ensures ∙ ap (λ (z : ℕ). word z) (c .before .before .before .before .before .next .ensures .1 ∙ ap (λ (z : ℕ). mix (advance z)) (c .before .before .before .before .before .before .new .ensures)))) in rw (← c .before .before .before .before .before .before .before .before .chance-ok .ensures, c .before .before .before .before .before .before .before .if1 .taken, e, c .before .if2 .left, c .lapse .ensures, c .before .before .before .before .before .next .ensures .0, c .before .before .before .before .before .before .new .ensures)
+returns-2 c =
+    let at-word = c .before .before .before in
+    let at-next = at-word .before .before in
+    let at-new = at-next .before in
+    let at-if1 = at-new .before in
+    let at-chance-ok = at-if1 .before in
+    let start = at-chance-ok .before in
+    let e : recalled (start .args .chance) (word (mix (advance (start .args .state)))) ≡ c .before .before .recalled .result = sym
+    (c .before .before .recalled .ensures ∙ ap (λ (z : ℕ). recalled (start .args .chance) z) (at-word .word .ensures ∙ ap (λ (z : ℕ). word z) (at-next .next .ensures .1 ∙ ap (λ (z : ℕ). mix (advance z)) (at-new .new .ensures))))
+    in rw
+    (← at-chance-ok .chance-ok .ensures, at-if1 .if1 .taken, e, c .before .if2 .left, c .lapse .ensures, at-next .next .ensures .0, at-new .new .ensures)
 
 returns-3 : tie.Need-returns-3
 unfolding reviewing

@@ -36,7 +36,26 @@ consecutive-after-requires c κs = c .before .before .before .before .before .be
 
 returns : tie.Need-returns
 unfolding shortStep
-returns c = rw (c .consecutive-after .ensures, c .before .before .of-rating .ensures, c .before .before .before .next-difficulty .ensures, c .before .before .before .before .stability-short-term .ensures, c .before .before .before .before .before .before .drawn-rating .ensures, c .before .before .before .before .before .before .before .row-of .ensures, c .before .before .before .before .before .before .before .before .one-less .ensures, c .before .before .before .before .before .before .before .before .before .next .ensures .0, c .before .before .before .before .before .before .before .before .before .next .ensures .1, c .before .before .before .before .before .before .before .before .before .before .new .ensures)
+returns c =
+    let at-next-difficulty = c .before .before .before in
+    let at-stability-short-term = at-next-difficulty .before in
+    let at-drawn-rating = at-stability-short-term .before .before in
+    let at-row-of = at-drawn-rating .before in
+    let at-one-less = at-row-of .before in
+    let at-next = at-one-less .before in
+    let at-new = at-next .before in
+    rw (
+      c .consecutive-after .ensures,
+      c .before .before .of-rating .ensures,
+      at-next-difficulty .next-difficulty .ensures,
+      at-stability-short-term .stability-short-term .ensures,
+      at-drawn-rating .drawn-rating .ensures,
+      at-row-of .row-of .ensures,
+      at-one-less .one-less .ensures,
+      at-next .next .ensures .0,
+      at-next .next .ensures .1,
+      at-new .new .ensures,
+    )
 
 pub short-step-spec : {M : Type 1} → statement M
 short-step-spec =

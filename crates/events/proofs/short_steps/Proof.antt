@@ -18,10 +18,20 @@ loop-holds : tie.Need-loop-holds Inv-loop μ-loop
 loop-holds c = (refl, omega arith)
 
 returns : tie.Need-returns Inv-loop μ-loop
-returns c = sym (steps-many (kept (c .before .before .before .before .args .m)) (c .before .before .before .before .args .transitions) (c .before .before .before .before .args .costs) (c .before .before .before .before .args .limit) (c .before .before .before .loop .left) (c .before .before .before .loop .t) (c .if1 .taken)) ∙ c .before .before .before .loop .inv .0
+returns c =
+    let at-loop = c .before .before .before in
+    let start = at-loop .before in
+    sym
+    (steps-many (kept (start .args .m)) (start .args .transitions) (start .args .costs) (start .args .limit) (at-loop .loop .left) (at-loop .loop .t) (c .if1 .taken))
+    ∙ at-loop .loop .inv .0
 
 returns-2 : tie.Need-returns-2 Inv-loop μ-loop
-returns-2 c = sym (steps-easy (kept (c .before .before .before .before .before .before .args .m)) (c .before .before .before .before .before .before .args .transitions) (c .before .before .before .before .before .before .args .costs) (c .before .before .before .before .before .before .args .limit) (c .before .before .before .before .before .loop .left) (c .before .before .before .before .before .loop .t) (c .if2 .taken)) ∙ c .before .before .before .before .before .loop .inv .0
+returns-2 c =
+    let at-loop = c .before .before .before .before .before in
+    let start = at-loop .before in
+    sym
+    (steps-easy (kept (start .args .m)) (start .args .transitions) (start .args .costs) (start .args .limit) (at-loop .loop .left) (at-loop .loop .t) (c .if2 .taken))
+    ∙ at-loop .loop .inv .0
 
 short-step-requires : tie.Need-short-step-requires Inv-loop μ-loop
 short-step-requires c κs = omega (arith, c .before .before .if1 .left, c .before .before .before .before .before .before .fits .limit)
@@ -33,7 +43,14 @@ loop-less : tie.Need-loop-less Inv-loop μ-loop
 loop-less c = omega arith
 
 loop-again : tie.Need-loop-again Inv-loop μ-loop
-loop-again c = (steps-on (kept (c .before .before .before .before .before .before .before .args .m)) (c .before .before .before .before .before .before .before .args .transitions) (c .before .before .before .before .before .before .before .args .costs) (c .before .before .before .before .before .before .before .args .limit) (c .before .before .before .before .before .before .loop .left) (c .before .before .before .before .before .before .loop .t) (c .short-step .result) (c .before .before .before .before .before .loop-test .taken) (c .before .before .before .if1 .left) (c .before .if2 .left) (c .short-step .ensures) ∙ c .before .before .before .before .before .before .loop .inv .0, omega arith)
+loop-again c =
+    let at-if1 = c .before .before .before in
+    let at-loop-test = at-if1 .before .before in
+    let at-loop = at-loop-test .before in
+    let start = at-loop .before in (
+      steps-on (kept (start .args .m)) (start .args .transitions) (start .args .costs) (start .args .limit) (at-loop .loop .left) (at-loop .loop .t) (c .short-step .result) (at-loop-test .loop-test .taken) (at-if1 .if1 .left) (c .before .if2 .left) (c .short-step .ensures) ∙ at-loop .loop .inv .0,
+      omega arith,
+    )
 
 returns-3 : tie.Need-returns-3 Inv-loop μ-loop
 unfolding shortSteps

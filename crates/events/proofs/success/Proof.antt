@@ -29,7 +29,21 @@ of-rating-requires c κs = (omega (arith, c .before .before .before .before .bef
 
 returns : tie.Need-returns
 unfolding success
-returns c = rw (c .of-rating .ensures, c .before .stability-after-success .ensures, c .before .before .next-difficulty .ensures, c .before .before .before .before .before .before .drawn-recalled-rating .ensures, c .before .before .before .before .row-of .ensures, c .before .before .before .before .before .before .before .before .next .ensures .0, c .before .before .before .before .before .before .before .before .next .ensures .1, c .before .before .before .before .before .before .before .before .before .new .ensures)
+returns c =
+    let at-row-of = c .before .before .before .before in
+    let at-drawn-recalled-rating = at-row-of .before .before in
+    let at-next = at-drawn-recalled-rating .before .before in
+    let at-new = at-next .before in
+    rw (
+      c .of-rating .ensures,
+      c .before .stability-after-success .ensures,
+      c .before .before .next-difficulty .ensures,
+      at-drawn-recalled-rating .drawn-recalled-rating .ensures,
+      at-row-of .row-of .ensures,
+      at-next .next .ensures .0,
+      at-next .next .ensures .1,
+      at-new .new .ensures,
+    )
 
 pub success-spec : {M : Type 1} → statement M
 success-spec =

@@ -16,7 +16,17 @@ is-finite-requires-4 : tie.Need-is-finite-requires-4
 is-finite-requires-4 c κs = search needs
 
 returns : tie.Need-returns
-returns c = rw (sym (c .before .before .before .before .before .before .is-finite .ensures) ∙ c .before .before .before .before .before .if1 .taken, sym (c .before .before .before .before .is-finite2 .ensures) ∙ c .before .before .before .if2 .taken, sym (c .before .before .is-finite3 .ensures) ∙ c .before .if3 .taken, c .is-finite4 .ensures)
+returns c =
+    let at-if2 = c .before .before .before in
+    let at-is-finite2 = at-if2 .before in
+    let at-if1 = at-is-finite2 .before in
+    let at-is-finite = at-if1 .before in
+    rw (
+      sym (at-is-finite .is-finite .ensures) ∙ at-if1 .if1 .taken,
+      sym (at-is-finite2 .is-finite2 .ensures) ∙ at-if2 .if2 .taken,
+      sym (c .before .before .is-finite3 .ensures) ∙ c .before .if3 .taken,
+      c .is-finite4 .ensures,
+    )
 
 returns-2 : tie.Need-returns-2
 returns-2 c = rw (sym (c .before .before .before .before .before .is-finite .ensures) ∙ c .before .before .before .before .if1 .taken, sym (c .before .before .before .is-finite2 .ensures) ∙ c .before .before .if2 .taken, sym (c .before .is-finite3 .ensures) ∙ c .if3 .left)

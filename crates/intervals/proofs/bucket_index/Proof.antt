@@ -18,7 +18,16 @@ pattern-requires c κs = search needs
 
 returns : tie.Need-returns
 unfolding bucketIndex
-returns c = rw (c .pattern .ensures, c .before .to-i32 .ensures, c .before .before .clamp .ensures, c .before .before .before .round .ensures, itself (bucketIndex (c .before .before .before .before .args .value) (c .before .before .before .before .args .step)) (bucket-in (c .before .before .before .before .args .value) (c .before .before .before .before .args .step)))
+returns c =
+    let at-round = c .before .before .before in
+    let start = at-round .before in
+    rw (
+      c .pattern .ensures,
+      c .before .to-i32 .ensures,
+      c .before .before .clamp .ensures,
+      at-round .round .ensures,
+      itself (bucketIndex (start .args .value) (start .args .step)) (bucket-in (start .args .value) (start .args .step)),
+    )
 
 pub bucket-index-spec : {M : Type 1} → statement M
 bucket-index-spec =

@@ -22,10 +22,24 @@ below-requires : tie.Need-below-requires
 below-requires c κs = search needs
 
 returns : tie.Need-returns
-returns c = range-both (Kept.retention (c .before .before .before .before .before .before .args .curve)) (c .before .before .before .before .before .before .args .retention) (c .before .before .before .before .before .before .args .interval) (c .before .before .before .before .retention .result) (c .before .before .before .no-less .result) (c .before .before .before .before .retention .ensures ∙ ap (λ (x : Float). Kept.retention (c .before .before .before .before .before .before .args .curve) x) (c .before .before .before .before .before .max .ensures)) (c .before .before .before .no-less .ensures) (c .before .retention2 .result) (c .below .result) (c .before .before .if1 .taken) (c .before .retention2 .ensures) (c .below .ensures)
+returns c =
+    let at-no-less = c .before .before .before in
+    let at-retention = at-no-less .before in
+    let at-max = at-retention .before in
+    let start = at-max .before in
+    range-both (Kept.retention (start .args .curve)) (start .args .retention) (start .args .interval) (at-retention .retention .result)
+    (at-no-less .no-less .result) (at-retention .retention .ensures ∙ ap (λ (x : Float). Kept.retention (start .args .curve) x) (at-max .max .ensures))
+    (at-no-less .no-less .ensures) (c .before .retention2 .result) (c .below .result) (c .before .before .if1 .taken) (c .before .retention2 .ensures)
+    (c .below .ensures)
 
 returns-2 : tie.Need-returns-2
-returns-2 c = range-fails (Kept.retention (c .before .before .before .before .args .curve)) (c .before .before .before .before .args .retention) (c .before .before .before .before .args .interval) (c .before .before .retention .result) (c .before .no-less .result) (c .before .before .retention .ensures ∙ ap (λ (x : Float). Kept.retention (c .before .before .before .before .args .curve) x) (c .before .before .before .max .ensures)) (c .before .no-less .ensures) (c .if1 .left)
+returns-2 c =
+    let at-max = c .before .before .before in
+    let start = at-max .before in
+    range-fails (Kept.retention (start .args .curve)) (start .args .retention) (start .args .interval) (c .before .before .retention .result)
+    (c .before .no-less .result)
+    (c .before .before .retention .ensures ∙ ap (λ (x : Float). Kept.retention (start .args .curve) x) (at-max .max .ensures))
+    (c .before .no-less .ensures) (c .if1 .left)
 
 pub certifies-range-spec : {M : Type 1} → statement M
 certifies-range-spec =

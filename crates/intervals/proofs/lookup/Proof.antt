@@ -40,7 +40,12 @@ shared-slice-read-v : tie.Need-shared-slice-read-v Inv-loop μ-loop
 shared-slice-read-v c = search needs
 
 returns-2 : tie.Need-returns-2 Inv-loop μ-loop
-returns-2 c = sym (probe-free (table (c .before .before .before .before .before .before .before .before .args .keys .now) (c .before .before .before .before .before .before .before .before .args .intervals .now)) (c .before .before .before .before .before .before .before .before .args .s) (c .before .before .before .before .before .before .before .before .args .r) (c .before .before .before .loop .left) (c .before .before .before .loop .p) (omega arith) (c .if2 .taken)) ∙ c .before .before .before .loop .inv .3
+returns-2 c =
+    let at-loop = c .before .before .before in
+    let start = at-loop .before .before .before .before .before in
+    sym
+    (probe-free (table (start .args .keys .now) (start .args .intervals .now)) (start .args .s) (start .args .r) (at-loop .loop .left) (at-loop .loop .p) (omega arith) (c .if2 .taken))
+    ∙ at-loop .loop .inv .3
 
 mul-same : tie.Need-mul-same Inv-loop μ-loop
 mul-same c = search needs
@@ -64,7 +69,13 @@ same-requires : tie.Need-same-requires Inv-loop μ-loop
 same-requires c κs = search needs
 
 returns-3 : tie.Need-returns-3 Inv-loop μ-loop
-returns-3 c = sym (probe-here (table (c .before .before .before .before .before .before .before .before .before .before .before .before .args .keys .now) (c .before .before .before .before .before .before .before .before .before .before .before .before .args .intervals .now)) (c .before .before .before .before .before .before .before .before .before .before .before .before .args .s) (c .before .before .before .before .before .before .before .before .before .before .before .before .args .r) (c .before .before .before .before .before .before .before .loop .left) (c .before .before .before .before .before .before .before .loop .p) (omega arith) (c .before .before .before .before .if2 .left) (sym (c .before .same .ensures) ∙ c .if3 .taken)) ∙ c .before .before .before .before .before .before .before .loop .inv .3
+returns-3 c =
+    let at-if2 = c .before .before .before .before in
+    let at-loop = at-if2 .before .before .before in
+    let start = at-loop .before .before .before .before .before in
+    sym
+    (probe-here (table (start .args .keys .now) (start .args .intervals .now)) (start .args .s) (start .args .r) (at-loop .loop .left) (at-loop .loop .p) (omega arith) (at-if2 .if2 .left) (sym (c .before .same .ensures) ∙ c .if3 .taken))
+    ∙ at-loop .loop .inv .3
 
 after-requires : tie.Need-after-requires Inv-loop μ-loop
 after-requires c κs = search needs
@@ -86,7 +97,11 @@ loop-again c = (
 )
 
 returns-4 : tie.Need-returns-4 Inv-loop μ-loop
-returns-4 c = let z : c .before .loop .left ≡ 0 = omega arith in sym (step-none (table (c .before .before .before .before .before .before .args .keys .now) (c .before .before .before .before .before .before .args .intervals .now)) (c .before .before .before .before .before .before .args .s) (c .before .before .before .before .before .before .args .r) (c .before .loop .p)) ∙ (rw z at (c .before .loop .inv .3))
+returns-4 c =
+    let start = c .before .before .before .before .before .before in
+    let z : c .before .loop .left ≡ 0 = omega arith in sym
+    (step-none (table (start .args .keys .now) (start .args .intervals .now)) (start .args .s) (start .args .r) (c .before .loop .p)) ∙
+    (rw z at (c .before .loop .inv .3))
 
 pub lookup-spec : {M : Type 1} → statement M
 lookup-spec =

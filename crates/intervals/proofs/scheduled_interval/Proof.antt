@@ -21,13 +21,28 @@ enum-known-entry-2 : tie.Need-enum-known-entry-2
 enum-known-entry-2 c = search needs
 
 returns : tie.Need-returns
-returns c = slot-full (c .before .before .before .before .before .before .args .model) (c .before .before .before .before .before .before .args .stability) (c .before .before .before .before .before .before .args .retention) (c .before .before .before .before .before .before .args .most) (table (c .before .before .before .before .before .before .args .keys .now) (c .before .before .before .before .before .before .args .intervals .now)) (c .before .before .before .before .stability-bucket .result) (c .before .before .before .retention-bucket .result) (c .before .before .before .before .stability-bucket .ensures) (c .before .before .before .retention-bucket .ensures) (sym (c .before .before .lookup .ensures) ∙ not-found (c .before .before .lookup .result) (c .before .match .keys2) (c .match2 .keys2))
+returns c =
+    let at-retention-bucket = c .before .before .before in
+    let at-stability-bucket = at-retention-bucket .before in
+    let start = at-stability-bucket .before .before in
+    slot-full (start .args .model) (start .args .stability) (start .args .retention) (start .args .most)
+    (table (start .args .keys .now) (start .args .intervals .now)) (at-stability-bucket .stability-bucket .result)
+    (at-retention-bucket .retention-bucket .result) (at-stability-bucket .stability-bucket .ensures) (at-retention-bucket .retention-bucket .ensures)
+    (sym (c .before .before .lookup .ensures) ∙ not-found (c .before .before .lookup .result) (c .before .match .keys2) (c .match2 .keys2))
 
 scheduled-requires : tie.Need-scheduled-requires
 scheduled-requires c κs = search needs
 
 returns-2 : tie.Need-returns-2
-returns-2 c = slot-new (c .before .before .before .before .before .before .before .before .before .args .model) (c .before .before .before .before .before .before .before .before .before .args .stability) (c .before .before .before .before .before .before .before .before .before .args .retention) (c .before .before .before .before .before .before .before .before .before .args .most) (table (c .before .before .before .before .before .before .before .before .before .args .keys .now) (c .before .before .before .before .before .before .before .before .before .args .intervals .now)) (c .before .before .before .before .before .before .before .stability-bucket .result) (c .before .before .before .before .before .before .retention-bucket .result) (c .before .before .before .before .before .before .before .stability-bucket .ensures) (c .before .before .before .before .before .before .retention-bucket .ensures) (sym (c .before .before .before .before .before .lookup .ensures) ∙ c .before .before .entry2 .given .1) (c .scheduled .ensures)
+returns-2 c =
+    let at-lookup = c .before .before .before .before .before in
+    let at-retention-bucket = at-lookup .before in
+    let at-stability-bucket = at-retention-bucket .before in
+    let start = at-stability-bucket .before .before in
+    slot-new (start .args .model) (start .args .stability) (start .args .retention) (start .args .most)
+    (table (start .args .keys .now) (start .args .intervals .now)) (at-stability-bucket .stability-bucket .result)
+    (at-retention-bucket .retention-bucket .result) (at-stability-bucket .stability-bucket .ensures) (at-retention-bucket .retention-bucket .ensures)
+    (sym (at-lookup .lookup .ensures) ∙ c .before .before .entry2 .given .1) (c .scheduled .ensures)
 
 curve-requires : tie.Need-curve-requires
 curve-requires c κs = search needs
@@ -39,10 +54,31 @@ scheduled-requires-2 : tie.Need-scheduled-requires-2
 scheduled-requires-2 c κs = search needs
 
 returns-3 : tie.Need-returns-3
-returns-3 c = slot-held (c .before .before .before .before .before .before .before .before .before .before .args .model) (c .before .before .before .before .before .before .before .before .before .before .args .stability) (c .before .before .before .before .before .before .before .before .before .before .args .retention) (c .before .before .before .before .before .before .before .before .before .before .args .most) (table (c .before .before .before .before .before .before .before .before .before .before .args .keys .now) (c .before .before .before .before .before .before .before .before .before .before .args .intervals .now)) (c .before .before .before .before .before .before .before .before .stability-bucket .result) (c .before .before .before .before .before .before .before .retention-bucket .result) (c .before .before .before .before .before .before .before .before .stability-bucket .ensures) (c .before .before .before .before .before .before .before .retention-bucket .ensures) (sym (c .before .before .before .before .before .before .lookup .ensures) ∙ c .before .before .before .before .entry .given .1) (c .before .before .curve .result) (c .before .certifies-rounded-interval .result) (c .before .before .curve .ensures) (c .before .certifies-rounded-interval .ensures) (c .if1 .taken)
+returns-3 c =
+    let at-entry = c .before .before .before .before in
+    let at-lookup = at-entry .before .before in
+    let at-retention-bucket = at-lookup .before in
+    let at-stability-bucket = at-retention-bucket .before in
+    let start = at-stability-bucket .before .before in
+    slot-held (start .args .model) (start .args .stability) (start .args .retention) (start .args .most)
+    (table (start .args .keys .now) (start .args .intervals .now)) (at-stability-bucket .stability-bucket .result)
+    (at-retention-bucket .retention-bucket .result) (at-stability-bucket .stability-bucket .ensures) (at-retention-bucket .retention-bucket .ensures)
+    (sym (at-lookup .lookup .ensures) ∙ at-entry .entry .given .1) (c .before .before .curve .result) (c .before .certifies-rounded-interval .result)
+    (c .before .before .curve .ensures) (c .before .certifies-rounded-interval .ensures) (c .if1 .taken)
 
 returns-4 : tie.Need-returns-4
-returns-4 c = slot-anew (c .before .before .before .before .before .before .before .before .before .before .before .args .model) (c .before .before .before .before .before .before .before .before .before .before .before .args .stability) (c .before .before .before .before .before .before .before .before .before .before .before .args .retention) (c .before .before .before .before .before .before .before .before .before .before .before .args .most) (table (c .before .before .before .before .before .before .before .before .before .before .before .args .keys .now) (c .before .before .before .before .before .before .before .before .before .before .before .args .intervals .now)) (c .before .before .before .before .before .before .before .before .before .stability-bucket .result) (c .before .before .before .before .before .before .before .before .retention-bucket .result) (c .before .before .before .before .before .before .before .before .before .stability-bucket .ensures) (c .before .before .before .before .before .before .before .before .retention-bucket .ensures) (sym (c .before .before .before .before .before .before .before .lookup .ensures) ∙ c .before .before .before .before .before .entry .given .1) (c .before .before .before .curve .result) (c .before .before .certifies-rounded-interval .result) (c .before .before .before .curve .ensures) (c .before .before .certifies-rounded-interval .ensures) (c .before .if1 .left) (c .scheduled2 .ensures)
+returns-4 c =
+    let at-curve = c .before .before .before in
+    let at-entry = at-curve .before .before in
+    let at-lookup = at-entry .before .before in
+    let at-retention-bucket = at-lookup .before in
+    let at-stability-bucket = at-retention-bucket .before in
+    let start = at-stability-bucket .before .before in
+    slot-anew (start .args .model) (start .args .stability) (start .args .retention) (start .args .most)
+    (table (start .args .keys .now) (start .args .intervals .now)) (at-stability-bucket .stability-bucket .result)
+    (at-retention-bucket .retention-bucket .result) (at-stability-bucket .stability-bucket .ensures) (at-retention-bucket .retention-bucket .ensures)
+    (sym (at-lookup .lookup .ensures) ∙ at-entry .entry .given .1) (at-curve .curve .result) (c .before .before .certifies-rounded-interval .result)
+    (at-curve .curve .ensures) (c .before .before .certifies-rounded-interval .ensures) (c .before .if1 .left) (c .scheduled2 .ensures)
 
 pub scheduled-interval-spec : {M : Type 1} → statement M
 scheduled-interval-spec =

@@ -16,7 +16,11 @@ retention-and-derivative-requires : tie.Need-retention-and-derivative-requires
 retention-and-derivative-requires c κs = search needs
 
 returns : tie.Need-returns
-returns c = (rw (c .retention-and-derivative .ensures .0, c .before .curve-for-state .ensures, c .before .before .state-of .ensures, c .before .before .before .new .ensures), rw (c .retention-and-derivative .ensures .1, c .before .curve-for-state .ensures, c .before .before .state-of .ensures, c .before .before .before .new .ensures))
+returns c =
+    let at-new = c .before .before .before in (
+      rw (c .retention-and-derivative .ensures .0, c .before .curve-for-state .ensures, c .before .before .state-of .ensures, at-new .new .ensures),
+      rw (c .retention-and-derivative .ensures .1, c .before .curve-for-state .ensures, c .before .before .state-of .ensures, at-new .new .ensures),
+    )
 
 pub drill-forgetting-curve-and-derivative-spec : {M : Type 1} → statement M
 drill-forgetting-curve-and-derivative-spec =

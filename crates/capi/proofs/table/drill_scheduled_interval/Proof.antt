@@ -22,7 +22,13 @@ same-length-2 : tie.Need-same-length-2
 same-length-2 c = search needs
 
 returns : tie.Need-returns
-returns c = (rw (c .interval-in .ensures, c .before .before .before .before .before .before .before .scheduled-interval .ensures, c .before .before .before .before .before .before .before .before .before .before .new .ensures), rw (c .before .before .before .before .enter-slot .ensures, c .before .before .before .before .before .before .before .scheduled-interval .ensures, c .before .before .before .before .before .before .before .before .before .before .new .ensures))
+returns c =
+    let at-enter-slot = c .before .before .before .before in
+    let at-scheduled-interval = at-enter-slot .before .before .before in
+    let at-new = at-scheduled-interval .before .before .before in (
+      rw (c .interval-in .ensures, at-scheduled-interval .scheduled-interval .ensures, at-new .new .ensures),
+      rw (at-enter-slot .enter-slot .ensures, at-scheduled-interval .scheduled-interval .ensures, at-new .new .ensures),
+    )
 
 pub drill-scheduled-interval-spec : {M : Type 1} → statement M
 drill-scheduled-interval-spec =

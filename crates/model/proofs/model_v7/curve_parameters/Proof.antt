@@ -49,7 +49,34 @@ at-requires-11 c κs = search needs
 
 returns : tie.Need-returns
 unfolding curveParametersOf decay2 factor2
-returns c = rw (c .before .before .before .before .before .before .powf-f32 .ensures .0, c .before .before .before .before .before .before .before .before .ln-f32 .ensures .0, c .before .before .before .before .before .before .before .before .before .before .before .before .decay-of .ensures, c .before .before .before .before .before .before .before .before .before .before .before .before .before .at .ensures, c .before .before .before .before .before .before .before .before .before .before .before .at2 .ensures, c .before .before .before .before .before .before .before .before .before .before .at3 .ensures, c .before .before .before .before .before .before .before .before .before .at4 .ensures, c .before .before .before .before .before .before .before .at5 .ensures, c .before .before .before .before .before .at6 .ensures, c .before .before .before .before .at7 .ensures, c .before .before .before .at8 .ensures, c .before .before .at9 .ensures, c .before .at10 .ensures, c .at11 .ensures)
+returns c =
+    let at-at8 = c .before .before .before in
+    let at-at7 = at-at8 .before in
+    let at-at6 = at-at7 .before in
+    let at-powf-f32 = at-at6 .before in
+    let at-at5 = at-powf-f32 .before in
+    let at-ln-f32 = at-at5 .before in
+    let at-at4 = at-ln-f32 .before in
+    let at-at3 = at-at4 .before in
+    let at-at2 = at-at3 .before in
+    let at-decay-of = at-at2 .before in
+    let at-at = at-decay-of .before in
+    rw (
+      at-powf-f32 .powf-f32 .ensures .0,
+      at-ln-f32 .ln-f32 .ensures .0,
+      at-decay-of .decay-of .ensures,
+      at-at .at .ensures,
+      at-at2 .at2 .ensures,
+      at-at3 .at3 .ensures,
+      at-at4 .at4 .ensures,
+      at-at5 .at5 .ensures,
+      at-at6 .at6 .ensures,
+      at-at7 .at7 .ensures,
+      at-at8 .at8 .ensures,
+      c .before .before .at9 .ensures,
+      c .before .at10 .ensures,
+      c .at11 .ensures,
+    )
 
 pub curve-parameters-spec : {M : Type 1} → statement M
 curve-parameters-spec =

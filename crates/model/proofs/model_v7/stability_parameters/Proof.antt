@@ -34,7 +34,24 @@ at-requires-8 c κs = search needs
 
 returns : tie.Need-returns
 unfolding stabilityOf growth
-returns c = rw (c .before .before .before .before .before .before .before .exp-f32 .ensures .0, c .before .before .before .before .before .before .before .before .at .ensures, c .before .before .before .before .before .before .at2 .ensures, c .before .before .before .before .before .at3 .ensures, c .before .before .before .before .at4 .ensures, c .before .before .before .at5 .ensures, c .before .before .at6 .ensures, c .before .at7 .ensures, c .at8 .ensures)
+returns c =
+    let at-at5 = c .before .before .before in
+    let at-at4 = at-at5 .before in
+    let at-at3 = at-at4 .before in
+    let at-at2 = at-at3 .before in
+    let at-exp-f32 = at-at2 .before in
+    let at-at = at-exp-f32 .before in
+    rw (
+      at-exp-f32 .exp-f32 .ensures .0,
+      at-at .at .ensures,
+      at-at2 .at2 .ensures,
+      at-at3 .at3 .ensures,
+      at-at4 .at4 .ensures,
+      at-at5 .at5 .ensures,
+      c .before .before .at6 .ensures,
+      c .before .at7 .ensures,
+      c .at8 .ensures,
+    )
 
 pub stability-parameters-spec : {M : Type 1} → statement M
 stability-parameters-spec =

@@ -28,15 +28,40 @@ returns-2 c = let e : checkParameters (c .before .before .before .before .before
 
 returns-3 : tie.Need-returns-3
 unfolding checked
-returns-3 c = let e : checkParameters (c .before .before .before .before .before .before .before .before .before .before .args .parameters .now) check.Passed ≡ check.Passed = sym (c .before .before .before .before .before .before .check-parameters .ensures) ∙ c .before .before .before .before .enum-told .given .1 in rw (parameters-pass, ne-eqb _ _ (c .before .before .if1 .left), lt-ltb _ _ (c .if2 .taken))
+returns-3 c =
+    let at-enum-told = c .before .before .before .before in
+    let at-check-parameters = at-enum-told .before .before in
+    let start = at-check-parameters .before .before .before .before in
+    let e : checkParameters (start .args .parameters .now) check.Passed ≡ check.Passed = sym (at-check-parameters .check-parameters .ensures) ∙
+    at-enum-told .enum-told .given .1 in rw (parameters-pass, ne-eqb _ _ (c .before .before .if1 .left), lt-ltb _ _ (c .if2 .taken))
 
 returns-4 : tie.Need-returns-4
 unfolding checked
-returns-4 c = let e : checkParameters (c .before .before .before .before .before .before .before .before .before .before .before .before .args .parameters .now) check.Passed ≡ check.Passed = sym (c .before .before .before .before .before .before .before .before .check-parameters .ensures) ∙ c .before .before .before .before .before .before .enum-told .given .1 in rw (parameters-pass, ne-eqb _ _ (c .before .before .before .before .if1 .left), le-ltb _ _ (c .before .before .if2 .left), eq-eqb _ _ (c .if3 .taken))
+returns-4 c =
+    let at-if1 = c .before .before .before .before in
+    let at-enum-told = at-if1 .before .before in
+    let at-check-parameters = at-enum-told .before .before in
+    let start = at-check-parameters .before .before .before .before in
+    let e : checkParameters (start .args .parameters .now) check.Passed ≡ check.Passed = sym (at-check-parameters .check-parameters .ensures) ∙
+    at-enum-told .enum-told .given .1 in rw
+    (parameters-pass, ne-eqb _ _ (at-if1 .if1 .left), le-ltb _ _ (c .before .before .if2 .left), eq-eqb _ _ (c .if3 .taken))
 
 returns-5 : tie.Need-returns-5
 unfolding checked
-returns-5 c = let e : checkParameters (c .before .before .before .before .before .before .before .before .before .before .before .before .before .before .args .parameters .now) check.Passed ≡ check.Passed = sym (c .before .before .before .before .before .before .before .before .before .before .check-parameters .ensures) ∙ c .before .before .before .before .before .before .before .before .enum-told .given .1 in rw (parameters-pass, ne-eqb _ _ (c .before .before .before .before .before .before .if1 .left), le-ltb _ _ (c .before .before .before .before .if2 .left), ne-eqb _ _ (c .before .before .if3 .left), lt-ltb _ _ (c .if4 .taken))
+returns-5 c =
+    let at-if2 = c .before .before .before .before in
+    let at-if1 = at-if2 .before .before in
+    let at-enum-told = at-if1 .before .before in
+    let at-check-parameters = at-enum-told .before .before in
+    let start = at-check-parameters .before .before .before .before in
+    let e : checkParameters (start .args .parameters .now) check.Passed ≡ check.Passed = sym (at-check-parameters .check-parameters .ensures) ∙
+    at-enum-told .enum-told .given .1 in rw (
+      parameters-pass,
+      ne-eqb _ _ (at-if1 .if1 .left),
+      le-ltb _ _ (at-if2 .if2 .left),
+      ne-eqb _ _ (c .before .before .if3 .left),
+      lt-ltb _ _ (c .if4 .taken),
+    )
 
 config-ok-requires : tie.Need-config-ok-requires
 config-ok-requires c κs = search needs

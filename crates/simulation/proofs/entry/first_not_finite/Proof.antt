@@ -25,7 +25,13 @@ is-finite-requires : tie.Need-is-finite-requires Inv-loop μ-loop
 is-finite-requires c κs = tt
 
 returns : tie.Need-returns Inv-loop μ-loop
-returns c = let e : notFinite (c .before .before .before .before .before .before .args .w .now) (c .before .before .before .before .loop .i) ≡ true = sym (ap not (c .before .is-finite .ensures ∙ ap isFinite (c .before .before .parameter .ensures))) ∙ c .if1 .taken in sym (first-here (notFinite (c .before .before .before .before .before .before .args .w .now)) (c .before .before .before .before .before .before .args .n) (c .before .before .before .before .loop .i) (c .before .before .before .loop-test .taken) e) ∙ c .before .before .before .before .loop .inv .0
+returns c =
+    let at-loop-test = c .before .before .before in
+    let at-loop = at-loop-test .before in
+    let start = at-loop .before .before in
+    let e : notFinite (start .args .w .now) (at-loop .loop .i) ≡ true = sym
+    (ap not (c .before .is-finite .ensures ∙ ap isFinite (c .before .before .parameter .ensures))) ∙ c .if1 .taken in sym
+    (first-here (notFinite (start .args .w .now)) (start .args .n) (at-loop .loop .i) (at-loop-test .loop-test .taken) e) ∙ at-loop .loop .inv .0
 
 add-i : tie.Need-add-i Inv-loop μ-loop
 add-i c = omega arith
@@ -34,7 +40,15 @@ loop-less : tie.Need-loop-less Inv-loop μ-loop
 loop-less c = omega arith
 
 loop-again : tie.Need-loop-again Inv-loop μ-loop
-loop-again c = let e : notFinite (c .before .before .before .before .before .before .args .w .now) (c .before .before .before .before .loop .i) ≡ false = sym (ap not (c .before .is-finite .ensures ∙ ap isFinite (c .before .before .parameter .ensures))) ∙ c .if1 .left in (first-on (notFinite (c .before .before .before .before .before .before .args .w .now)) (c .before .before .before .before .before .before .args .n) (c .before .before .before .before .loop .i) (c .before .before .before .loop-test .taken) e ∙ c .before .before .before .before .loop .inv .0, omega arith)
+loop-again c =
+    let at-loop-test = c .before .before .before in
+    let at-loop = at-loop-test .before in
+    let start = at-loop .before .before in
+    let e : notFinite (start .args .w .now) (at-loop .loop .i) ≡ false = sym
+    (ap not (c .before .is-finite .ensures ∙ ap isFinite (c .before .before .parameter .ensures))) ∙ c .if1 .left in (
+      first-on (notFinite (start .args .w .now)) (start .args .n) (at-loop .loop .i) (at-loop-test .loop-test .taken) e ∙ at-loop .loop .inv .0,
+      omega arith,
+    )
 
 returns-2 : tie.Need-returns-2 Inv-loop μ-loop
 returns-2 c = sym (first-end (notFinite (c .before .before .before .args .w .now)) (c .before .before .before .args .n) (c .before .loop .i) (c .loop-test .left) (c .before .loop .inv .1)) ∙ c .before .loop .inv .0

@@ -26,7 +26,14 @@ is-bad-requires : tie.Need-is-bad-requires Inv-loop μ-loop
 is-bad-requires c κs = tt
 
 returns : tie.Need-returns Inv-loop μ-loop
-returns c = let e : notOk (c .before .before .before .before .before .args .existing .now) (c .before .before .before .before .before .args .existing-counts .now) (c .before .before .before .before .loop .i) ≡ true = sym (c .before .is-bad .ensures ∙ ap (λ (k : Card). isKept k && not (cardOk k)) (c .before .before .card-at .ensures)) ∙ c .if1 .taken in sym (first-here (notOk (c .before .before .before .before .before .args .existing .now) (c .before .before .before .before .before .args .existing-counts .now)) (c .before .before .before .before .before .args .n) (c .before .before .before .before .loop .i) (c .before .before .before .loop-test .taken) e) ∙ c .before .before .before .before .loop .inv .0
+returns c =
+    let at-loop-test = c .before .before .before in
+    let at-loop = at-loop-test .before in
+    let start = at-loop .before in
+    let e : notOk (start .args .existing .now) (start .args .existing-counts .now) (at-loop .loop .i) ≡ true = sym
+    (c .before .is-bad .ensures ∙ ap (λ (k : Card). isKept k && not (cardOk k)) (c .before .before .card-at .ensures)) ∙ c .if1 .taken in sym
+    (first-here (notOk (start .args .existing .now) (start .args .existing-counts .now)) (start .args .n) (at-loop .loop .i) (at-loop-test .loop-test .taken) e)
+    ∙ at-loop .loop .inv .0
 
 add-i : tie.Need-add-i Inv-loop μ-loop
 add-i c = omega arith
@@ -35,7 +42,15 @@ loop-less : tie.Need-loop-less Inv-loop μ-loop
 loop-less c = omega arith
 
 loop-again : tie.Need-loop-again Inv-loop μ-loop
-loop-again c = let e : notOk (c .before .before .before .before .before .args .existing .now) (c .before .before .before .before .before .args .existing-counts .now) (c .before .before .before .before .loop .i) ≡ false = sym (c .before .is-bad .ensures ∙ ap (λ (k : Card). isKept k && not (cardOk k)) (c .before .before .card-at .ensures)) ∙ c .if1 .left in (first-on (notOk (c .before .before .before .before .before .args .existing .now) (c .before .before .before .before .before .args .existing-counts .now)) (c .before .before .before .before .before .args .n) (c .before .before .before .before .loop .i) (c .before .before .before .loop-test .taken) e ∙ c .before .before .before .before .loop .inv .0, omega arith)
+loop-again c =
+    let at-loop-test = c .before .before .before in
+    let at-loop = at-loop-test .before in
+    let start = at-loop .before in
+    let e : notOk (start .args .existing .now) (start .args .existing-counts .now) (at-loop .loop .i) ≡ false = sym
+    (c .before .is-bad .ensures ∙ ap (λ (k : Card). isKept k && not (cardOk k)) (c .before .before .card-at .ensures)) ∙ c .if1 .left in (
+      first-on (notOk (start .args .existing .now) (start .args .existing-counts .now)) (start .args .n) (at-loop .loop .i) (at-loop-test .loop-test .taken) e ∙ at-loop .loop .inv .0,
+      omega arith,
+    )
 
 returns-2 : tie.Need-returns-2 Inv-loop μ-loop
 returns-2 c = sym (first-end (notOk (c .before .before .args .existing .now) (c .before .before .args .existing-counts .now)) (c .before .before .args .n) (c .before .loop .i) (c .loop-test .left) (c .before .loop .inv .1)) ∙ c .before .loop .inv .0

@@ -31,14 +31,42 @@ returns-6 c = rw (eq-eqb _ _ (c .before .before .before .before .before .if1 .le
 
 returns-7 : tie.Need-returns-7
 unfolding lengthsOk
-returns-7 c = rw (eq-eqb _ _ (c .before .before .before .before .before .before .if1 .left), eq-eqb _ _ (c .before .before .before .before .before .if2 .left), le-leb _ _ (c .before .before .before .before .if3 .left), le-leb _ _ (c .before .before .before .if4 .left), le-leb _ _ (c .before .before .if5 .left), le-leb _ _ (c .before .if6 .left), lt-leb _ _ (c .if7 .taken))
+returns-7 c =
+    let at-if4 = c .before .before .before in
+    let at-if3 = at-if4 .before in
+    let at-if2 = at-if3 .before in
+    let at-if1 = at-if2 .before in
+    rw (
+      eq-eqb _ _ (at-if1 .if1 .left),
+      eq-eqb _ _ (at-if2 .if2 .left),
+      le-leb _ _ (at-if3 .if3 .left),
+      le-leb _ _ (at-if4 .if4 .left),
+      le-leb _ _ (c .before .before .if5 .left),
+      le-leb _ _ (c .before .if6 .left),
+      lt-leb _ _ (c .if7 .taken),
+    )
 
 due-days-requires : tie.Need-due-days-requires
 due-days-requires c κs = search needs
 
 returns-8 : tie.Need-returns-8
 unfolding lengthsOk
-returns-8 c = rw (eq-eqb _ _ (c .before .before .before .before .before .before .before .if1 .left), eq-eqb _ _ (c .before .before .before .before .before .before .if2 .left), le-leb _ _ (c .before .before .before .before .before .if3 .left), le-leb _ _ (c .before .before .before .before .if4 .left), le-leb _ _ (c .before .before .before .if5 .left), le-leb _ _ (c .before .before .if6 .left), le-leb _ _ (c .before .if7 .left), ← c .due-days .ensures)
+returns-8 c =
+    let at-if5 = c .before .before .before in
+    let at-if4 = at-if5 .before in
+    let at-if3 = at-if4 .before in
+    let at-if2 = at-if3 .before in
+    let at-if1 = at-if2 .before in
+    rw (
+      eq-eqb _ _ (at-if1 .if1 .left),
+      eq-eqb _ _ (at-if2 .if2 .left),
+      le-leb _ _ (at-if3 .if3 .left),
+      le-leb _ _ (at-if4 .if4 .left),
+      le-leb _ _ (at-if5 .if5 .left),
+      le-leb _ _ (c .before .before .if6 .left),
+      le-leb _ _ (c .before .if7 .left),
+      ← c .due-days .ensures,
+    )
 
 pub lists-ok-spec : {M : Type 1} → statement M
 lists-ok-spec =

@@ -86,10 +86,16 @@ same-length-3 c =
     at-run-turns .run-turns .kept .1 .1 .0 ∙ at-create .create .kept .1 .1 .0 ∙ at-retain .retain .kept .1 .1 .0
 
 same-length-4 : tie.Need-same-length-4
-same-length-4 c = c .before .before .before .before .before .before .before .before .before .before .before .run-turns .kept .1 .1 .1 .0 ∙ c .before .before .before .before .before .before .before .before .before .before .before .before .before .before .before .before .before .before .before .before .before .before .before .before .before .before .before .before .before .before .first-counts .kept .0
+same-length-4 c =
+    let at-run-turns = c .before .before .before .before .before .before .before .before .before .before .before in
+    let at-first-counts = at-run-turns .before .before .before .before .before .before .before .before .before .before .before .before .before .before .before .before .before .before .before in
+    at-run-turns .run-turns .kept .1 .1 .1 .0 ∙ at-first-counts .first-counts .kept .0
 
 same-length-5 : tie.Need-same-length-5
-same-length-5 c = c .before .before .before .before .before .before .before .before .before .before .before .run-turns .kept .1 .1 .1 .1 .0 ∙ c .before .before .before .before .before .before .before .before .before .before .before .before .before .before .before .before .before .before .before .before .before .before .before .before .before .before .before .first-sums .kept .0
+same-length-5 c =
+    let at-run-turns = c .before .before .before .before .before .before .before .before .before .before .before in
+    let at-first-sums = at-run-turns .before .before .before .before .before .before .before .before .before .before .before .before .before .before .before .before in
+    at-run-turns .run-turns .kept .1 .1 .1 .1 .0 ∙ at-first-sums .first-sums .kept .0
 
 same-length-6 : tie.Need-same-length-6
 same-length-6 c =

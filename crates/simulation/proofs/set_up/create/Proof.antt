@@ -32,7 +32,17 @@ loop-less : tie.Need-loop-less Inv-loop μ-loop
 loop-less c = omega arith
 
 loop-again : tie.Need-loop-again Inv-loop μ-loop
-loop-again c = (create-next (c .before .before .before .before .before .before .before .before .before .before .args .retention) (c .before .before .before .before .before .before .before .before .before .before .args .limit) _ _ _ _ _ (c .before .before .before .before .before .before .before .before .before .loop .inv .0) (c .before .before .before .before .before .before .before .new-card .ensures) (joined-is _ _ _ _ _ _ _ _ _ (c .before .before .before .join .ensures) []), omega arith, omega arith, omega arith, omega arith)
+loop-again c =
+    let at-join = c .before .before .before in
+    let at-new-card = at-join .before .before .before .before in
+    let at-loop = at-new-card .before .before in
+    let start = at-loop .before in (
+      create-next (start .args .retention) (start .args .limit) _ _ _ _ _ (at-loop .loop .inv .0) (at-new-card .new-card .ensures) (joined-is _ _ _ _ _ _ _ _ _ (at-join .join .ensures) []),
+      omega arith,
+      omega arith,
+      omega arith,
+      omega arith,
+    )
 
 same-length : tie.Need-same-length Inv-loop μ-loop
 same-length c = omega arith
@@ -44,7 +54,10 @@ same-length-3 : tie.Need-same-length-3 Inv-loop μ-loop
 same-length-3 c = omega arith
 
 returns : tie.Need-returns Inv-loop μ-loop
-returns c = let e : c .before .loop .i ≡ c .before .before .args .n = omega arith in c .before .loop .inv .0 ∙ ap (λ (z : ℕ). create (c .before .before .args .retention) (c .before .before .args .limit) z (deck (c .before .before .args .cards .now) (c .before .before .args .counts .now) (c .before .before .args .rows .now) [] (c .before .before .args .from))) e
+returns c =
+    let e : c .before .loop .i ≡ c .before .before .args .n = omega arith in c .before .loop .inv .0 ∙ ap
+    (λ (z : ℕ). create (c .before .before .args .retention) (c .before .before .args .limit) z (deck (c .before .before .args .cards .now) (c .before .before .args .counts .now) (c .before .before .args .rows .now) [] (c .before .before .args .from)))
+    e
 
 pub create-spec : {M : Type 1} → statement M
 create-spec =

@@ -33,7 +33,13 @@ loop-less : tie.Need-loop-less Inv-loop μ-loop
 loop-less c = omega arith
 
 loop-again : tie.Need-loop-again Inv-loop μ-loop
-loop-again c = (known-next (c .before .before .before .before .before .args .existing .now) (c .before .before .before .before .before .args .existing-counts .now) _ _ _ _ _ (c .before .before .before .before .loop .inv .0) (c .before .before .card-at .ensures) (c .before .is-known .ensures) (c .one-more-if .ensures), known-le _ _ _ (c .before .is-known .result) (c .before .before .before .before .loop .inv .1) (c .one-more-if .ensures), omega arith)
+loop-again c =
+    let at-loop = c .before .before .before .before in
+    let start = at-loop .before in (
+      known-next (start .args .existing .now) (start .args .existing-counts .now) _ _ _ _ _ (at-loop .loop .inv .0) (c .before .before .card-at .ensures) (c .before .is-known .ensures) (c .one-more-if .ensures),
+      known-le _ _ _ (c .before .is-known .result) (at-loop .loop .inv .1) (c .one-more-if .ensures),
+      omega arith,
+    )
 
 returns : tie.Need-returns Inv-loop μ-loop
 returns c = let e : c .before .loop .i ≡ c .before .before .args .n = omega arith in c .before .loop .inv .0 ∙ ap (λ (z : ℕ). known (c .before .before .args .existing .now) (c .before .before .args .existing-counts .now) z) e

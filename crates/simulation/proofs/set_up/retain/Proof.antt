@@ -31,7 +31,18 @@ loop-less : tie.Need-loop-less Inv-loop μ-loop
 loop-less c = omega arith
 
 loop-again : tie.Need-loop-again Inv-loop μ-loop
-loop-again c = (retain-next (c .before .before .before .before .before .before .before .before .before .before .before .before .before .before .args .span) (c .before .before .before .before .before .before .before .before .before .before .before .before .before .before .args .existing .now) (c .before .before .before .before .before .before .before .before .before .before .before .before .before .before .args .existing-counts .now) _ _ _ _ _ (c .before .before .before .before .before .before .before .before .before .before .before .before .loop .inv .0) (c .before .before .before .before .before .before .before .before .before .before .card-at .ensures) (c .before .before .before .before .before .retain-card .ensures), omega arith, omega arith, omega arith, omega arith, omega arith)
+loop-again c =
+    let at-retain-card = c .before .before .before .before .before in
+    let at-card-at = at-retain-card .before .before .before .before .before in
+    let at-loop = at-card-at .before .before in
+    let start = at-loop .before .before in (
+      retain-next (start .args .span) (start .args .existing .now) (start .args .existing-counts .now) _ _ _ _ _ (at-loop .loop .inv .0) (at-card-at .card-at .ensures) (at-retain-card .retain-card .ensures),
+      omega arith,
+      omega arith,
+      omega arith,
+      omega arith,
+      omega arith,
+    )
 
 same-length : tie.Need-same-length Inv-loop μ-loop
 same-length c = omega arith
@@ -46,7 +57,11 @@ same-length-4 : tie.Need-same-length-4 Inv-loop μ-loop
 same-length-4 c = omega arith
 
 returns : tie.Need-returns Inv-loop μ-loop
-returns c = let e : c .before .loop .i ≡ c .before .before .before .args .n = omega arith in c .before .loop .inv .0 ∙ ap (λ (z : ℕ). retain (c .before .before .before .args .span) (c .before .before .before .args .existing .now) (c .before .before .before .args .existing-counts .now) z (deck (c .before .before .before .args .cards .now) (c .before .before .before .args .counts .now) (c .before .before .before .args .rows .now) (c .before .before .before .args .due .now) 0)) e
+returns c =
+    let start = c .before .before .before in
+    let e : c .before .loop .i ≡ start .args .n = omega arith in c .before .loop .inv .0 ∙ ap
+    (λ (z : ℕ). retain (start .args .span) (start .args .existing .now) (start .args .existing-counts .now) z (deck (start .args .cards .now) (start .args .counts .now) (start .args .rows .now) (start .args .due .now) 0))
+    e
 
 pub retain-spec : {M : Type 1} → statement M
 retain-spec =

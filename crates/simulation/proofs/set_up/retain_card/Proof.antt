@@ -29,7 +29,14 @@ same-length-4 : tie.Need-same-length-4
 same-length-4 c = search needs
 
 returns : tie.Need-returns
-returns c = retained-is (c .before .before .before .before .before .before .before .before .before .before .before .before .before .before .before .args .card) (c .before .before .before .before .before .before .before .before .before .before .before .before .before .before .before .args .len) _ _ _ _ _ _ _ (c .before .before .before .before .before .before .before .before .join .ensures) (c .before .before .before .before .before .before .before .before .before .before .before .before .before .before .before .args .span) _ _ _ _ (c .before .before .before .before .before .before .before .before .before .before .before .before .before .is-kept .ensures) (c .before .before .before .before .before .before .before .before .before .before .before .before .if1 .taken) (c .before .before .before .day-of .ensures) (c .before .before .add-due .ensures)
+returns c =
+    let at-day-of = c .before .before .before in
+    let at-join = at-day-of .before .before .before .before .before in
+    let at-if1 = at-join .before .before .before .before in
+    let at-is-kept = at-if1 .before in
+    let start = at-is-kept .before .before in
+    retained-is (start .args .card) (start .args .len) _ _ _ _ _ _ _ (at-join .join .ensures) (start .args .span) _ _ _ _ (at-is-kept .is-kept .ensures)
+    (at-if1 .if1 .taken) (at-day-of .day-of .ensures) (c .before .before .add-due .ensures)
 
 returns-2 : tie.Need-returns-2
 returns-2 c = dropped-is (c .before .before .before .args .span) _ (c .before .before .before .args .card) _ (c .before .is-kept .ensures) (c .if1 .left)

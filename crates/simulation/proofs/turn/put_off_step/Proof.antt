@@ -14,7 +14,12 @@ same-length : tie.Need-same-length
 same-length c = search needs
 
 returns : tie.Need-returns
-returns c = put-off-refused (c .before .before .before .before .before .args .span) (c .before .before .before .before .before .args .c) (c .before .before .before .before .before .args .card) (c .before .before .before .before .before .args .d) (c .before .before .before .before .before .args .len) (c .before .before .before .before .before .args .draws) (c .before .before .before .before .before .args .cards .now) (c .before .before .before .before .before .args .rows .now) (c .before .before .before .before .before .args .due .now) _ _ (c .before .before .before .is-new .ensures) (c .before .none-due .ensures) (c .if1 .taken)
+returns c =
+    let at-is-new = c .before .before .before in
+    let start = at-is-new .before .before in
+    put-off-refused (start .args .span) (start .args .c) (start .args .card) (start .args .d) (start .args .len) (start .args .draws)
+    (start .args .cards .now) (start .args .rows .now) (start .args .due .now) _ _ (at-is-new .is-new .ensures) (c .before .none-due .ensures)
+    (c .if1 .taken)
 
 put-off-requires : tie.Need-put-off-requires
 put-off-requires c κs = search needs
@@ -29,7 +34,15 @@ same-length-4 : tie.Need-same-length-4
 same-length-4 c = search needs
 
 returns-2 : tie.Need-returns-2
-returns-2 c = put-off-done (c .before .before .before .before .before .before .before .before .before .before .before .before .before .args .span) (c .before .before .before .before .before .before .before .before .before .before .before .before .before .args .c) (c .before .before .before .before .before .before .before .before .before .before .before .before .before .args .card) (c .before .before .before .before .before .before .before .before .before .before .before .before .before .args .d) (c .before .before .before .before .before .before .before .before .before .before .before .before .before .args .len) (c .before .before .before .before .before .before .before .before .before .before .before .before .before .args .draws) (c .before .before .before .before .before .before .before .before .before .before .before .before .before .args .cards .now) (c .before .before .before .before .before .before .before .before .before .before .before .before .before .args .rows .now) (c .before .before .before .before .before .before .before .before .before .before .before .before .before .args .due .now) _ _ _ _ _ (c .before .before .before .before .before .before .before .before .before .before .before .is-new .ensures) (c .before .before .before .before .before .before .before .before .before .none-due .ensures) (c .before .before .before .before .before .before .before .before .if1 .left) (c .before .before .before .before .put-off .ensures)
+returns-2 c =
+    let at-put-off = c .before .before .before .before in
+    let at-if1 = at-put-off .before .before .before .before in
+    let at-none-due = at-if1 .before in
+    let at-is-new = at-none-due .before .before in
+    let start = at-is-new .before .before in
+    put-off-done (start .args .span) (start .args .c) (start .args .card) (start .args .d) (start .args .len) (start .args .draws)
+    (start .args .cards .now) (start .args .rows .now) (start .args .due .now) _ _ _ _ _ (at-is-new .is-new .ensures) (at-none-due .none-due .ensures)
+    (at-if1 .if1 .left) (at-put-off .put-off .ensures)
 
 pub put-off-step-spec : {M : Type 1} → statement M
 put-off-step-spec =

@@ -11,7 +11,11 @@ use Rattle.simulation.proofs.turn.turn.Statement.{statement}
 use Rattle.simulation.proofs.turn.turn.Tie as tie
 
 returns : tie.Need-returns
-returns c = ended-is (c .before .before .before .args .config) (modelOf (c .before .before .before .args .config) (kept (c .before .before .before .args .m))) (c .before .before .before .args .cards .now) (c .before .before .before .args .counts .now) (c .before .before .before .args .rows .now) (c .before .before .before .args .days .now) (c .before .before .before .args .sums .now) (c .before .before .before .args .due .now) (c .before .before .before .args .keys .now) (c .before .before .before .args .intervals .now) (c .before .before .before .args .len) (c .before .before .before .args .draws) (c .if1 .taken)
+returns c =
+    let start = c .before .before .before in
+    ended-is (start .args .config) (modelOf (start .args .config) (kept (start .args .m))) (start .args .cards .now) (start .args .counts .now)
+    (start .args .rows .now) (start .args .days .now) (start .args .sums .now) (start .args .due .now) (start .args .keys .now)
+    (start .args .intervals .now) (start .args .len) (start .args .draws) (c .if1 .taken)
 
 peek-index-requires : tie.Need-peek-index-requires
 peek-index-requires c κs = search needs

@@ -25,7 +25,12 @@ same-length-3 : tie.Need-same-length-3
 same-length-3 c = search needs
 
 returns : tie.Need-returns
-returns c = record { cards-are = c .before .before .before .before .before .before .before .write-floats .ensures; counts-are = c .before .before .before .before .write-counts .ensures; queue-is = rw (← c .before .before .before .before .before .before .before .before .before .key-of .ensures) (c .before .change-front .ensures) }
+returns c =
+    let at-write-counts = c .before .before .before .before in
+    let at-write-floats = at-write-counts .before .before .before in
+    let at-key-of = at-write-floats .before .before in
+    record
+    { cards-are = at-write-floats .write-floats .ensures; counts-are = at-write-counts .write-counts .ensures; queue-is = rw (← at-key-of .key-of .ensures) (c .before .change-front .ensures) }
 
 pub write-card-spec : {M : Type 1} → statement M
 write-card-spec =

@@ -30,7 +30,11 @@ loop-less : tie.Need-loop-less Inv-loop μ-loop
 loop-less c = search needs
 
 loop-again : tie.Need-loop-again Inv-loop μ-loop
-loop-again c = rw (c .min .ensures) (sym (doubled-on (retention (c .before .before .before .before .before .args .self)) (c .before .before .before .before .before .args .desired) (c .before .before .before .before .loop .left) (c .before .before .before .before .loop .high) (omega arith) (sym (c .before .before .stays-above .ensures) ∙ c .before .if1 .taken)) ∙ c .before .before .before .before .loop .inv)
+loop-again c =
+    let at-loop = c .before .before .before .before in
+    let start = at-loop .before in
+    rw (c .min .ensures)
+    (sym (doubled-on (retention (start .args .self)) (start .args .desired) (at-loop .loop .left) (at-loop .loop .high) (omega arith) (sym (c .before .before .stays-above .ensures) ∙ c .before .if1 .taken)) ∙ at-loop .loop .inv)
 
 returns : tie.Need-returns Inv-loop μ-loop
 returns c = sym (doubled-off (retention (c .before .before .before .before .args .self)) (c .before .before .before .before .args .desired) (c .before .before .before .loop .left) (c .before .before .before .loop .high) (sym (c .before .stays-above .ensures) ∙ c .if1 .left)) ∙ c .before .before .before .loop .inv

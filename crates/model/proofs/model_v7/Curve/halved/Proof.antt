@@ -34,7 +34,11 @@ loop-less : tie.Need-loop-less Inv-loop μ-loop
 loop-less c = search needs
 
 loop-again : tie.Need-loop-again Inv-loop μ-loop
-loop-again c = rw (c .before .choose .ensures, c .choose2 .ensures, c .before .before .retention .ensures) (sym (halved-on (retention (c .before .before .before .before .before .args .self)) (c .before .before .before .before .before .args .desired) (c .before .before .before .before .loop .left) (c .before .before .before .before .loop .low) (c .before .before .before .before .loop .high) (omega arith)) ∙ c .before .before .before .before .loop .inv)
+loop-again c =
+    let at-loop = c .before .before .before .before in
+    let start = at-loop .before in
+    rw (c .before .choose .ensures, c .choose2 .ensures, c .before .before .retention .ensures)
+    (sym (halved-on (retention (start .args .self)) (start .args .desired) (at-loop .loop .left) (at-loop .loop .low) (at-loop .loop .high) (omega arith)) ∙ at-loop .loop .inv)
 
 clamp-requires : tie.Need-clamp-requires Inv-loop μ-loop
 clamp-requires c κs = search needs
