@@ -72,9 +72,9 @@ fn lesser_key(rows: &[[u64; 2]], left: usize) -> u64
     requires { ⌜ left + 1 < length (now rows) ⌝ }
     ensures { λ r. ⌜ r ≡ keyAt (now (rows .entry)) (lesser (now (rows .entry)) left (left + 1)) ⌝ }
 {
-    let right = left + 1;
-    if rows[right][0] < rows[left][0] {
-        rows[right][0]
+    let other = left + 1;
+    if rows[other][0] < rows[left][0] {
+        rows[other][0]
     } else {
         rows[left][0]
     }

@@ -7,8 +7,8 @@ use borrow.Author.Needs.{needs}
 use Rattle.queue.proofs.lesser_key.Statement.{statement}
 use Rattle.queue.proofs.lesser_key.Tie as tie
 
-add-right : tie.Need-add-right
-add-right c = search needs
+add-other : tie.Need-add-other
+add-other c = search needs
 
 mul-if1 : tie.Need-mul-if1
 mul-if1 c = search needs
@@ -56,7 +56,7 @@ pub lesser-key-spec : {M : Type 1} → statement M
 lesser-key-spec =
     tie.close
     (tie.spec
-    add-right
+    add-other
     mul-if1
     index-1-if1
     index-2-if1
