@@ -22,6 +22,7 @@ fn value_of(z: u64) -> f32
     super::exp::pack(z / 97551793252584 - 32641, z % 97551793252584 * 2)
 }
 
+// x^y from the bit patterns. y ln x has the sign of y; powf cuts it down, so below 0 it is cut away from 0.
 fn pow_at(b: u32, c: u32) -> f32
     requires { ⌜ (0x3F800000 ≤ b) × (b < 0x5D800000) × (0x24000000 ≤ c % 0x80000000) × (c % 0x80000000 ≤ 0x40000000) ⌝ }
     ensures { λ r. ⌜ r ≡ ofBits binary32 (powBits b c) ⌝ }
@@ -38,6 +39,7 @@ fn pow_at(b: u32, c: u32) -> f32
     value_of(3196577161300672511 - ((v - 1) >> s))
 }
 
+// powf, by the same definition.
 pub fn powf_from_one(x: f32, y: f32) -> f32
     ensures { λ r. ⌜ r ≡ powOf x y ⌝ }
 {
