@@ -11,7 +11,6 @@ ghost use Rattle.turns.specs.Sums.{bit};
 ghost use Rattle.days.specs.Counts.{dayRow};
 ghost use Rattle.cards.specs.Day as Day;
 ghost use Rattle.cards.specs.Cards.{isKept};
-ghost use Rattle.events.specs.Scalars.{kept};
 ghost use Rattle.simulation.specs.Steps.{Joined};
 ghost use Rattle.simulation.specs.SetUp.{deck, filled, newCard, retainCard, retain, known, create, newCards, firstSums};
 
