@@ -21,7 +21,7 @@ use Rattle.simulation.specs.declared.Refusal.{Refusal}
 use Rattle.simulation.specs.declared.Check.the-variants as check
 use Rattle.simulation.specs.declared.Progress.{Progress}
 use Rattle.simulation.specs.declared.Answer.the-variants as answer
-use Rattle.simulation.specs.State.{State, Model}
+use Rattle.simulation.specs.State.{State, Model, withTable}
 use Rattle.simulation.specs.Turn.{Stop, ended, chance, full, count, slotFor, next}
 use Rattle.simulation.specs.Entry.{Inputs, checked}
 use Rattle.simulation.specs.SetUp.{emptied, setUp}
@@ -30,7 +30,7 @@ use Rattle.simulation.specs.Demands.{Finished, modelFor, cardsOf, turnsO
 use Rattle.simulation.proofs.Accepted.{Accepted, accepted}
 use Rattle.simulation.proofs.Claims.{fresh-fair, has-stopped, few-turns}
 use Rattle.simulation.proofs.Tables.{run-sound}
-use Rattle.simulation.proofs.Longer.{withTable, Alike, run-longer}
+use Rattle.simulation.proofs.Longer.{Alike, run-longer}
 
 -- DEMAND 1: an entry refusal, exactly by the table, writes nothing and takes no turn
 pub entry-refusal : (m : Model) (i : Inputs) (s : State) (r : Refusal) → checked i s ≡ check.Failed r → simulated m i s ≡ record { answer = answer.Refused r (progress 0 0 (i .seed)); state = s }
@@ -90,9 +90,6 @@ module _ (i : Inputs) (s : State) (fit : LimitsFit (i .config)) (e : checked i s
 -- DEMAND 3, the longer table: a run that ends Ok ends Ok with any longer interval table and all else alike, with the same turns, draws, answer,
 -- rows, due counts and cards
 module _ (i : Inputs) (s s′ : State) (fit : LimitsFit (i .config)) (e : checked i s ≡ check.Passed) (e′ : checked i s′ ≡ check.Passed) (longer : LongerTable s s′) where
-  same-lists : s′ ≡ withTable s (s′ .table)
-  same-lists = rw (longer .cards-are, longer .counts-are, longer .queue-is, longer .days-are, longer .sums-are, longer .due-are, longer .draws-are)
-
   set-up-same : (t : Table) → setUp i (withTable s t) ≡ withTable (setUp i s) (clearIn t)
   unfolding setUp emptied
   set-up-same t = refl
@@ -106,7 +103,7 @@ module _ (i : Inputs) (s s′ : State) (fit : LimitsFit (i .config)) (e : checke
 
   alike : Alike (setUp i s) (setUp i s′)
   alike =
-      let up : setUp i s′ ≡ withTable (setUp i s) (clearIn (s′ .table)) = ap (setUp i) same-lists ∙ set-up-same (s′ .table) in
+      let up : setUp i s′ ≡ withTable (setUp i s) (clearIn (s′ .table)) = ap (setUp i) (longer .rest) ∙ set-up-same (s′ .table) in
       let tb : setUp i s′ .table ≡ clearIn (s′ .table) = ap (λ (z : State). z .table) up in
       record {
         same = up ∙ ap (λ (t : Table). withTable (setUp i s) t) (sym tb);

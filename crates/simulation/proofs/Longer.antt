@@ -30,12 +30,8 @@ use Rattle.intervals.specs.Table.{Table}
 use Rattle.intervals.specs.Schedule.{isFull, intervalOf, entered}
 use Rattle.intervals.proofs.Laws.{Twin}
 use Rattle.intervals.proofs.Schedule.{twin-slot}
-use Rattle.simulation.specs.State.{State, Model, cardIn}
+use Rattle.simulation.specs.State.{State, Model, cardIn, withTable}
 use Rattle.simulation.specs.Turn.{Stop, ended, count, turnAs, kindAs, retired, postponed, handled, slotFor, handleAs, eventAs, handle, orElse, act, turnOf, next}
-
--- a state with another table
-abbrev pub withTable : State → Table → State
-withTable s t = record { cards = s .cards; counts = s .counts; queue = s .queue; days = s .days; sums = s .sums; due = s .due; table = t; draws = s .draws }
 
 -- the same state but for the table, which holds the same and is as long or longer
 pub record Alike (s s′ : State) : Type 0 where

@@ -52,25 +52,22 @@ module _ (g : SimulatorConfig) (m : Model) (s₀ : State) (bound : ℕ) where
   after k = run (next g m) k [] s₀
 
   -- after k turns
-  pub record Going (cards : List (List Float)) (counts rows days : List (List ℕ)) (sums : List (List Float)) (due : List ℕ) (keys : List (List ℕ)) (intervals : List Float) (n draws k : ℕ) : Type 0 where
-    pub at : state cards counts rows days sums due keys intervals n draws ≡ (after k) .state
+  pub record Going (s : State) (k : ℕ) : Type 0 where
+    pub at : s ≡ (after k) .state
     pub many : length ((after k) .turns) ≡ k
     pub within : k ≤ bound
-    pub left : stopOf (next g m) ended (bound - k) (state cards counts rows days sums due keys intervals n draws) ≡ stopOf (next g m) ended bound s₀
+    pub left : stopOf (next g m) ended (bound - k) s ≡ stopOf (next g m) ended bound s₀
 
-  module _ (cards : List (List Float)) (counts rows days : List (List ℕ)) (sums : List (List Float)) (due : List ℕ) (keys : List (List ℕ)) (intervals : List Float) (n draws k : ℕ) (i : Going cards counts rows days sums due keys intervals n draws k)
-      (o : Outcome) (cards′ : List (List Float)) (counts′ rows′ days′ : List (List ℕ)) (sums′ : List (List Float)) (due′ : List ℕ) (keys′ : List (List ℕ)) (intervals′ : List Float)
-      (p : Turned (next g m (state cards counts rows days sums due keys intervals n draws)) (state cards counts rows days sums due keys intervals n draws) o cards′ counts′ rows′ days′ sums′ due′ keys′ intervals′) (l : k < bound) where
-    abbrev st : State
-    st = state cards counts rows days sums due keys intervals n draws
-
+  module _ {st : State} {k : ℕ} (i : Going st k) {o : Outcome}
+      {cards′ : List (List Float)} {counts′ rows′ days′ : List (List ℕ)} {sums′ : List (List Float)} {due′ : List ℕ} {keys′ : List (List ℕ)} {intervals′ : List Float}
+      (p : Turned (next g m st) st o cards′ counts′ rows′ days′ sums′ due′ keys′ intervals′) (l : k < bound) where
     one-left : bound - k ≡ suc (bound - (k + 1))
     one-left = omega arith
 
-    pub going-on : (n′ r : ℕ) → o ≡ outcome.Took n′ r → Going cards′ counts′ rows′ days′ sums′ due′ keys′ intervals′ n′ r (k + 1)
+    pub going-on : (n′ r : ℕ) → o ≡ outcome.Took n′ r → Going (state cards′ counts′ rows′ days′ sums′ due′ keys′ intervals′ n′ r) (k + 1)
     going-on n′ r e = go (next g m st) refl p
       where
-        go : (x : Next (Turn Float) State Stop) → next g m st ≡ x → Turned x st o cards′ counts′ rows′ days′ sums′ due′ keys′ intervals′ → Going cards′ counts′ rows′ days′ sums′ due′ keys′ intervals′ n′ r (k + 1)
+        go : (x : Next (Turn Float) State Stop) → next g m st ≡ x → Turned x st o cards′ counts′ rows′ days′ sums′ due′ keys′ intervals′ → Going (state cards′ counts′ rows′ days′ sums′ due′ keys′ intervals′ n′ r) (k + 1)
         go (stops x) q h = absurd (stop-took x n′ r (sym (h .outcome) ∙ e))
         go (takes t s′) q h =
             let u = took-both (s′ .queue .len) (s′ .draws) n′ r (sym e ∙ h .outcome) in
@@ -85,11 +82,11 @@ module _ (g : SimulatorConfig) (m : Model) (s₀ : State) (bound : ℕ) where
             }
 
     pub going-stops : OneOf (1 ∷ 2 ∷ 3 ∷ 4 ∷ []) (tagOf outcome-type.the-type o)
-        → Ran g m s₀ bound (record { outcome = o; turns = k; draws = draws }) cards′ counts′ rows′ days′ sums′ due′ keys′ intervals′
+        → Ran g m s₀ bound (record { outcome = o; turns = k; draws = st .draws }) cards′ counts′ rows′ days′ sums′ due′ keys′ intervals′
     going-stops t = go (next g m st) refl p
       where
         go : (x : Next (Turn Float) State Stop) → next g m st ≡ x → Turned x st o cards′ counts′ rows′ days′ sums′ due′ keys′ intervals′
-            → Ran g m s₀ bound (record { outcome = o; turns = k; draws = draws }) cards′ counts′ rows′ days′ sums′ due′ keys′ intervals′
+            → Ran g m s₀ bound (record { outcome = o; turns = k; draws = st .draws }) cards′ counts′ rows′ days′ sums′ due′ keys′ intervals′
         go (takes u s′) q h = absurd (took-tag o (s′ .queue .len) (s′ .draws) t (h .outcome))
         go (stops x) q h =
             let q′ : next g m ((after k) .state) ≡ stops x = rw (← i .at) q in
@@ -103,9 +100,9 @@ module _ (g : SimulatorConfig) (m : Model) (s₀ : State) (bound : ℕ) where
               lists = subst (λ (z : State). Lists z cards′ counts′ rows′ days′ sums′ due′ keys′ intervals′) s (h .lists);
             }
 
-  pub going-spent : (cards : List (List Float)) (counts rows days : List (List ℕ)) (sums : List (List Float)) (due : List ℕ) (keys : List (List ℕ)) (intervals : List Float) (n draws k : ℕ) → Going cards counts rows days sums due keys intervals n draws k → bound ≤ k
+  pub going-spent : {cards : List (List Float)} {counts rows days : List (List ℕ)} {sums : List (List Float)} {due : List ℕ} {keys : List (List ℕ)} {intervals : List Float} {n draws k : ℕ} → Going (state cards counts rows days sums due keys intervals n draws) k → bound ≤ k
       → Ran g m s₀ bound (record { outcome = outcome.Ended; turns = k; draws = draws }) cards counts rows days sums due keys intervals
-  going-spent cards counts rows days sums due keys intervals n draws k i l =
+  going-spent {cards} {counts} {rows} {days} {sums} {due} {keys} {intervals} {n} {draws} {k} i l =
       let e : k ≡ bound = omega (arith, i .within) in
       let none : bound - k ≡ 0 = omega arith in
       let st : State = state cards counts rows days sums due keys intervals n draws in
@@ -117,11 +114,10 @@ module _ (g : SimulatorConfig) (m : Model) (s₀ : State) (bound : ℕ) where
         lists = lists-of ((after bound) .state) cards counts rows days sums due keys intervals n draws s;
       }
 
-pub going-start : (g : SimulatorConfig) (m : Model) (bound : ℕ) (cards : List (List Float)) (counts rows days : List (List ℕ)) (sums : List (List Float)) (due : List ℕ) (keys : List (List ℕ)) (intervals : List Float) (n draws : ℕ)
-    → Going g m (state cards counts rows days sums due keys intervals n draws) bound cards counts rows days sums due keys intervals n draws 0
-going-start g m bound cards counts rows days sums due keys intervals n draws =
+pub going-start : (g : SimulatorConfig) (m : Model) (bound : ℕ) (s : State) → Going g m s bound s 0
+going-start g m bound s =
     let e : bound - 0 ≡ bound = omega arith in
-    record { at = refl; many = refl; within = omega arith; left = ap (λ (z : ℕ). stopOf (next g m) ended z (state cards counts rows days sums due keys intervals n draws)) e }
+    record { at = refl; many = refl; within = omega arith; left = ap (λ (z : ℕ). stopOf (next g m) ended z s) e }
 
 -- the lists keep their lengths
 pub record Long (cards : List (List Float)) (counts rows days : List (List ℕ)) (sums : List (List Float)) (due : List ℕ) (keys : List (List ℕ)) (intervals : List Float) (cards′ : List (List Float)) (counts′ rows′ days′ : List (List ℕ)) (sums′ : List (List Float)) (due′ : List ℕ) (keys′ : List (List ℕ)) (intervals′ : List Float) : Type 0 where

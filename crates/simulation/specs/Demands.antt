@@ -12,7 +12,7 @@ use Rattle.events.specs.Scalars.{plain}
 use Rattle.simulation.specs.declared.Progress.{Progress}
 use Rattle.simulation.specs.declared.Answer.{Answer}
 use Rattle.simulation.specs.declared.Answer.the-variants as answer
-use Rattle.simulation.specs.State.{State, Model}
+use Rattle.simulation.specs.State.{State, Model, withTable}
 use Rattle.simulation.specs.Model.{modelOf}
 use Rattle.simulation.specs.Rules.{costs, limits}
 use Rattle.simulation.specs.Entry.{Inputs}
@@ -53,13 +53,7 @@ pub record LimitsFit (g : SimulatorConfig) : Type 0 where
 
 -- A second run's lists: those of the first, but for an interval table that is longer in both its columns
 pub record LongerTable (s s′ : State) : Type 0 where
-  pub cards-are : s′ .cards ≡ s .cards
-  pub counts-are : s′ .counts ≡ s .counts
-  pub queue-is : s′ .queue ≡ s .queue
-  pub days-are : s′ .days ≡ s .days
-  pub sums-are : s′ .sums ≡ s .sums
-  pub due-are : s′ .due ≡ s .due
-  pub draws-are : s′ .draws ≡ s .draws
+  pub rest : s′ ≡ withTable s (s′ .table)
   pub keys-longer : length (s .table .keys) ≤ length (s′ .table .keys)
   pub intervals-longer : length (s .table .intervals) ≤ length (s′ .table .intervals)
 

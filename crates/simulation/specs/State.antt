@@ -59,3 +59,20 @@ pub record Lists (s : State) (cards : List (List Float)) (counts rows days : Lis
   pub sums-are : sums ≡ s .sums
   pub due-are : due ≡ s .due
   pub table-is : table keys intervals ≡ s .table
+
+-- the same state with another interval table
+abbrev pub withTable : State → Table → State
+withTable s t = record { cards = s .cards; counts = s .counts; queue = s .queue; days = s .days; sums = s .sums; due = s .due; table = t; draws = s .draws }
+
+-- a state with one part written anew, the others as they are
+abbrev pub withCards : List (List Float) → State → State
+withCards x s = record { cards = x; counts = s .counts; queue = s .queue; days = s .days; sums = s .sums; due = s .due; table = s .table; draws = s .draws }
+
+abbrev pub withQueue : Queue → State → State
+withQueue x s = record { cards = s .cards; counts = s .counts; queue = x; days = s .days; sums = s .sums; due = s .due; table = s .table; draws = s .draws }
+
+abbrev pub withSums : List (List Float) → State → State
+withSums x s = record { cards = s .cards; counts = s .counts; queue = s .queue; days = s .days; sums = x; due = s .due; table = s .table; draws = s .draws }
+
+abbrev pub withDue : List ℕ → State → State
+withDue x s = record { cards = s .cards; counts = s .counts; queue = s .queue; days = s .days; sums = s .sums; due = x; table = s .table; draws = s .draws }

@@ -26,7 +26,7 @@ use Rattle.intervals.specs.declared.Slot.the-variants as slot
 use Rattle.intervals.specs.Bucket.{stabilityBucket, retentionBucket}
 use Rattle.intervals.specs.Table.{Table}
 use Rattle.intervals.specs.Schedule.{slotIn, intervalOf, entered}
-use Rattle.simulation.specs.State.{State, Model, cardIn, keyOf}
+use Rattle.simulation.specs.State.{State, Model, cardIn, keyOf, withCards, withQueue, withSums, withDue}
 
 -- how a run stops: by its end, or by refusal 7, 8 or 9 of a card
 pub data Stop : Type 0 where
@@ -76,29 +76,15 @@ holdCard m sums k e =
 module _ (g : SimulatorConfig) (m : Model) where
   -- the first card leaves the queue, held to the span's end
   unfoldable pub retired : State → Card → State
-  retired s k = record {
-    cards = s .cards;
-    counts = s .counts;
-    queue = popped (s .queue);
-    days = s .days;
-    sums = holdCard m (s .sums) k (g .«learn_span»);
-    due = s .due;
-    table = s .table;
-    draws = s .draws;
-  }
+  retired s k = withQueue (popped (s .queue)) (withSums (holdCard m (s .sums) k (g .«learn_span»)) s)
 
   -- the first card, c, goes from day d to the next
   unfoldable pub postponed : State → ℕ → Card → ℕ → State
-  postponed s c k d = record {
-    cards = writeFloats (s .cards) c (putOffCard k d);
-    counts = s .counts;
-    queue = frontChanged (s .queue) (keyOf (putOffCard k d));
-    days = s .days;
-    sums = s .sums;
-    due = moveDue (g .«learn_span») (s .due) (newOf (k .«last_date»)) d;
-    table = s .table;
-    draws = s .draws;
-  }
+  postponed s c k d =
+      let later = putOffCard k d in
+      withCards (writeFloats (s .cards) c later)
+      (withQueue (frontChanged (s .queue) (keyOf later))
+      (withDue (moveDue (g .«learn_span») (s .due) (newOf (k .«last_date»)) d) s))
 
   -- the first card, c, has an event on day d, which leaves the memory x and the interval of t
   unfoldable pub handled : State → ℕ → Card → Bool → ℕ → Memory → Slot → State

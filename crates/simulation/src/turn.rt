@@ -295,11 +295,10 @@ pub(crate) fn turn(
     len: u32,
     draws: u64,
 ) -> Outcome
-    ensures { λ r. ⌜ Turned
-        (next config (modelOf config (kept m)) (state (now (cards .entry)) (now (counts .entry)) (now (rows .entry)) (now (days .entry)) (now (sums .entry)) (now (due .entry)) (now (keys .entry)) (now (intervals .entry)) len draws))
-        (state (now (cards .entry)) (now (counts .entry)) (now (rows .entry)) (now (days .entry)) (now (sums .entry)) (now (due .entry)) (now (keys .entry)) (now (intervals .entry)) len draws)
-        r
-        (now (cards .exit)) (now (counts .exit)) (now (rows .exit)) (now (days .exit)) (now (sums .exit)) (now (due .exit)) (now (keys .exit)) (now (intervals .exit)) ⌝ }
+    ensures { λ r. ⌜ (
+        let before = state (now (cards .entry)) (now (counts .entry)) (now (rows .entry)) (now (days .entry)) (now (sums .entry)) (now (due .entry)) (now (keys .entry)) (now (intervals .entry)) len draws in
+        Turned (next config (modelOf config (kept m)) before) before r
+        (now (cards .exit)) (now (counts .exit)) (now (rows .exit)) (now (days .exit)) (now (sums .exit)) (now (due .exit)) (now (keys .exit)) (now (intervals .exit))) ⌝ }
 {
     if len == 0 {
         return Outcome::Ended;

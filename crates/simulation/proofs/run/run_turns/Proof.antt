@@ -11,13 +11,13 @@ use Rattle.simulation.proofs.run.run_turns.Tie as tie
 use borrow.Author.Needs.{needs}
 
 abbrev Inv-loop : tie.InvT-loop
-Inv-loop cards₀ counts₀ rows₀ days₀ sums₀ due₀ keys₀ intervals₀ config m len seed bound n₀ draws₀ turns₀ cards counts rows days sums due keys intervals n draws turns = Going config (modelOf config (kept m)) (state cards₀ counts₀ rows₀ days₀ sums₀ due₀ keys₀ intervals₀ len seed) bound cards counts rows days sums due keys intervals n draws turns × Long cards₀ counts₀ rows₀ days₀ sums₀ due₀ keys₀ intervals₀ cards counts rows days sums due keys intervals
+Inv-loop cards₀ counts₀ rows₀ days₀ sums₀ due₀ keys₀ intervals₀ config m len seed bound n₀ draws₀ turns₀ cards counts rows days sums due keys intervals n draws turns = Going config (modelOf config (kept m)) (state cards₀ counts₀ rows₀ days₀ sums₀ due₀ keys₀ intervals₀ len seed) bound (state cards counts rows days sums due keys intervals n draws) turns × Long cards₀ counts₀ rows₀ days₀ sums₀ due₀ keys₀ intervals₀ cards counts rows days sums due keys intervals
 
 abbrev μ-loop : tie.MeasureT-loop
 μ-loop cards₀ counts₀ rows₀ days₀ sums₀ due₀ keys₀ intervals₀ config m len seed bound n₀ draws₀ turns₀ cards counts rows days sums due keys intervals n draws turns = bound - turns
 
 loop-holds : tie.Need-loop-holds Inv-loop μ-loop
-loop-holds c = (going-start (c .before .before .args .config) (modelOf (c .before .before .args .config) (kept (c .before .before .args .m))) (c .before .before .args .bound) _ _ _ _ _ _ _ _ _ _, record { k0 = refl; k1 = refl; k2 = refl; k3 = refl; k4 = refl; k5 = refl; k6 = refl; k7 = refl })
+loop-holds c = (going-start (c .before .before .args .config) (modelOf (c .before .before .args .config) (kept (c .before .before .args .m))) (c .before .before .args .bound) _, record { k0 = refl; k1 = refl; k2 = refl; k3 = refl; k4 = refl; k5 = refl; k6 = refl; k7 = refl })
 
 turn-requires : tie.Need-turn-requires Inv-loop μ-loop
 turn-requires c κs = tt
@@ -60,7 +60,7 @@ returns c =
     let start = at-loop .before .before .before in
     going-stops (start .args .config) (modelOf (start .args .config) (kept (start .args .m)))
     (state (start .args .cards .now) (start .args .counts .now) (start .args .rows .now) (start .args .days .now) (start .args .sums .now) (start .args .due .now) (start .args .keys .now) (start .args .intervals .now) (start .args .len) (start .args .seed))
-    (start .args .bound) _ _ _ _ _ _ _ _ _ _ _ (at-loop .loop .inv .0) _ _ _ _ _ _ _ _ _ (at-turn .turn .ensures) (at-loop-test .loop-test .taken)
+    (start .args .bound) (at-loop .loop .inv .0) (at-turn .turn .ensures) (at-loop-test .loop-test .taken)
     (c .match .keys2)
 
 add-turns : tie.Need-add-turns Inv-loop μ-loop
@@ -78,7 +78,7 @@ loop-again c =
     let at-loop-test = at-turn .before .before .before .before .before .before .before .before .before in
     let at-loop = at-loop-test .before in
     let start = at-loop .before .before .before in
-    (going-on (start .args .config) (modelOf (start .args .config) (kept (start .args .m))) (state (start .args .cards .now) (start .args .counts .now) (start .args .rows .now) (start .args .days .now) (start .args .sums .now) (start .args .due .now) (start .args .keys .now) (start .args .intervals .now) (start .args .len) (start .args .seed)) (start .args .bound) _ _ _ _ _ _ _ _ _ _ _ (at-loop .loop .inv .0) _ _ _ _ _ _ _ _ _ (at-turn .turn .ensures) (at-loop-test .loop-test .taken) _ _ (c .before .o .given .1), record { k0 = at-turn .turn .kept .0 ∙ at-loop .loop .inv .1 .k0; k1 = at-turn .turn .kept .1 .0 ∙ at-loop .loop .inv .1 .k1; k2 = at-turn .turn .kept .1 .1 .0 ∙ at-loop .loop .inv .1 .k2; k3 = at-turn .turn .kept .1 .1 .1 .0 ∙ at-loop .loop .inv .1 .k3; k4 = at-turn .turn .kept .1 .1 .1 .1 .0 ∙ at-loop .loop .inv .1 .k4; k5 = at-turn .turn .kept .1 .1 .1 .1 .1 .0 ∙ at-loop .loop .inv .1 .k5; k6 = at-turn .turn .kept .1 .1 .1 .1 .1 .1 .0 ∙ at-loop .loop .inv .1 .k6; k7 = at-turn .turn .kept .1 .1 .1 .1 .1 .1 .1 .0 ∙ at-loop .loop .inv .1 .k7 })
+    (going-on (start .args .config) (modelOf (start .args .config) (kept (start .args .m))) (state (start .args .cards .now) (start .args .counts .now) (start .args .rows .now) (start .args .days .now) (start .args .sums .now) (start .args .due .now) (start .args .keys .now) (start .args .intervals .now) (start .args .len) (start .args .seed)) (start .args .bound) (at-loop .loop .inv .0) (at-turn .turn .ensures) (at-loop-test .loop-test .taken) _ _ (c .before .o .given .1), record { k0 = at-turn .turn .kept .0 ∙ at-loop .loop .inv .1 .k0; k1 = at-turn .turn .kept .1 .0 ∙ at-loop .loop .inv .1 .k1; k2 = at-turn .turn .kept .1 .1 .0 ∙ at-loop .loop .inv .1 .k2; k3 = at-turn .turn .kept .1 .1 .1 .0 ∙ at-loop .loop .inv .1 .k3; k4 = at-turn .turn .kept .1 .1 .1 .1 .0 ∙ at-loop .loop .inv .1 .k4; k5 = at-turn .turn .kept .1 .1 .1 .1 .1 .0 ∙ at-loop .loop .inv .1 .k5; k6 = at-turn .turn .kept .1 .1 .1 .1 .1 .1 .0 ∙ at-loop .loop .inv .1 .k6; k7 = at-turn .turn .kept .1 .1 .1 .1 .1 .1 .1 .0 ∙ at-loop .loop .inv .1 .k7 })
 
 same-length-9 : tie.Need-same-length-9 Inv-loop μ-loop
 same-length-9 c = c .before .loop .inv .1 .k0
@@ -109,7 +109,7 @@ returns-2 c =
     let start = c .before .before .before .before in
     going-spent (start .args .config) (modelOf (start .args .config) (kept (start .args .m)))
     (state (start .args .cards .now) (start .args .counts .now) (start .args .rows .now) (start .args .days .now) (start .args .sums .now) (start .args .due .now) (start .args .keys .now) (start .args .intervals .now) (start .args .len) (start .args .seed))
-    (start .args .bound) _ _ _ _ _ _ _ _ _ _ _ (c .before .loop .inv .0) (c .loop-test .left)
+    (start .args .bound) (c .before .loop .inv .0) (c .loop-test .left)
 
 pub run-turns-spec : {M : Type 1} → statement M
 run-turns-spec =
