@@ -19,6 +19,7 @@ use Rattle.simulation.specs.declared.Refusal.{Refusal}
 use Rattle.simulation.specs.declared.Refusal.the-variants as refusal
 use Rattle.simulation.specs.declared.Check.{Check}
 use Rattle.simulation.specs.declared.Check.the-variants as check
+use Rattle.simulation.specs.declared.Progress.{Progress}
 use Rattle.simulation.specs.declared.Reach.{Reach}
 use Rattle.simulation.specs.State.{State, Model, state}
 use Rattle.simulation.specs.Turn.{Stop, ended, chance, full, count, next}
@@ -67,62 +68,62 @@ create-due retention limit (suc n) s due = rw (create-due retention limit n s du
 
 -- ---- the state that set-up leaves
 module _ (g : SimulatorConfig) (w : List Float) (retention : Float) (seed : ℕ) (es : List (List Float)) (ns : List (List ℕ))
-    (cards : List (List Float)) (counts rows days : List (List ℕ)) (sums : List (List Float)) (due : List ℕ) (keys : List (List ℕ)) (intervals : List Float) where
+    (cards : List (List Float)) (counts rows days : List (List ℕ)) (sums : List (List Float)) (due : List ℕ) (keys : List (List ℕ)) (intervals : List Float)
+    (n dd : ℕ) (en : n ≡ length es) (ed : dd ≡ dueDays (g .«learn_span»)) {due₁ : List ℕ} (e₁ : due₁ ≡ filled 0 dd due)
+    {c₂ : List (List Float)} {n₂ r₂ : List (List ℕ)} {due₂ : List ℕ} {kept : ℕ} (e₂ : deck c₂ n₂ r₂ due₂ kept ≡ retain (g .«learn_span») es ns n (deck cards counts rows due₁ 0))
+    {more : ℕ} (e₃ : more ≡ newCards g kept)
+    {c₄ : List (List Float)} {n₄ r₄ : List (List ℕ)} {len : ℕ} (e₄ : deck c₄ n₄ r₄ [] len ≡ create retention (g .«learn_limit») more (deck c₂ n₂ r₂ [] kept))
+    {k : ℕ} (ek : k ≡ known es ns n) {days′ : List (List ℕ)} (e₅ : days′ ≡ filled (dayRow 0 0 0 k) (g .«learn_span») days)
+    {sums′ : List (List Float)} (e₆ : sums′ ≡ filled firstSums (g .«learn_span») sums)
+    {intervals′ : List Float} (e₇ : intervals′ ≡ replicate (length intervals) (ofBits binary32 0)) where
   abbrev i : Inputs
   i = inputs g w retention seed es ns
 
   abbrev s : State
   s = state cards counts rows days sums due keys intervals 0 seed
 
-  module _ (n dd : ℕ) (en : n ≡ length es) (ed : dd ≡ dueDays (g .«learn_span»)) (due₁ : List ℕ) (e₁ : due₁ ≡ filled 0 dd due)
-      (c₂ : List (List Float)) (n₂ r₂ : List (List ℕ)) (due₂ : List ℕ) (kept : ℕ) (e₂ : deck c₂ n₂ r₂ due₂ kept ≡ retain (g .«learn_span») es ns n (deck cards counts rows due₁ 0))
-      (more : ℕ) (e₃ : more ≡ newCards g kept)
-      (c₄ : List (List Float)) (n₄ r₄ : List (List ℕ)) (len : ℕ) (e₄ : deck c₄ n₄ r₄ [] len ≡ create retention (g .«learn_limit») more (deck c₂ n₂ r₂ [] kept))
-      (k : ℕ) (ek : k ≡ known es ns n) (days′ : List (List ℕ)) (e₅ : days′ ≡ filled (dayRow 0 0 0 k) (g .«learn_span») days)
-      (sums′ : List (List Float)) (e₆ : sums′ ≡ filled firstSums (g .«learn_span») sums)
-      (intervals′ : List Float) (e₇ : intervals′ ≡ replicate (length intervals) (ofBits binary32 0)) where
-    with-due : deck c₄ n₄ r₄ due₂ len ≡ create retention (g .«learn_limit») more (deck c₂ n₂ r₂ due₂ kept)
-    unfolding withDue
-    with-due = ap (λ (z : Deck). withDue z due₂) e₄ ∙ sym (create-due retention (g .«learn_limit») more (deck c₂ n₂ r₂ [] kept) due₂)
+  with-due : deck c₄ n₄ r₄ due₂ len ≡ create retention (g .«learn_limit») more (deck c₂ n₂ r₂ due₂ kept)
+  unfolding withDue
+  with-due = ap (λ (z : Deck). withDue z due₂) e₄ ∙ sym (create-due retention (g .«learn_limit») more (deck c₂ n₂ r₂ [] kept) due₂)
 
-    dealt-is : deck c₄ n₄ r₄ due₂ len ≡ dealt i (emptied i s)
-    unfolding dealt emptied
-    dealt-is =
-        let a : deck c₂ n₂ r₂ due₂ kept ≡ retain (g .«learn_span») es ns (length es) (deck cards counts rows (filled 0 (dueDays (g .«learn_span»)) due) 0) = e₂ ∙ rw (e₁, en, ed) in
-        with-due ∙ rw (e₃, ← a)
+  dealt-is : deck c₄ n₄ r₄ due₂ len ≡ dealt i (emptied i s)
+  unfolding dealt emptied
+  dealt-is =
+      let a : deck c₂ n₂ r₂ due₂ kept ≡ retain (g .«learn_span») es ns (length es) (deck cards counts rows (filled 0 (dueDays (g .«learn_span»)) due) 0) = e₂ ∙ rw (e₁, en, ed) in
+      with-due ∙ rw (e₃, ← a)
 
-    pub set-up-is : state c₄ n₄ r₄ days′ sums′ due₂ keys intervals′ len seed ≡ setUp i s
-    unfolding setUp
-    set-up-is = rw (← dealt-is, e₅, ek, en, e₆, e₇)
+  pub set-up-is : state c₄ n₄ r₄ days′ sums′ due₂ keys intervals′ len seed ≡ setUp i s
+  unfolding setUp
+  set-up-is = rw (← dealt-is, e₅, ek, en, e₆, e₇)
 
-    pub few-cards : checked i s ≡ check.Passed → (len ≤ 65536) × (g .«learn_span» ≤ 36500)
-    few-cards e =
-        let ok = accepted i s e in
-        let few = set-up-few i s ok in
-        let l : len ≡ setUp i s .queue .len = ap (λ (z : State). z .queue .len) set-up-is in
-        (omega (arith, few, l, ok .deck-most), ok .span-most)
+-- ---- the answer of a run from that state
+module _ (i : Inputs) (s : State) {s₁ : State} (up : s₁ ≡ setUp i s) where
+  pub few-cards : checked i s ≡ check.Passed → (s₁ .queue .len ≤ 65536) × (i .config .«learn_span» ≤ 36500)
+  few-cards e =
+      let ok = accepted i s e in
+      let few = set-up-few i s ok in
+      let l : s₁ .queue .len ≡ setUp i s .queue .len = ap (λ (z : State). z .queue .len) up in
+      (omega (arith, few, l, ok .deck-most), ok .span-most)
 
-    -- ---- and the answer
-    answered-is : (x : Stop) (p : _) → answered (stoppedBy x) p ≡ answerOf x p
-    answered-is ended p = refl
-    answered-is (chance c) p = refl
-    answered-is (full c) p = refl
-    answered-is (count c) p = refl
+  answered-is : (x : Stop) (p : Progress) → answered (stoppedBy x) p ≡ answerOf x p
+  answered-is ended p = refl
+  answered-is (chance c) p = refl
+  answered-is (full c) p = refl
+  answered-is (count c) p = refl
 
-    pub done-is : (m : Model) (b : ℕ) (x : Reach) (c′ : List (List Float)) (n′ r′ d′ : List (List ℕ)) (u′ : List (List Float)) (v′ : List ℕ) (k′ : List (List ℕ)) (t′ : List Float)
-        → b ≡ suc (len * suc (g .«learn_span»))
-        → Ran g m (state c₄ n₄ r₄ days′ sums′ due₂ keys intervals′ len seed) b x c′ n′ r′ d′ u′ v′ k′ t′
-        → Done (finished m i (setUp i s)) (answered (x .outcome) (progress (x .turns) len (x .draws))) c′ n′ r′ d′ u′ v′ k′ t′
-    unfolding finished ran
-    done-is m b x c′ n′ r′ d′ u′ v′ k′ t′ eb r = subst (λ (z : State). Done (finished m i z) (answered (x .outcome) (progress (x .turns) len (x .draws))) c′ n′ r′ d′ u′ v′ k′ t′) set-up-is (go eb r)
-      where
-        s₁ : State
-        s₁ = state c₄ n₄ r₄ days′ sums′ due₂ keys intervals′ len seed
+  pub done-is : (m : Model) {b : ℕ} {x : Reach} {c′ : List (List Float)} {n′ r′ d′ : List (List ℕ)} {u′ : List (List Float)} {v′ : List ℕ} {k′ : List (List ℕ)} {t′ : List Float}
+      → b ≡ bound (i .config) s₁
+      → Ran (i .config) m s₁ b x c′ n′ r′ d′ u′ v′ k′ t′
+      → Done (finished m i (setUp i s)) (answered (x .outcome) (progress (x .turns) (s₁ .queue .len) (x .draws))) c′ n′ r′ d′ u′ v′ k′ t′
+  unfolding finished ran
+  done-is m {b = b} {x = x} {c′ = c′} {n′ = n′} {r′ = r′} {d′ = d′} {u′ = u′} {v′ = v′} {k′ = k′} {t′ = t′} eb r =
+      subst (λ (z : State). Done (finished m i z) (answered (x .outcome) (progress (x .turns) (s₁ .queue .len) (x .draws))) c′ n′ r′ d′ u′ v′ k′ t′) up (go (subst (λ (z : ℕ). Ran g m s₁ z x c′ n′ r′ d′ u′ v′ k′ t′) eb r))
+    where
+      g : SimulatorConfig
+      g = i .config
 
-        go : b ≡ bound g s₁ → Ran g m s₁ b x c′ n′ r′ d′ u′ v′ k′ t′ → Done (finished m i s₁) (answered (x .outcome) (progress (x .turns) len (x .draws))) c′ n′ r′ d′ u′ v′ k′ t′
-        go eb r =
-            let r₁ : Ran g m s₁ (bound g s₁) x c′ n′ r′ d′ u′ v′ k′ t′ = subst (λ (z : ℕ). Ran g m s₁ z x c′ n′ r′ d′ u′ v′ k′ t′) eb r in
-            record { answer = rw (r₁ .outcome, r₁ .turns, r₁ .draws) (answered-is (stopOf (next g m) ended (bound g s₁) s₁) (progress (length ((run (next g m) (bound g s₁) [] s₁) .turns)) len ((run (next g m) (bound g s₁) [] s₁) .state .draws))); lists = r₁ .lists }
+      go : Ran g m s₁ (bound g s₁) x c′ n′ r′ d′ u′ v′ k′ t′ → Done (finished m i s₁) (answered (x .outcome) (progress (x .turns) (s₁ .queue .len) (x .draws))) c′ n′ r′ d′ u′ v′ k′ t′
+      go r₁ = record { answer = rw (r₁ .outcome, r₁ .turns, r₁ .draws) (answered-is (stopOf (next g m) ended (bound g s₁) s₁) (progress (length ((run (next g m) (bound g s₁) [] s₁) .turns)) (s₁ .queue .len) ((run (next g m) (bound g s₁) [] s₁) .state .draws))); lists = r₁ .lists }
 
 pub bound-fits : (len span : ℕ) → len ≤ 65536 → span ≤ 36500 → len * (span + 1) ≤ 2392129536
 bound-fits len span h l = let k : span + 1 ≤ 36501 = omega arith in mul-le-mul h k

@@ -126,38 +126,21 @@ pub(crate) fn start(
         r
         (now (cards .exit)) (now (counts .exit)) (now (rows .exit)) (now (days .exit)) (now (sums .exit)) (now (due .exit)) (now (keys .exit)) (now (intervals .exit)) ⌝ }
 {
-    let span = config.learn_span;
-    let n = existing.len() as u32;
-    super::set_up::first_due(due, span + span / 2);
-    let retained = super::set_up::retain(
+    let len = super::set_up::set_up(
         cards,
         counts,
         rows,
+        days,
+        sums,
         due,
+        intervals,
         existing,
         existing_counts,
-        span,
-        n,
-    );
-    let more = super::set_up::new_cards(config, retained);
-    let len = super::set_up::create(
-        cards,
-        counts,
-        rows,
+        config,
         retention,
-        config.learn_limit,
-        more,
-        retained,
     );
-    super::set_up::first_counts(
-        days,
-        span,
-        super::set_up::known(existing, existing_counts, n),
-    );
-    super::set_up::first_sums(sums, span);
-    intervals::clear(intervals);
     let m = Fsrs7::new(parameters);
-    let bound = bound_of(len, span);
+    let bound = bound_of(len, config.learn_span);
     let reach = run_turns(
         cards,
         counts,

@@ -4,15 +4,18 @@ use cards::SimulatorConfig;
 use queue::CardPriorityQueue;
 ghost use mathlib.Core.Path.{_≡_};
 ghost use mathlib.Core.Bool.{not, _&&_};
-ghost use mathlib.Core.List.{[]};
-ghost use Prim.Native.Nat.{_+_, _/_, _<_};
-ghost use lib.ListN.{set};
+ghost use mathlib.Core.List.{List, []};
+ghost use Prim.Native.Nat.{ℕ, _+_, _/_, _≤_, _<_};
+ghost use lib.ListN.{length, set};
+ghost use lib.Ieee.{Float};
 ghost use Rattle.turns.specs.Sums.{bit};
 ghost use Rattle.days.specs.Counts.{dayRow};
 ghost use Rattle.cards.specs.Day as Day;
 ghost use Rattle.cards.specs.Cards.{isKept};
+ghost use Rattle.simulation.specs.State.{state};
+ghost use Rattle.simulation.specs.Entry.{inputs};
 ghost use Rattle.simulation.specs.Steps.{Joined};
-ghost use Rattle.simulation.specs.SetUp.{deck, filled, newCard, retainCard, retain, known, create, newCards, firstSums};
+ghost use Rattle.simulation.specs.SetUp.{deck, filled, newCard, retainCard, retain, known, create, newCards, firstSums, setUp};
 
 fn put_due(due: &mut [u32], i: u32)
     ensures { λ _. ⌜ now (due .exit) ≡ set (now (due .entry)) i 0 ⌝ }
@@ -23,7 +26,7 @@ fn put_due(due: &mut [u32], i: u32)
     }
 }
 
-pub(crate) fn first_due(due: &mut [u32], n: u32)
+fn first_due(due: &mut [u32], n: u32)
     ensures { λ _. ⌜ now (due .exit) ≡ filled 0 n (now (due .entry)) ⌝ }
 {
     let mut i: u32 = 0;
@@ -42,7 +45,7 @@ fn put_counts(days: &mut [[u32; 4]], i: u32, row: [u32; 4])
     }
 }
 
-pub(crate) fn first_counts(days: &mut [[u32; 4]], span: u32, known: u32)
+fn first_counts(days: &mut [[u32; 4]], span: u32, known: u32)
     ensures { λ _. ⌜ now (days .exit) ≡ filled (dayRow 0 0 0 known) span (now (days .entry)) ⌝ }
 {
     let mut i: u32 = 0;
@@ -61,7 +64,7 @@ fn put_sums(sums: &mut [[f32; 2]], i: u32)
     }
 }
 
-pub(crate) fn first_sums(sums: &mut [[f32; 2]], span: u32)
+fn first_sums(sums: &mut [[f32; 2]], span: u32)
     ensures { λ _. ⌜ now (sums .exit) ≡ filled firstSums span (now (sums .entry)) ⌝ }
 {
     let mut i: u32 = 0;
@@ -110,7 +113,7 @@ fn retain_card(
 }
 
 // The kept ones of the first n existing cards join an empty queue.
-pub(crate) fn retain(
+fn retain(
     cards: &mut [[f32; 6]],
     counts: &mut [[u32; 2]],
     rows: &mut [[u64; 2]],
@@ -150,7 +153,7 @@ fn one_more_if(n: u32, more: bool) -> u32
     if more { n + 1 } else { n }
 }
 
-pub(crate) fn known(existing: &[[f32; 6]], existing_counts: &[[u32; 2]], n: u32) -> u32
+fn known(existing: &[[f32; 6]], existing_counts: &[[u32; 2]], n: u32) -> u32
     ensures { λ r. ⌜ r ≡ known (now (existing .entry)) (now («existing_counts» .entry)) n ⌝ }
 {
     let mut count: u32 = 0;
@@ -185,7 +188,7 @@ fn new_card(retention: f32, limit: u32, i: u32) -> Card
     }
 }
 
-pub(crate) fn new_cards(config: SimulatorConfig, kept: u32) -> u32
+fn new_cards(config: SimulatorConfig, kept: u32) -> u32
     ensures { λ r. ⌜ r ≡ newCards config kept ⌝ }
 {
     if config.learn_limit == 0 {
@@ -198,7 +201,7 @@ pub(crate) fn new_cards(config: SimulatorConfig, kept: u32) -> u32
 }
 
 // n new cards join after the first `from`.
-pub(crate) fn create(
+fn create(
     cards: &mut [[f32; 6]],
     counts: &mut [[u32; 2]],
     rows: &mut [[u64; 2]],
@@ -217,5 +220,45 @@ pub(crate) fn create(
         len = join(cards, counts, rows, card, len);
         i += 1;
     }
+    len
+}
+
+// The lists as a run finds them, and how many cards it has. Neither the parameters, nor the seed, nor the table's keys are looked at.
+pub(crate) fn set_up(
+    cards: &mut [[f32; 6]],
+    counts: &mut [[u32; 2]],
+    rows: &mut [[u64; 2]],
+    days: &mut [[u32; 4]],
+    sums: &mut [[f32; 2]],
+    due: &mut [u32],
+    intervals: &mut [f32],
+    existing: &[[f32; 6]],
+    existing_counts: &[[u32; 2]],
+    config: SimulatorConfig,
+    retention: f32,
+) -> u32
+    requires { ⌜ (length (now existing) ≤ 65536) × (config .«learn_span» ≤ 36500) ⌝ }
+    ensures { λ r. ⌜ ((w : List Float) (seed : ℕ) (keys : List (List ℕ)) →
+        state (now (cards .exit)) (now (counts .exit)) (now (rows .exit)) (now (days .exit)) (now (sums .exit)) (now (due .exit)) keys (now (intervals .exit)) r seed
+        ≡ setUp (inputs config w retention seed (now (existing .entry)) (now («existing_counts» .entry)))
+        (state (now (cards .entry)) (now (counts .entry)) (now (rows .entry)) (now (days .entry)) (now (sums .entry)) (now (due .entry)) keys (now (intervals .entry)) 0 seed)) ⌝ }
+{
+    let span = config.learn_span;
+    let n = existing.len() as u32;
+    first_due(due, span + span / 2);
+    let retained = retain(cards, counts, rows, due, existing, existing_counts, span, n);
+    let more = new_cards(config, retained);
+    let len = create(
+        cards,
+        counts,
+        rows,
+        retention,
+        config.learn_limit,
+        more,
+        retained,
+    );
+    first_counts(days, span, known(existing, existing_counts, n));
+    first_sums(sums, span);
+    intervals::clear(intervals);
     len
 }

@@ -1,0 +1,98 @@
+-- The calls of set-up leave, one after the other, the parts of `setUp`; nothing of it reads the parameters, the seed or the table's keys.
+use mathlib.Core.Path.{refl}
+use native.Mathlib.Omega.{arith}
+use Rattle.simulation.proofs.Starting.{set-up-is}
+use borrow.Author.Needs.{needs}
+use Rattle.simulation.proofs.set_up.set_up.Statement.{statement}
+use Rattle.simulation.proofs.set_up.set_up.Tie as tie
+
+cast-n : tie.Need-cast-n
+cast-n c = omega (arith, c .before .before .pre .0)
+
+add-first-due : tie.Need-add-first-due
+add-first-due c = omega (arith, c .before .before .before .pre .1)
+
+first-due-requires : tie.Need-first-due-requires
+first-due-requires c κs = search needs
+
+retain-requires : tie.Need-retain-requires
+retain-requires c κs = search needs
+
+new-cards-requires : tie.Need-new-cards-requires
+new-cards-requires c κs = search needs
+
+create-requires : tie.Need-create-requires
+create-requires c κs = search needs
+
+known-requires : tie.Need-known-requires
+known-requires c κs = search needs
+
+first-counts-requires : tie.Need-first-counts-requires
+first-counts-requires c κs = search needs
+
+first-sums-requires : tie.Need-first-sums-requires
+first-sums-requires c κs = search needs
+
+clear-requires : tie.Need-clear-requires
+clear-requires c κs = search needs
+
+same-length : tie.Need-same-length
+same-length c = search needs
+
+same-length-2 : tie.Need-same-length-2
+same-length-2 c = search needs
+
+same-length-3 : tie.Need-same-length-3
+same-length-3 c = search needs
+
+same-length-4 : tie.Need-same-length-4
+same-length-4 c = search needs
+
+same-length-5 : tie.Need-same-length-5
+same-length-5 c = search needs
+
+same-length-6 : tie.Need-same-length-6
+same-length-6 c = search needs
+
+same-length-7 : tie.Need-same-length-7
+same-length-7 c = search needs
+
+returns : tie.Need-returns
+returns c =
+    let at-clear = c .before .before in
+    let at-first-sums = at-clear .before .before .before in
+    let at-first-counts = at-first-sums .before .before .before in
+    let at-known = at-first-counts .before in
+    let at-create = at-known .before .before .before .before .before in
+    let at-new-cards = at-create .before .before .before .before in
+    let at-retain = at-new-cards .before .before .before .before .before .before in
+    let at-first-due = at-retain .before .before .before .before .before .before .before in
+    let start = at-first-due .before .before .before .before in
+    let a = start .args in
+    λ w seed keys. set-up-is (a .config) w (a .retention) seed (a .existing .now) (a .existing-counts .now)
+    (a .cards .now) (a .counts .now) (a .rows .now) (a .days .now) (a .sums .now) (a .due .now) keys (a .intervals .now) _ _ refl refl
+    (at-first-due .first-due .ensures) (at-retain .retain .ensures) (at-new-cards .new-cards .ensures) (at-create .create .ensures)
+    (at-known .known .ensures) (at-first-counts .first-counts .ensures) (at-first-sums .first-sums .ensures) (at-clear .clear .ensures)
+
+pub set-up-spec : {M : Type 1} → statement M
+set-up-spec =
+    tie.close
+    (tie.spec
+    cast-n
+    add-first-due
+    first-due-requires
+    retain-requires
+    new-cards-requires
+    create-requires
+    known-requires
+    first-counts-requires
+    first-sums-requires
+    clear-requires
+    same-length
+    same-length-2
+    same-length-3
+    same-length-4
+    same-length-5
+    same-length-6
+    same-length-7
+    returns)
