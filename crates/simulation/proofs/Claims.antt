@@ -25,9 +25,10 @@ use Rattle.simulation.specs.declared.Check.the-variants as check
 use Rattle.simulation.specs.declared.Progress.{Progress}
 use Rattle.simulation.specs.declared.Answer.{Answer}
 use Rattle.simulation.specs.declared.Answer.the-variants as answer
+use Rattle.simulation.specs.declared.Stop.{Stop}
 use Rattle.simulation.specs.State.{State, state}
 use Rattle.simulation.specs.Model.{modelOf}
-use Rattle.simulation.specs.Turn.{Stop, next}
+use Rattle.simulation.specs.Turn.{next}
 use Rattle.simulation.specs.Entry.{Inputs, inputs, checked}
 use Rattle.simulation.specs.SetUp.{setUp}
 use Rattle.simulation.specs.Simulate.{progress, bound, ran, finished, simulated}

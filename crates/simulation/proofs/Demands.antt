@@ -21,8 +21,10 @@ use Rattle.simulation.specs.declared.Refusal.{Refusal}
 use Rattle.simulation.specs.declared.Check.the-variants as check
 use Rattle.simulation.specs.declared.Progress.{Progress}
 use Rattle.simulation.specs.declared.Answer.the-variants as answer
+use Rattle.simulation.specs.declared.Stop.{Stop}
+use Rattle.simulation.specs.declared.Stop.the-variants as stop
 use Rattle.simulation.specs.State.{State, Model, withTable}
-use Rattle.simulation.specs.Turn.{Stop, ended, chance, full, count, slotFor, next}
+use Rattle.simulation.specs.Turn.{slotFor, next}
 use Rattle.simulation.specs.Entry.{Inputs, checked}
 use Rattle.simulation.specs.SetUp.{emptied, setUp}
 use Rattle.simulation.specs.Simulate.{Result, progress, answerOf, bound, ran, finished, simulated}
@@ -64,27 +66,25 @@ module _ (i : Inputs) (s : State) (fit : LimitsFit (i .config)) (e : checked i s
   pub ends-within : length (turnsOf i s) ≤ cardsOf i s * suc (i .config .«learn_span»)
   ends-within = few-turns i s ok fit
 
-  pub stops-so : (y : Stop) → next (i .config) (modelFor i) ((ran (modelFor i) i s₀) .state) ≡ stops y → stopOf (next (i .config) (modelFor i)) ended (bound (i .config) s₀) s₀ ≡ y
+  pub stops-so : (y : Stop) → next (i .config) (modelFor i) ((ran (modelFor i) i s₀) .state) ≡ stops y → stopOf (next (i .config) (modelFor i)) stop.Ended (bound (i .config) s₀) s₀ ≡ y
   unfolding ran
-  stops-so y q = stop-is (next (i .config) (modelFor i)) ended (bound (i .config) s₀) [] s₀ y q (let h = ends-within in omega (arith, h))
+  stops-so y q = stop-is (next (i .config) (modelFor i)) stop.Ended (bound (i .config) s₀) [] s₀ y q (let h = ends-within in omega (arith, h))
 
   -- it ends Ok exactly when no turn is left
-  end-of : (x : Stop) (p q : Progress) → answerOf x p ≡ answer.Finished q → x ≡ ended
-  end-of ended p q z = refl
-  end-of (chance c) p q z = let o : _≡_ {A = ℕ} 0 1 = cc in absurd (let f : ⊥ = omega arith in f)
-  end-of (full c) p q z = let o : _≡_ {A = ℕ} 0 1 = cc in absurd (let f : ⊥ = omega arith in f)
-  end-of (count c) p q z = let o : _≡_ {A = ℕ} 0 1 = cc in absurd (let f : ⊥ = omega arith in f)
+  end-of : (x : Stop) (p q : Progress) → answerOf x p ≡ answer.Finished q → x ≡ stop.Ended
+  end-of stop.Ended p q z = refl
+  end-of (stop.Refused r) p q z = let o : _≡_ {A = ℕ} 0 1 = cc in absurd (let f : ⊥ = omega arith in f)
 
   pub finished-is : simulated (modelFor i) i s ≡ finished (modelFor i) i s₀
   unfolding simulated
   finished-is = rw e
 
-  pub ok-ends : Finished (simulated (modelFor i) i s .answer) → next (i .config) (modelFor i) ((ran (modelFor i) i s₀) .state) ≡ stops ended
+  pub ok-ends : Finished (simulated (modelFor i) i s .answer) → next (i .config) (modelFor i) ((ran (modelFor i) i s₀) .state) ≡ stops stop.Ended
   unfolding finished
   ok-ends f =
       let h = has-stopped i s ok fit in
       let a : finished (modelFor i) i s₀ .answer ≡ answer.Finished (f .0) = sym (ap (λ (r : Result). r .answer) finished-is) ∙ f .1 in
-      let z : stopOf (next (i .config) (modelFor i)) ended (bound (i .config) s₀) s₀ ≡ ended = end-of (stopOf (next (i .config) (modelFor i)) ended (bound (i .config) s₀) s₀) _ (f .0) a in
+      let z : stopOf (next (i .config) (modelFor i)) stop.Ended (bound (i .config) s₀) s₀ ≡ stop.Ended = end-of (stopOf (next (i .config) (modelFor i)) stop.Ended (bound (i .config) s₀) s₀) _ (f .0) a in
       h .1 ∙ ap stops (sym (stops-so (h .0) (h .1)) ∙ z)
 
 -- DEMAND 3, the longer table: a run that ends Ok ends Ok with any longer interval table and all else alike, with the same turns, draws, answer,
@@ -126,8 +126,8 @@ module _ (i : Inputs) (s s′ : State) (fit : LimitsFit (i .config)) (e : checke
       let r = run-longer g m (fresh-fair i s (accepted i s e)) (bound g (setUp i s)) (setUp i s) (setUp i s′) alike q in
       let r′ : run (next g m) (bound g (setUp i s′)) [] (setUp i s′) ≡ run (next g m) (bound g (setUp i s)) [] (setUp i s′) = ap (λ (z : ℕ). run (next g m) z [] (setUp i s′)) b in
       let st : (ran m i (setUp i s′)) .state ≡ (run (next g m) (bound g (setUp i s)) [] (setUp i s′)) .state = ap (λ (z : Reached (Turn Float) State). z .state) r′ in
-      let one : stopOf (next g m) ended (bound g (setUp i s)) (setUp i s) ≡ ended = stops-so i s fit e ended q in
-      let two : stopOf (next g m) ended (bound g (setUp i s′)) (setUp i s′) ≡ ended = stops-so i s′ fit e′ ended (ap (λ (z : State). next g m z) st ∙ r .stop) in
+      let one : stopOf (next g m) stop.Ended (bound g (setUp i s)) (setUp i s) ≡ stop.Ended = stops-so i s fit e stop.Ended q in
+      let two : stopOf (next g m) stop.Ended (bound g (setUp i s′)) (setUp i s′) ≡ stop.Ended = stops-so i s′ fit e′ stop.Ended (ap (λ (z : State). next g m z) st ∙ r .stop) in
       let turns : length ((ran m i (setUp i s′)) .turns) ≡ length ((ran m i (setUp i s)) .turns) = ap (λ (z : Reached (Turn Float) State). length (z .turns)) r′ ∙ ap (λ (z : List (Turn Float)). length z) (sym (r .turns)) in
       let all : (ran m i (setUp i s′)) .state ≡ withTable ((ran m i (setUp i s)) .state) ((run (next g m) (bound g (setUp i s)) [] (setUp i s′)) .state .table) = st ∙ r .states .same in
       let draws : (ran m i (setUp i s′)) .state .draws ≡ (ran m i (setUp i s)) .state .draws = ap (λ (z : State). z .draws) all in

@@ -32,8 +32,10 @@ use Rattle.intervals.specs.Table.{table}
 use Rattle.intervals.specs.Schedule.{isFull, intervalOf, entered}
 use Rattle.simulation.specs.declared.Outcome.{Outcome}
 use Rattle.simulation.specs.declared.Outcome.the-variants as outcome
+use Rattle.simulation.specs.declared.Refusal.the-variants as refusal
+use Rattle.simulation.specs.declared.Stop.the-variants as stop
 use Rattle.simulation.specs.State.{State, Model, Lists, state, keyOf}
-use Rattle.simulation.specs.Turn.{count, full, turnAs, kindAs, eventCard, retired, postponed, handled, slotFor, handleAs, handle, orElse, act, next}
+use Rattle.simulation.specs.Turn.{refuses, turnAs, kindAs, eventCard, retired, postponed, handled, slotFor, handleAs, handle, orElse, act, next}
 use Rattle.simulation.specs.Steps.{Turned, PutOff, PutOffStep, RetireStep, DaysWritten, CardWritten}
 
 -- neither variant but the second
@@ -43,7 +45,7 @@ not-happened event.Chance a = refl
 
 pub put-off-refused : (span c : ℕ) (k : Card) (d len draws : ℕ) (cards : List (List Float)) (rows : List (List ℕ)) (due : List ℕ) (new b : Bool)
     → new ≡ newOf (k .«last_date») → b ≡ noneDue due new d → b ≡ true
-    → PutOffStep span c k d len draws cards rows due (outcome.DueCount c) cards rows due
+    → PutOffStep span c k d len draws cards rows due (outcome.Stopped (stop.Refused (refusal.DueCount c))) cards rows due
 put-off-refused span c k d len draws cards rows due new b en eb t =
     let x : noneDue due (newOf (k .«last_date»)) d ≡ true = rw (← en) (sym eb ∙ t) in
     record { refused = λ y. (refl, record { cards-are = refl; rows-are = refl; due-are = refl }); done = λ y. absurd (true≢false (sym x ∙ y)) }
@@ -57,7 +59,7 @@ put-off-done span c k d len draws cards rows due new b cards′ rows′ due′ e
     record { refused = λ y. absurd (true≢false (sym y ∙ x)); done = λ y. (refl, p) }
 
 module _ (g : SimulatorConfig) (m : Model) (r : State) (c : ℕ) (k : Card) (new : Bool) (d : ℕ) (y : Memory) where
-  handle-full : (t : Slot) → isFull t ≡ true → handleAs g m r c k new d y t ≡ stops (full c)
+  handle-full : (t : Slot) → isFull t ≡ true → handleAs g m r c k new d y t ≡ refuses (refusal.TableFull c)
   handle-full (slot.Keep v) e = absurd (false≢true e)
   handle-full (slot.Enter p a b v) e = absurd (false≢true e)
   handle-full slot.Full e = refl
@@ -76,7 +78,7 @@ module _ (g : SimulatorConfig) (m : Model) (cards : List (List Float)) (counts r
 
   -- ---- an event
   module _ (c : ℕ) (k : Card) (new : Bool) (d : ℕ) where
-    pub chance-is : (e : Event) → e ≡ m .event k new d draws → e ≡ event.Chance → Turned (handle g m st c k new d) st (outcome.Chance c) cards counts rows days sums due keys intervals
+    pub chance-is : (e : Event) → e ≡ m .event k new d draws → e ≡ event.Chance → Turned (handle g m st c k new d) st (outcome.Stopped (stop.Refused (refusal.Chance c))) cards counts rows days sums due keys intervals
     unfolding handle
     chance-is e p q =
         let x : m .event k new d draws ≡ event.Chance = sym p ∙ q in
@@ -89,7 +91,7 @@ module _ (g : SimulatorConfig) (m : Model) (cards : List (List Float)) (counts r
           let y : m .event k new d draws ≡ event.Happened x = sym p ∙ q in
           rw (y, z)
 
-      pub full-is : (f : Bool) → f ≡ isFull t → f ≡ true → Turned (handle g m st c k new d) st (outcome.TableFull c) cards counts rows days sums due keys intervals
+      pub full-is : (f : Bool) → f ≡ isFull t → f ≡ true → Turned (handle g m st c k new d) st (outcome.Stopped (stop.Refused (refusal.TableFull c))) cards counts rows days sums due keys intervals
       full-is f u y = rw (handles ∙ handle-full g m st c k new d x t (sym u ∙ y)) (record { outcome = refl; lists = same })
 
       pub handled-is : (f : Bool) → f ≡ isFull t → f ≡ false
@@ -114,7 +116,7 @@ module _ (g : SimulatorConfig) (m : Model) (cards : List (List Float)) (counts r
           }))
 
   -- ---- the turn
-  pub ended-is : len ≡ 0 → Turned (next g m st) st outcome.Ended cards counts rows days sums due keys intervals
+  pub ended-is : len ≡ 0 → Turned (next g m st) st (outcome.Stopped stop.Ended) cards counts rows days sums due keys intervals
   unfolding next
   ended-is e = rw (eq-eqb len 0 e) (record { outcome = refl; lists = same })
 
@@ -137,7 +139,7 @@ module _ (g : SimulatorConfig) (m : Model) (cards : List (List Float)) (counts r
     put-off-is o cards′ rows′ due′ e p = rw (next-is ∙ ap (act g m st c k d) e) (go (noneDue due (newOf (k .«last_date»)) d) refl)
       where
         go : (b : Bool) → noneDue due (newOf (k .«last_date»)) d ≡ b
-            → Turned (orElse g m b (stops (count c)) (takes (turnAs c d putOff) (postponed g m st c k d))) st o cards′ counts rows′ days sums due′ keys intervals
+            → Turned (orElse g m b (refuses (refusal.DueCount c)) (takes (turnAs c d putOff) (postponed g m st c k d))) st o cards′ counts rows′ days sums due′ keys intervals
         go true y =
             let h = p .refused y in
             record { outcome = h .0; lists = record { cards-are = h .1 .cards-are; counts-are = refl; rows-are = h .1 .rows-are; days-are = refl; sums-are = refl; due-are = h .1 .due-are; table-is = refl } }

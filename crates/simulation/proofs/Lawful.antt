@@ -35,8 +35,11 @@ use Rattle.intervals.specs.declared.Slot.the-variants as slot
 use Rattle.intervals.specs.Bucket.{stabilityBucket, retentionBucket}
 use Rattle.intervals.specs.Schedule.{isFull, intervalOf}
 use Rattle.intervals.proofs.Schedule.{interval-all}
+use Rattle.simulation.specs.declared.Refusal.the-variants as refusal
+use Rattle.simulation.specs.declared.Stop.{Stop}
+use Rattle.simulation.specs.declared.Stop.the-variants as stop
 use Rattle.simulation.specs.State.{State, Model, cardIn}
-use Rattle.simulation.specs.Turn.{Stop, ended, count, turnAs, kindAs, postponed, handled, slotFor, handleAs, eventAs, handle, orElse, act, turnOf, next}
+use Rattle.simulation.specs.Turn.{refuses, turnAs, kindAs, postponed, handled, slotFor, handleAs, eventAs, handle, orElse, act, turnOf, next}
 use Rattle.simulation.specs.Rules.{costs, limits}
 use Rattle.simulation.proofs.Views.{view, columns}
 use Rattle.simulation.proofs.Good.{Fine, Good, in-span, step-put, good-put, step-retire, good-retire}
@@ -149,7 +152,7 @@ module _ (g : SimulatorConfig) (m : Model) (cards : ℕ) (fine : Fine g cards) (
     law-as true b n e₁ e₂ e₃ = (step-retire g m cards fine ts s good some, good-retire g m cards fine ts s good some)
     law-as false true n e₁ e₂ e₃ = go (noneDue (s .due) (newOf (k .«last_date»)) d)
       where
-        go : (y : Bool) → Lawful Steps Fit ts s (orElse g m y (stops (count c)) (takes (turnAs c d putOff) (postponed g m s c k d)))
+        go : (y : Bool) → Lawful Steps Fit ts s (orElse g m y (refuses (refusal.DueCount c)) (takes (turnAs c d putOff) (postponed g m s c k d)))
         go true = tt
         go false = (step-put g m cards fine ts s good some e₁, good-put g m cards fine ts s good some e₁)
     law-as false false true e₁ e₂ e₃ = law-learn e₁ e₂ e₃
@@ -163,7 +166,7 @@ module _ (g : SimulatorConfig) (m : Model) (cards : ℕ) (fine : Fine g cards) (
   unfolding next
   law ts s good = go (eqb (s .queue .len) 0) refl
     where
-      go : (b : Bool) → eqb (s .queue .len) 0 ≡ b → Lawful Steps Fit ts s (orElse g m b (stops ended) (turnOf g m s (front (s .queue)) (cardIn s (front (s .queue))) (dayOf (cardIn s (front (s .queue)) .due))))
+      go : (b : Bool) → eqb (s .queue .len) 0 ≡ b → Lawful Steps Fit ts s (orElse g m b (stops stop.Ended) (turnOf g m s (front (s .queue)) (cardIn s (front (s .queue))) (dayOf (cardIn s (front (s .queue)) .due))))
       go true e = tt
       go false e = let ne = eqb-false (s .queue .len) 0 e in law-turn ts s good (omega (arith, ne))
 

@@ -30,8 +30,11 @@ use Rattle.intervals.specs.Table.{Table}
 use Rattle.intervals.specs.Schedule.{isFull, intervalOf, entered}
 use Rattle.intervals.proofs.Laws.{Twin}
 use Rattle.intervals.proofs.Schedule.{twin-slot}
+use Rattle.simulation.specs.declared.Refusal.the-variants as refusal
+use Rattle.simulation.specs.declared.Stop.{Stop}
+use Rattle.simulation.specs.declared.Stop.the-variants as stop
 use Rattle.simulation.specs.State.{State, Model, cardIn, withTable}
-use Rattle.simulation.specs.Turn.{Stop, ended, count, turnAs, kindAs, retired, postponed, handled, slotFor, handleAs, eventAs, handle, orElse, act, turnOf, next}
+use Rattle.simulation.specs.Turn.{refuses, turnAs, kindAs, retired, postponed, handled, slotFor, handleAs, eventAs, handle, orElse, act, turnOf, next}
 
 -- the same state but for the table, which holds the same and is as long or longer
 pub record Alike (s s′ : State) : Type 0 where
@@ -39,7 +42,7 @@ pub record Alike (s s′ : State) : Type 0 where
   pub twin : Twin (s .table) (s′ .table)
 
 abbrev pub IsEnd : Stop → Type 0
-IsEnd x = x ≡ ended
+IsEnd x = x ≡ stop.Ended
 
 module _ (g : SimulatorConfig) (m : Model) (fresh-law : (x y : Float) → Fair (m .fresh x y)) where
   abbrev Follow : Next (Turn Float) State Stop → Next (Turn Float) State Stop → Type 0
@@ -88,7 +91,7 @@ module _ (g : SimulatorConfig) (m : Model) (fresh-law : (x y : Float) → Fair (
     act-follows c k d choice.Retire = (refl, record { same = refl; twin = w })
     act-follows c k d choice.PutOff = go (noneDue (s .due) (newOf (k .«last_date»)) d)
       where
-        go : (b : Bool) → Follow (orElse g m b (stops (count c)) (takes (turnAs c d putOff) (postponed g m s c k d))) (orElse g m b (stops (count c)) (takes (turnAs c d putOff) (postponed g m s′ c k d)))
+        go : (b : Bool) → Follow (orElse g m b (refuses (refusal.DueCount c)) (takes (turnAs c d putOff) (postponed g m s c k d))) (orElse g m b (refuses (refusal.DueCount c)) (takes (turnAs c d putOff) (postponed g m s′ c k d)))
         go true = λ z. refl
         go false = (refl, record { same = refl; twin = w })
     act-follows c k d choice.Learn = event-follows c k true d
@@ -107,7 +110,7 @@ module _ (g : SimulatorConfig) (m : Model) (fresh-law : (x y : Float) → Fair (
         d : ℕ
         d = dayOf (k .due)
 
-        go : (b : Bool) → Follow (orElse g m b (stops ended) (turnOf g m s c k d)) (orElse g m b (stops ended) (turnOf g m s′ c k d))
+        go : (b : Bool) → Follow (orElse g m b (stops stop.Ended) (turnOf g m s c k d)) (orElse g m b (stops stop.Ended) (turnOf g m s′ c k d))
         go true = λ z. refl
         go false = act-follows c k d (choiceOf g k (learnedAt (s .days) d) (reviewedAt (s .days) d) (costAt (s .sums) d))
 
@@ -115,5 +118,5 @@ module _ (g : SimulatorConfig) (m : Model) (fresh-law : (x y : Float) → Fair (
   follows s s′ a = rw (a .same) (turn-follows s (s′ .table) (a .twin))
 
   -- THE LONGER TABLE: the same turns, and states that differ in the table alone
-  pub run-longer : (n : ℕ) (s s′ : State) → Alike s s′ → next g m ((run (next g m) n [] s) .state) ≡ stops ended → Same Alike (next g m) (run (next g m) n [] s) (run (next g m) n [] s′) ended
-  run-longer n s s′ a e = run-follows Alike IsEnd (next g m) follows n [] [] refl s s′ a ended refl e
+  pub run-longer : (n : ℕ) (s s′ : State) → Alike s s′ → next g m ((run (next g m) n [] s) .state) ≡ stops stop.Ended → Same Alike (next g m) (run (next g m) n [] s) (run (next g m) n [] s′) stop.Ended
+  run-longer n s s′ a e = run-follows Alike IsEnd (next g m) follows n [] [] refl s s′ a stop.Ended refl e

@@ -19,11 +19,11 @@ use Rattle.simulation.specs.declared.Refusal.{Refusal}
 use Rattle.simulation.specs.declared.Refusal.the-variants as refusal
 use Rattle.simulation.specs.declared.Check.{Check}
 use Rattle.simulation.specs.declared.Check.the-variants as check
-use Rattle.simulation.specs.declared.Progress.{Progress}
 use Rattle.simulation.specs.declared.Reach.{Reach}
+use Rattle.simulation.specs.declared.Stop.the-variants as stop
 use Rattle.simulation.specs.State.{State, Model, state}
-use Rattle.simulation.specs.Turn.{Stop, ended, chance, full, count, next}
-use Rattle.simulation.specs.Steps.{stoppedBy, answered, Ran, Done}
+use Rattle.simulation.specs.Turn.{next}
+use Rattle.simulation.specs.Steps.{Ran, Done}
 use Rattle.simulation.specs.Entry.{Inputs, inputs, firstWhere, notFinite, failIf, checkParameters, checked}
 use Rattle.simulation.specs.SetUp.{Deck, deck, filled, joined, retain, known, create, newCards, emptied, dealt, firstSums, setUp}
 use Rattle.simulation.specs.Simulate.{progress, answerOf, bound, ran, finished}
@@ -105,25 +105,19 @@ module _ (i : Inputs) (s : State) {s₁ : State} (up : s₁ ≡ setUp i s) where
       let l : s₁ .queue .len ≡ setUp i s .queue .len = ap (λ (z : State). z .queue .len) up in
       (omega (arith, few, l, ok .deck-most), ok .span-most)
 
-  answered-is : (x : Stop) (p : Progress) → answered (stoppedBy x) p ≡ answerOf x p
-  answered-is ended p = refl
-  answered-is (chance c) p = refl
-  answered-is (full c) p = refl
-  answered-is (count c) p = refl
-
   pub done-is : (m : Model) {b : ℕ} {x : Reach} {c′ : List (List Float)} {n′ r′ d′ : List (List ℕ)} {u′ : List (List Float)} {v′ : List ℕ} {k′ : List (List ℕ)} {t′ : List Float}
       → b ≡ bound (i .config) s₁
       → Ran (i .config) m s₁ b x c′ n′ r′ d′ u′ v′ k′ t′
-      → Done (finished m i (setUp i s)) (answered (x .outcome) (progress (x .turns) (s₁ .queue .len) (x .draws))) c′ n′ r′ d′ u′ v′ k′ t′
+      → Done (finished m i (setUp i s)) (answerOf (x .stop) (progress (x .turns) (s₁ .queue .len) (x .draws))) c′ n′ r′ d′ u′ v′ k′ t′
   unfolding finished ran
   done-is m {b = b} {x = x} {c′ = c′} {n′ = n′} {r′ = r′} {d′ = d′} {u′ = u′} {v′ = v′} {k′ = k′} {t′ = t′} eb r =
-      subst (λ (z : State). Done (finished m i z) (answered (x .outcome) (progress (x .turns) (s₁ .queue .len) (x .draws))) c′ n′ r′ d′ u′ v′ k′ t′) up (go (subst (λ (z : ℕ). Ran g m s₁ z x c′ n′ r′ d′ u′ v′ k′ t′) eb r))
+      subst (λ (z : State). Done (finished m i z) (answerOf (x .stop) (progress (x .turns) (s₁ .queue .len) (x .draws))) c′ n′ r′ d′ u′ v′ k′ t′) up (go (subst (λ (z : ℕ). Ran g m s₁ z x c′ n′ r′ d′ u′ v′ k′ t′) eb r))
     where
       g : SimulatorConfig
       g = i .config
 
-      go : Ran g m s₁ (bound g s₁) x c′ n′ r′ d′ u′ v′ k′ t′ → Done (finished m i s₁) (answered (x .outcome) (progress (x .turns) (s₁ .queue .len) (x .draws))) c′ n′ r′ d′ u′ v′ k′ t′
-      go r₁ = record { answer = rw (r₁ .outcome, r₁ .turns, r₁ .draws) (answered-is (stopOf (next g m) ended (bound g s₁) s₁) (progress (length ((run (next g m) (bound g s₁) [] s₁) .turns)) (s₁ .queue .len) ((run (next g m) (bound g s₁) [] s₁) .state .draws))); lists = r₁ .lists }
+      go : Ran g m s₁ (bound g s₁) x c′ n′ r′ d′ u′ v′ k′ t′ → Done (finished m i s₁) (answerOf (x .stop) (progress (x .turns) (s₁ .queue .len) (x .draws))) c′ n′ r′ d′ u′ v′ k′ t′
+      go r₁ = record { answer = rw (r₁ .stop-is, r₁ .turns, r₁ .draws); lists = r₁ .lists }
 
 pub bound-fits : (len span : ℕ) → len ≤ 65536 → span ≤ 36500 → len * (span + 1) ≤ 2392129536
 bound-fits len span h l = let k : span + 1 ≤ 36501 = omega arith in mul-le-mul h k

@@ -28,8 +28,11 @@ use Rattle.intervals.specs.Bucket.{stabilityBucket, retentionBucket}
 use Rattle.intervals.specs.Schedule.{entered}
 use Rattle.intervals.proofs.Laws.{Sound}
 use Rattle.intervals.proofs.Schedule.{slot-sound}
+use Rattle.simulation.specs.declared.Refusal.the-variants as refusal
+use Rattle.simulation.specs.declared.Stop.{Stop}
+use Rattle.simulation.specs.declared.Stop.the-variants as stop
 use Rattle.simulation.specs.State.{State, Model, cardIn}
-use Rattle.simulation.specs.Turn.{Stop, ended, count, turnAs, postponed, retired, handled, slotFor, handleAs, eventAs, handle, orElse, act, turnOf, next}
+use Rattle.simulation.specs.Turn.{refuses, turnAs, postponed, retired, handled, slotFor, handleAs, eventAs, handle, orElse, act, turnOf, next}
 
 module _ (g : SimulatorConfig) (m : Model) (fresh-law : (x y : Float) → Fair (m .fresh x y)) where
   -- what a turn leaves of the table
@@ -60,7 +63,7 @@ module _ (g : SimulatorConfig) (m : Model) (fresh-law : (x y : Float) → Fair (
     act-after c k d choice.Retire = ok
     act-after c k d choice.PutOff = go (noneDue (s .due) (newOf (k .«last_date»)) d)
       where
-        go : (b : Bool) → After (orElse g m b (stops (count c)) (takes (turnAs c d putOff) (postponed g m s c k d)))
+        go : (b : Bool) → After (orElse g m b (refuses (refusal.DueCount c)) (takes (turnAs c d putOff) (postponed g m s c k d)))
         go true = tt
         go false = ok
     act-after c k d choice.Learn = event-after c k true d
@@ -79,7 +82,7 @@ module _ (g : SimulatorConfig) (m : Model) (fresh-law : (x y : Float) → Fair (
         d : ℕ
         d = dayOf (k .due)
 
-        go : (b : Bool) → After (orElse g m b (stops ended) (turnOf g m s c k d))
+        go : (b : Bool) → After (orElse g m b (stops stop.Ended) (turnOf g m s c k d))
         go true = tt
         go false = act-after c k d (choiceOf g k (learnedAt (s .days) d) (reviewedAt (s .days) d) (costAt (s .sums) d))
 

@@ -1,7 +1,6 @@
 -- The loop over turns follows the definition: after k turns the lists are the state of `run k`, and what is left of the run stops as the whole.
 use mathlib.Core.Path.{_≡_, refl, sym, ap, _∙_, subst}
 use mathlib.Core.List.{List, [], _∷_}
-use mathlib.Core.Logic.{⊎-elim}
 use Prim.Native.Nat.{ℕ, suc, _+_, _-_, _≤_, _<_}
 use native.Mathlib.Omega.{arith}
 use types.Run.{OneOf}
@@ -15,9 +14,12 @@ use Rattle.simulation.proofs.Outcome as outcome-type
 use Rattle.cards.specs.declared.SimulatorConfig.{SimulatorConfig}
 use Rattle.simulation.specs.declared.Outcome.{Outcome}
 use Rattle.simulation.specs.declared.Outcome.the-variants as outcome
+use Rattle.simulation.specs.declared.Refusal.the-variants as refusal
+use Rattle.simulation.specs.declared.Stop.{Stop}
+use Rattle.simulation.specs.declared.Stop.the-variants as stop
 use Rattle.simulation.specs.State.{State, Model, Lists, state}
-use Rattle.simulation.specs.Turn.{Stop, ended, chance, full, count, next}
-use Rattle.simulation.specs.Steps.{stoppedBy, Turned, Ran}
+use Rattle.simulation.specs.Turn.{next}
+use Rattle.simulation.specs.Steps.{stopIn, Turned, Ran}
 
 -- the lists of a state, and the state of lists
 pub state-is : (s : State) (cards : List (List Float)) (counts rows days : List (List ℕ)) (sums : List (List Float)) (due : List ℕ) (keys : List (List ℕ)) (intervals : List Float) (n r : ℕ)
@@ -31,18 +33,12 @@ lists-of s cards counts rows days sums due keys intervals n r e =
     (record { cards-are = refl; counts-are = refl; rows-are = refl; days-are = refl; sums-are = refl; due-are = refl; table-is = refl })
 
 -- a stop is no turn taken
-stop-took : (x : Stop) (n r : ℕ) → stoppedBy x ≡ outcome.Took n r → ⊥
-stop-took ended n r e = let z : _≡_ {A = ℕ} 0 1 = cc in omega arith
-stop-took (chance c) n r e = let z : _≡_ {A = ℕ} 0 1 = cc in omega arith
-stop-took (full c) n r e = let z : _≡_ {A = ℕ} 0 1 = cc in omega arith
-stop-took (count c) n r e = let z : _≡_ {A = ℕ} 0 1 = cc in omega arith
+stop-took : (x : Stop) (n r : ℕ) → outcome.Stopped x ≡ outcome.Took n r → ⊥
+stop-took x n r e = let z : _≡_ {A = ℕ} 0 1 = cc in omega arith
 
-took-tag : (o : Outcome) (n r : ℕ) → OneOf (1 ∷ 2 ∷ 3 ∷ 4 ∷ []) (tagOf outcome-type.the-type o) → o ≡ outcome.Took n r → ⊥
-took-tag (outcome.Took a b) n r t e = ⊎-elim (λ x. omega arith) (⊎-elim (λ x. omega arith) (⊎-elim (λ x. omega arith) (λ x. omega arith))) t
-took-tag outcome.Ended n r t e = let z : _≡_ {A = ℕ} 0 1 = cc in omega arith
-took-tag (outcome.Chance c) n r t e = let z : _≡_ {A = ℕ} 0 1 = cc in omega arith
-took-tag (outcome.TableFull c) n r t e = let z : _≡_ {A = ℕ} 0 1 = cc in omega arith
-took-tag (outcome.DueCount c) n r t e = let z : _≡_ {A = ℕ} 0 1 = cc in omega arith
+took-tag : (o : Outcome) (n r : ℕ) → OneOf (1 ∷ []) (tagOf outcome-type.the-type o) → o ≡ outcome.Took n r → ⊥
+took-tag (outcome.Took a b) n r t e = omega (arith, t)
+took-tag (outcome.Stopped x) n r t e = stop-took x n r e
 
 took-both : (a b n r : ℕ) → outcome.Took n r ≡ outcome.Took a b → (n ≡ a) × (r ≡ b)
 took-both a b n r e = (cc, cc)
@@ -56,7 +52,7 @@ module _ (g : SimulatorConfig) (m : Model) (s₀ : State) (bound : ℕ) where
     pub at : s ≡ (after k) .state
     pub many : length ((after k) .turns) ≡ k
     pub within : k ≤ bound
-    pub left : stopOf (next g m) ended (bound - k) s ≡ stopOf (next g m) ended bound s₀
+    pub left : stopOf (next g m) stop.Ended (bound - k) s ≡ stopOf (next g m) stop.Ended bound s₀
 
   module _ {st : State} {k : ℕ} (i : Going st k) {o : Outcome}
       {cards′ : List (List Float)} {counts′ rows′ days′ : List (List ℕ)} {sums′ : List (List Float)} {due′ : List ℕ} {keys′ : List (List ℕ)} {intervals′ : List Float}
@@ -78,37 +74,37 @@ module _ (g : SimulatorConfig) (m : Model) (s₀ : State) (bound : ℕ) where
               at = now ∙ sym (ap (λ (z : Reached (Turn Float) State). z .state) one);
               many = ap (λ (z : Reached (Turn Float) State). length (z .turns)) one ∙ omega (arith, i .many);
               within = omega arith;
-              left = ap (λ (z : State). stopOf (next g m) ended (bound - (k + 1)) z) now ∙ sym (stop-takes (next g m) ended (bound - (k + 1)) st t s′ q) ∙ sym (ap (λ (z : ℕ). stopOf (next g m) ended z st) one-left) ∙ i .left;
+              left = ap (λ (z : State). stopOf (next g m) stop.Ended (bound - (k + 1)) z) now ∙ sym (stop-takes (next g m) stop.Ended (bound - (k + 1)) st t s′ q) ∙ sym (ap (λ (z : ℕ). stopOf (next g m) stop.Ended z st) one-left) ∙ i .left;
             }
 
-    pub going-stops : OneOf (1 ∷ 2 ∷ 3 ∷ 4 ∷ []) (tagOf outcome-type.the-type o)
-        → Ran g m s₀ bound (record { outcome = o; turns = k; draws = st .draws }) cards′ counts′ rows′ days′ sums′ due′ keys′ intervals′
-    going-stops t = go (next g m st) refl p
+    pub going-stops : OneOf (1 ∷ []) (tagOf outcome-type.the-type o) → (z : Stop) → z ≡ stopIn o
+        → Ran g m s₀ bound (record { stop = z; turns = k; draws = st .draws }) cards′ counts′ rows′ days′ sums′ due′ keys′ intervals′
+    going-stops t z ez = go (next g m st) refl p
       where
         go : (x : Next (Turn Float) State Stop) → next g m st ≡ x → Turned x st o cards′ counts′ rows′ days′ sums′ due′ keys′ intervals′
-            → Ran g m s₀ bound (record { outcome = o; turns = k; draws = st .draws }) cards′ counts′ rows′ days′ sums′ due′ keys′ intervals′
+            → Ran g m s₀ bound (record { stop = z; turns = k; draws = st .draws }) cards′ counts′ rows′ days′ sums′ due′ keys′ intervals′
         go (takes u s′) q h = absurd (took-tag o (s′ .queue .len) (s′ .draws) t (h .outcome))
         go (stops x) q h =
             let q′ : next g m ((after k) .state) ≡ stops x = rw (← i .at) q in
             let one : after bound ≡ after k = run-enough (next g m) k bound [] s₀ x (i .within) q′ in
             let s : st ≡ (after bound) .state = i .at ∙ sym (ap (λ (z : Reached (Turn Float) State). z .state) one) in
-            let y : stopOf (next g m) ended bound s₀ ≡ x = sym (i .left) ∙ ap (λ (z : ℕ). stopOf (next g m) ended z st) one-left ∙ stop-stops (next g m) ended (bound - (k + 1)) st x q in
+            let y : stopOf (next g m) stop.Ended bound s₀ ≡ x = sym (i .left) ∙ ap (λ (z : ℕ). stopOf (next g m) stop.Ended z st) one-left ∙ stop-stops (next g m) stop.Ended (bound - (k + 1)) st x q in
             record {
-              outcome = h .outcome ∙ ap stoppedBy (sym y);
+              stop-is = ez ∙ ap stopIn (h .outcome) ∙ sym y;
               turns = sym (ap (λ (z : Reached (Turn Float) State). length (z .turns)) one ∙ i .many);
               draws = ap (λ (z : State). z .draws) s;
               lists = subst (λ (z : State). Lists z cards′ counts′ rows′ days′ sums′ due′ keys′ intervals′) s (h .lists);
             }
 
   pub going-spent : {cards : List (List Float)} {counts rows days : List (List ℕ)} {sums : List (List Float)} {due : List ℕ} {keys : List (List ℕ)} {intervals : List Float} {n draws k : ℕ} → Going (state cards counts rows days sums due keys intervals n draws) k → bound ≤ k
-      → Ran g m s₀ bound (record { outcome = outcome.Ended; turns = k; draws = draws }) cards counts rows days sums due keys intervals
+      → Ran g m s₀ bound (record { stop = stop.Ended; turns = k; draws = draws }) cards counts rows days sums due keys intervals
   going-spent {cards} {counts} {rows} {days} {sums} {due} {keys} {intervals} {n} {draws} {k} i l =
       let e : k ≡ bound = omega (arith, i .within) in
       let none : bound - k ≡ 0 = omega arith in
       let st : State = state cards counts rows days sums due keys intervals n draws in
       let s : st ≡ (after bound) .state = i .at ∙ ap (λ (z : ℕ). (after z) .state) e in
       record {
-        outcome = ap stoppedBy (sym (ap (λ (z : ℕ). stopOf (next g m) ended z st) none) ∙ i .left);
+        stop-is = sym (ap (λ (z : ℕ). stopOf (next g m) stop.Ended z st) none) ∙ i .left;
         turns = sym (i .many) ∙ ap (λ (z : ℕ). length ((after z) .turns)) e;
         draws = ap (λ (z : State). z .draws) s;
         lists = lists-of ((after bound) .state) cards counts rows days sums due keys intervals n draws s;
@@ -117,7 +113,7 @@ module _ (g : SimulatorConfig) (m : Model) (s₀ : State) (bound : ℕ) where
 pub going-start : (g : SimulatorConfig) (m : Model) (bound : ℕ) (s : State) → Going g m s bound s 0
 going-start g m bound s =
     let e : bound - 0 ≡ bound = omega arith in
-    record { at = refl; many = refl; within = omega arith; left = ap (λ (z : ℕ). stopOf (next g m) ended z s) e }
+    record { at = refl; many = refl; within = omega arith; left = ap (λ (z : ℕ). stopOf (next g m) stop.Ended z s) e }
 
 -- the lists keep their lengths
 pub record Long (cards : List (List Float)) (counts rows days : List (List ℕ)) (sums : List (List Float)) (due : List ℕ) (keys : List (List ℕ)) (intervals : List Float) (cards′ : List (List Float)) (counts′ rows′ days′ : List (List ℕ)) (sums′ : List (List Float)) (due′ : List ℕ) (keys′ : List (List ℕ)) (intervals′ : List Float) : Type 0 where

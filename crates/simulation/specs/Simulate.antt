@@ -6,14 +6,15 @@ use lib.Ieee.{Float}
 use Rattle.turns.specs.Turns.{Turn}
 use Rattle.turns.specs.Run.{Reached, run, stopOf}
 use Rattle.cards.specs.declared.SimulatorConfig.{SimulatorConfig}
-use Rattle.simulation.specs.declared.Refusal.the-variants as refusal
+use Rattle.simulation.specs.declared.Stop.{Stop}
+use Rattle.simulation.specs.declared.Stop.the-variants as stop
 use Rattle.simulation.specs.declared.Check.{Check}
 use Rattle.simulation.specs.declared.Check.the-variants as check
 use Rattle.simulation.specs.declared.Progress.{Progress}
 use Rattle.simulation.specs.declared.Answer.{Answer}
 use Rattle.simulation.specs.declared.Answer.the-variants as answer
 use Rattle.simulation.specs.State.{State, Model}
-use Rattle.simulation.specs.Turn.{Stop, ended, chance, full, count, next}
+use Rattle.simulation.specs.Turn.{next}
 use Rattle.simulation.specs.Entry.{Inputs, checked}
 use Rattle.simulation.specs.SetUp.{setUp}
 
@@ -26,10 +27,8 @@ abbrev pub progress : ℕ → ℕ → ℕ → Progress
 progress turns cards draws = record { turns = turns; cards = cards; draws = draws }
 
 abbrev pub answerOf : Stop → Progress → Answer
-answerOf ended p = answer.Finished p
-answerOf (chance c) p = answer.Refused (refusal.Chance c) p
-answerOf (full c) p = answer.Refused (refusal.TableFull c) p
-answerOf (count c) p = answer.Refused (refusal.DueCount c) p
+answerOf stop.Ended p = answer.Finished p
+answerOf (stop.Refused r) p = answer.Refused r p
 
 -- one turn more than is ever taken (`ends`)
 abbrev pub bound : SimulatorConfig → State → ℕ
@@ -43,7 +42,7 @@ module _ (m : Model) (i : Inputs) where
   unfoldable pub finished : State → Result
   finished s =
       let r = ran s in
-      record { answer = answerOf (stopOf (next (i .config) m) ended (bound (i .config) s) s) (progress (length (r .turns)) (s .queue .len) (r .state .draws)); state = r .state }
+      record { answer = answerOf (stopOf (next (i .config) m) stop.Ended (bound (i .config) s) s) (progress (length (r .turns)) (s .queue .len) (r .state .draws)); state = r .state }
 
   -- an entry refusal leaves the lists as they are
   abbrev pub afterCheck : Check → State → Result

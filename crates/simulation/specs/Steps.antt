@@ -18,25 +18,24 @@ use Rattle.events.specs.declared.Memory.{Memory}
 use Rattle.queue.specs.Queue.{queue, frontChanged, popped, pushed}
 use Rattle.simulation.specs.declared.Outcome.{Outcome}
 use Rattle.simulation.specs.declared.Reach.{Reach}
-use Rattle.simulation.specs.declared.Progress.{Progress}
+use Rattle.simulation.specs.declared.Stop.{Stop}
+use Rattle.simulation.specs.declared.Stop.the-variants as stop
 use Rattle.simulation.specs.declared.Refusal.the-variants as refusal
 use Rattle.simulation.specs.declared.Answer.{Answer}
-use Rattle.simulation.specs.declared.Answer.the-variants as answer
 use Rattle.simulation.specs.declared.Outcome.the-variants as outcome
 use Rattle.simulation.specs.State.{State, Model, Lists, keyOf}
 use Rattle.simulation.specs.Simulate.{Result}
-use Rattle.simulation.specs.Turn.{Stop, ended, chance, full, count, putOffCard, holdCard, next}
+use Rattle.simulation.specs.Turn.{putOffCard, holdCard, next}
 
-abbrev pub stoppedBy : Stop → Outcome
-stoppedBy ended = outcome.Ended
-stoppedBy (chance c) = outcome.Chance c
-stoppedBy (full c) = outcome.TableFull c
-stoppedBy (count c) = outcome.DueCount c
+-- the stop of a turn that was not taken
+abbrev pub stopIn : Outcome → Stop
+stopIn (outcome.Took n r) = stop.Ended
+stopIn (outcome.Stopped x) = x
 
 -- a turn taken tells the queue's length and the state of the draws after it
 abbrev pub outcomeOf : Next (Turn Float) State Stop → Outcome
 outcomeOf (takes t s) = outcome.Took (s .queue .len) (s .draws)
-outcomeOf (stops x) = stoppedBy x
+outcomeOf (stops x) = outcome.Stopped x
 
 abbrev pub afterOf : State → Next (Turn Float) State Stop → State
 afterOf s (takes t s′) = s′
@@ -59,7 +58,7 @@ pub record Untouched (cards : List (List Float)) (rows : List (List ℕ)) (due :
   pub due-are : due′ ≡ due
 
 pub record PutOffStep (span c : ℕ) (k : Card) (d len draws : ℕ) (cards : List (List Float)) (rows : List (List ℕ)) (due : List ℕ) (r : Outcome) (cards′ : List (List Float)) (rows′ : List (List ℕ)) (due′ : List ℕ) : Type 0 where
-  pub refused : noneDue due (newOf (k .«last_date»)) d ≡ true → (r ≡ outcome.DueCount c) × Untouched cards rows due cards′ rows′ due′
+  pub refused : noneDue due (newOf (k .«last_date»)) d ≡ true → (r ≡ outcome.Stopped (stop.Refused (refusal.DueCount c))) × Untouched cards rows due cards′ rows′ due′
   pub done : noneDue due (newOf (k .«last_date»)) d ≡ false → (r ≡ outcome.Took len draws) × PutOff span c k d len cards rows due cards′ rows′ due′
 
 pub record RetireStep (g : SimulatorConfig) (m : Model) (k : Card) (len draws : ℕ) (sums : List (List Float)) (rows : List (List ℕ)) (r : Outcome) (sums′ : List (List Float)) (rows′ : List (List ℕ)) : Type 0 where
@@ -78,7 +77,7 @@ pub record CardWritten (c : ℕ) (k : Card) (len : ℕ) (cards : List (List Floa
 
 -- what the loop over turns leaves, from a state and for at most n turns
 pub record Ran (g : SimulatorConfig) (m : Model) (s : State) (n : ℕ) (r : Reach) (cards : List (List Float)) (counts rows days : List (List ℕ)) (sums : List (List Float)) (due : List ℕ) (keys : List (List ℕ)) (intervals : List Float) : Type 0 where
-  pub outcome : r .outcome ≡ stoppedBy (stopOf (next g m) ended n s)
+  pub stop-is : r .stop ≡ stopOf (next g m) stop.Ended n s
   pub turns : r .turns ≡ length ((run (next g m) n [] s) .turns)
   pub draws : r .draws ≡ (run (next g m) n [] s) .state .draws
   pub lists : Lists ((run (next g m) n [] s) .state) cards counts rows days sums due keys intervals
@@ -89,15 +88,7 @@ pub record Joined (k : Card) (len : ℕ) (cards : List (List Float)) (counts row
   pub counts-are : counts′ ≡ writeCounts counts len k
   pub queue-is : queue rows′ r ≡ pushed (queue rows len) len (keyOf k)
 
--- ---- the answer
-abbrev pub answered : Outcome → Progress → Answer
-answered (outcome.Took n r) p = answer.Finished p
-answered outcome.Ended p = answer.Finished p
-answered (outcome.Chance c) p = answer.Refused (refusal.Chance c) p
-answered (outcome.TableFull c) p = answer.Refused (refusal.TableFull c) p
-answered (outcome.DueCount c) p = answer.Refused (refusal.DueCount c) p
-
--- an answer and lists are those of a result
+-- ---- the answer: an answer and lists are those of a result
 pub record Done (x : Result) (r : Answer) (cards : List (List Float)) (counts rows days : List (List ℕ)) (sums : List (List Float)) (due : List ℕ) (keys : List (List ℕ)) (intervals : List Float) : Type 0 where
   pub answer : r ≡ x .answer
   pub lists : Lists (x .state) cards counts rows days sums due keys intervals

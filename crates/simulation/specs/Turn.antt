@@ -26,12 +26,15 @@ use Rattle.intervals.specs.declared.Slot.the-variants as slot
 use Rattle.intervals.specs.Bucket.{stabilityBucket, retentionBucket}
 use Rattle.intervals.specs.Table.{Table}
 use Rattle.intervals.specs.Schedule.{slotIn, intervalOf, entered}
+use Rattle.simulation.specs.declared.Refusal.{Refusal}
+use Rattle.simulation.specs.declared.Refusal.the-variants as refusal
+use Rattle.simulation.specs.declared.Stop.{Stop}
+use Rattle.simulation.specs.declared.Stop.the-variants as stop
 use Rattle.simulation.specs.State.{State, Model, cardIn, keyOf, withCards, withQueue, withSums, withDue}
 
--- how a run stops: by its end, or by refusal 7, 8 or 9 of a card
-pub data Stop : Type 0 where
-  ended : Stop
-  chance full count : ℕ → Stop
+-- a turn that is refused
+abbrev pub refuses : Refusal → Next (Turn Float) State Stop
+refuses r = stops (stop.Refused r)
 
 -- a card put off from day d
 unfoldable pub putOffCard : Card → ℕ → Card
@@ -108,11 +111,11 @@ module _ (g : SimulatorConfig) (m : Model) where
   abbrev pub handleAs : State → ℕ → Card → Bool → ℕ → Memory → Slot → Next (Turn Float) State Stop
   handleAs s c k new d x (slot.Keep v) = takes (turnAs c d (kindAs new x)) (handled s c k new d x (slot.Keep v))
   handleAs s c k new d x (slot.Enter p a b v) = takes (turnAs c d (kindAs new x)) (handled s c k new d x (slot.Enter p a b v))
-  handleAs s c k new d x slot.Full = stops (full c)
+  handleAs s c k new d x slot.Full = refuses (refusal.TableFull c)
 
   abbrev pub eventAs : State → ℕ → Card → Bool → ℕ → Event → Next (Turn Float) State Stop
   eventAs s c k new d (event.Happened x) = handleAs s c k new d x (slotFor (s .table) (x .stability) (k .«desired_retention»))
-  eventAs s c k new d event.Chance = stops (chance c)
+  eventAs s c k new d event.Chance = refuses (refusal.Chance c)
 
   unfoldable pub handle : State → ℕ → Card → Bool → ℕ → Next (Turn Float) State Stop
   handle s c k new d = eventAs s c k new d (m .event k new d (s .draws))
@@ -123,7 +126,7 @@ module _ (g : SimulatorConfig) (m : Model) where
 
   abbrev pub act : State → ℕ → Card → ℕ → Choice → Next (Turn Float) State Stop
   act s c k d choice.Retire = takes (turnAs c d retire) (retired s k)
-  act s c k d choice.PutOff = orElse (noneDue (s .due) (newOf (k .«last_date»)) d) (stops (count c)) (takes (turnAs c d putOff) (postponed s c k d))
+  act s c k d choice.PutOff = orElse (noneDue (s .due) (newOf (k .«last_date»)) d) (refuses (refusal.DueCount c)) (takes (turnAs c d putOff) (postponed s c k d))
   act s c k d choice.Learn = handle s c k true d
   act s c k d choice.Review = handle s c k false d
 
@@ -134,5 +137,5 @@ module _ (g : SimulatorConfig) (m : Model) where
   -- a turn looks at the queue's first card; the run ends when the queue is empty
   unfoldable pub next : State → Next (Turn Float) State Stop
   next s =
-      orElse (eqb (s .queue .len) 0) (stops ended)
+      orElse (eqb (s .queue .len) 0) (stops stop.Ended)
       (let c = front (s .queue) in let k = cardIn s c in turnOf s c k (dayOf (k .due)))

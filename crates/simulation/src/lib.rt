@@ -45,18 +45,21 @@ pub enum Answer {
     Refused(Refusal, Progress),
 }
 
+// How a run stops: at its end, or refused.
+pub enum Stop {
+    Ended,
+    Refused(Refusal),
+}
+
 // What a turn comes to: the queue's length and the state of the draws after it; or the run stops.
 pub enum Outcome {
     Took(u32, u64),
-    Ended,
-    Chance(u32),
-    TableFull(u32),
-    DueCount(u32),
+    Stopped(Stop),
 }
 
 // What a run of turns came to.
 pub struct Reach {
-    pub outcome: Outcome,
+    pub stop: Stop,
     pub turns: u32,
     pub draws: u64,
 }

@@ -3,7 +3,7 @@ use super::Answer;
 use super::Outcome;
 use super::Progress;
 use super::Reach;
-use super::Refusal;
+use super::Stop;
 use cards::SimulatorConfig;
 use model::Fsrs7;
 ghost use mathlib.Core.Path.{_≡_};
@@ -12,11 +12,21 @@ ghost use Rattle.model.specs.Kept as Kept;
 ghost use Rattle.events.specs.Scalars.{kept};
 ghost use Rattle.simulation.specs.State.{state};
 ghost use Rattle.simulation.specs.Model.{modelOf};
-ghost use Rattle.simulation.specs.Steps.{Ran, answered, Done};
+ghost use Rattle.simulation.specs.Steps.{stopIn, Ran, Done};
 ghost use Rattle.simulation.specs.declared.Check.the-variants as check;
 ghost use Rattle.simulation.specs.Entry.{inputs, checked};
 ghost use Rattle.simulation.specs.SetUp.{setUp};
-ghost use Rattle.simulation.specs.Simulate.{progress, finished};
+ghost use Rattle.simulation.specs.Simulate.{progress, answerOf, finished};
+
+// The stop of a turn that was not taken.
+fn stop_in(o: Outcome) -> Stop
+    ensures { λ r. ⌜ r ≡ stopIn o ⌝ }
+{
+    match o {
+        Outcome::Took(_, _) => Stop::Ended,
+        Outcome::Stopped(stop) => stop,
+    }
+}
 
 // At most `bound` turns.
 fn run_turns(
@@ -57,7 +67,7 @@ fn run_turns(
         );
         let Outcome::Took(left, after) = o else {
             return Reach {
-                outcome: o,
+                stop: stop_in(o),
                 turns,
                 draws,
             };
@@ -67,7 +77,7 @@ fn run_turns(
         turns += 1;
     }
     Reach {
-        outcome: Outcome::Ended,
+        stop: Stop::Ended,
         turns,
         draws,
     }
@@ -81,20 +91,17 @@ fn bound_of(len: u32, span: u32) -> u32
 }
 
 fn answer_of(r: Reach, cards: u32) -> Answer
-    ensures { λ x. ⌜ x ≡ answered (r .outcome) (progress (r .turns) cards (r .draws)) ⌝ }
+    ensures { λ x. ⌜ x ≡ answerOf (r .stop) (progress (r .turns) cards (r .draws)) ⌝ }
 {
     let progress = Progress {
         turns: r.turns,
         cards,
         draws: r.draws,
     };
-    let outcome = r.outcome;
-    match outcome {
-        Outcome::Took(_, _) => Answer::Finished(progress),
-        Outcome::Ended => Answer::Finished(progress),
-        Outcome::Chance(c) => Answer::Refused(Refusal::Chance(c), progress),
-        Outcome::TableFull(c) => Answer::Refused(Refusal::TableFull(c), progress),
-        Outcome::DueCount(c) => Answer::Refused(Refusal::DueCount(c), progress),
+    let stop = r.stop;
+    match stop {
+        Stop::Ended => Answer::Finished(progress),
+        Stop::Refused(refusal) => Answer::Refused(refusal, progress),
     }
 }
 

@@ -1,5 +1,7 @@
 // A turn: what the queue's first card does, and what that writes. A refusal comes before the turn's first write.
 use super::Outcome;
+use super::Refusal;
+use super::Stop;
 use cards::Card;
 use cards::Choice;
 use cards::SimulatorConfig;
@@ -149,7 +151,7 @@ fn put_off_step(
 {
     let new = cards::is_new(card.last_date);
     if days::none_due(due, new, d) {
-        return Outcome::DueCount(c);
+        return Outcome::Stopped(Stop::Refused(Refusal::DueCount(c)));
     }
     put_off(cards, rows, due, span, c, card, d, len);
     Outcome::Took(len, draws)
@@ -260,7 +262,7 @@ fn event_step(
     let curve = m.curve(card.stability);
     let drawn = event_of(config, m, curve, card, new, d, draws);
     let Event::Happened(x) = drawn else {
-        return Outcome::Chance(c);
+        return Outcome::Stopped(Stop::Refused(Refusal::Chance(c)));
     };
     let slot = intervals::scheduled_interval(
         m,
@@ -271,7 +273,7 @@ fn event_step(
         intervals,
     );
     if intervals::is_full(slot) {
-        return Outcome::TableFull(c);
+        return Outcome::Stopped(Stop::Refused(Refusal::TableFull(c)));
     }
     let later = event_card(card, new, x, d, intervals::interval_in(slot));
     write_card(cards, counts, rows, c, later, len);
@@ -301,7 +303,7 @@ pub(crate) fn turn(
         (now (cards .exit)) (now (counts .exit)) (now (rows .exit)) (now (days .exit)) (now (sums .exit)) (now (due .exit)) (now (keys .exit)) (now (intervals .exit))) ⌝ }
 {
     if len == 0 {
-        return Outcome::Ended;
+        return Outcome::Stopped(Stop::Ended);
     }
     let queue = CardPriorityQueue { len };
     let c = queue.peek_index(rows);

@@ -1,4 +1,5 @@
--- `simulation::run::run_turns` meets its contract.
+-- The invariant of its loop, `Going`: after k turns the lists are the state of `run k`, and what is left stops as the whole does; `Long`: the lists are as long
+-- as they came. The measure is the bound less the turns.
 use Prim.Native.Nat.{_-_}
 use native.Mathlib.Omega.{arith}
 use mathlib.Core.Path.{refl, _∙_}
@@ -25,43 +26,71 @@ turn-requires c κs = tt
 enum-known-o : tie.Need-enum-known-o Inv-loop μ-loop
 enum-known-o c = search needs
 
+enum-told : tie.Need-enum-told Inv-loop μ-loop
+enum-told c = search needs
+
+stop-in-requires : tie.Need-stop-in-requires Inv-loop μ-loop
+stop-in-requires c κs = tt
+
 same-length : tie.Need-same-length Inv-loop μ-loop
-same-length c = c .before .before .before .before .before .before .before .before .before .before .before .turn .kept .0 ∙ c .before .before .before .before .before .before .before .before .before .before .before .before .before .before .before .before .before .before .before .before .before .loop .inv .1 .k0
+same-length c =
+    let at-turn = c .before .before .before .before .before .before .before .before .before .before .before .before .before in
+    let at-loop = at-turn .before .before .before .before .before .before .before .before .before .before in
+    at-turn .turn .kept .0 ∙ at-loop .loop .inv .1 .k0
 
 same-length-2 : tie.Need-same-length-2 Inv-loop μ-loop
-same-length-2 c = c .before .before .before .before .before .before .before .before .before .before .before .turn .kept .1 .0 ∙ c .before .before .before .before .before .before .before .before .before .before .before .before .before .before .before .before .before .before .before .before .before .loop .inv .1 .k1
+same-length-2 c =
+    let at-turn = c .before .before .before .before .before .before .before .before .before .before .before .before .before in
+    let at-loop = at-turn .before .before .before .before .before .before .before .before .before .before in
+    at-turn .turn .kept .1 .0 ∙ at-loop .loop .inv .1 .k1
 
 same-length-3 : tie.Need-same-length-3 Inv-loop μ-loop
-same-length-3 c = c .before .before .before .before .before .before .before .before .before .before .before .turn .kept .1 .1 .0 ∙ c .before .before .before .before .before .before .before .before .before .before .before .before .before .before .before .before .before .before .before .before .before .loop .inv .1 .k2
+same-length-3 c =
+    let at-turn = c .before .before .before .before .before .before .before .before .before .before .before .before .before in
+    let at-loop = at-turn .before .before .before .before .before .before .before .before .before .before in
+    at-turn .turn .kept .1 .1 .0 ∙ at-loop .loop .inv .1 .k2
 
 same-length-4 : tie.Need-same-length-4 Inv-loop μ-loop
-same-length-4 c = c .before .before .before .before .before .before .before .before .before .before .before .turn .kept .1 .1 .1 .0 ∙ c .before .before .before .before .before .before .before .before .before .before .before .before .before .before .before .before .before .before .before .before .before .loop .inv .1 .k3
+same-length-4 c =
+    let at-turn = c .before .before .before .before .before .before .before .before .before .before .before .before .before in
+    let at-loop = at-turn .before .before .before .before .before .before .before .before .before .before in
+    at-turn .turn .kept .1 .1 .1 .0 ∙ at-loop .loop .inv .1 .k3
 
 same-length-5 : tie.Need-same-length-5 Inv-loop μ-loop
-same-length-5 c = c .before .before .before .before .before .before .before .before .before .before .before .turn .kept .1 .1 .1 .1 .0 ∙ c .before .before .before .before .before .before .before .before .before .before .before .before .before .before .before .before .before .before .before .before .before .loop .inv .1 .k4
+same-length-5 c =
+    let at-turn = c .before .before .before .before .before .before .before .before .before .before .before .before .before in
+    let at-loop = at-turn .before .before .before .before .before .before .before .before .before .before in
+    at-turn .turn .kept .1 .1 .1 .1 .0 ∙ at-loop .loop .inv .1 .k4
 
 same-length-6 : tie.Need-same-length-6 Inv-loop μ-loop
-same-length-6 c = c .before .before .before .before .before .before .before .before .before .before .before .turn .kept .1 .1 .1 .1 .1 .0 ∙ c .before .before .before .before .before .before .before .before .before .before .before .before .before .before .before .before .before .before .before .before .before .loop .inv .1 .k5
+same-length-6 c =
+    let at-turn = c .before .before .before .before .before .before .before .before .before .before .before .before .before in
+    let at-loop = at-turn .before .before .before .before .before .before .before .before .before .before in
+    at-turn .turn .kept .1 .1 .1 .1 .1 .0 ∙ at-loop .loop .inv .1 .k5
 
 same-length-7 : tie.Need-same-length-7 Inv-loop μ-loop
-same-length-7 c = c .before .before .before .before .before .before .before .before .before .before .before .turn .kept .1 .1 .1 .1 .1 .1 .0 ∙ c .before .before .before .before .before .before .before .before .before .before .before .before .before .before .before .before .before .before .before .before .before .loop .inv .1 .k6
+same-length-7 c =
+    let at-turn = c .before .before .before .before .before .before .before .before .before .before .before .before .before in
+    let at-loop = at-turn .before .before .before .before .before .before .before .before .before .before in
+    at-turn .turn .kept .1 .1 .1 .1 .1 .1 .0 ∙ at-loop .loop .inv .1 .k6
 
 same-length-8 : tie.Need-same-length-8 Inv-loop μ-loop
 same-length-8 c =
-    let at-turn = c .before .before .before .before .before .before .before .before .before .before .before in
+    let at-turn = c .before .before .before .before .before .before .before .before .before .before .before .before .before in
     let at-loop = at-turn .before .before .before .before .before .before .before .before .before .before in
     at-turn .turn .kept .1 .1 .1 .1 .1 .1 .1 .0 ∙ at-loop .loop .inv .1 .k7
 
 returns : tie.Need-returns Inv-loop μ-loop
 returns c =
-    let at-turn = c .before .before .before .before .before .before .before .before .before .before .before in
+    let at-match = c .before .before in
+    let at-turn = at-match .before .before .before .before .before .before .before .before .before .before .before in
     let at-loop-test = at-turn .before .before .before .before .before .before .before .before .before in
     let at-loop = at-loop-test .before in
     let start = at-loop .before .before .before in
     going-stops (start .args .config) (modelOf (start .args .config) (kept (start .args .m)))
     (state (start .args .cards .now) (start .args .counts .now) (start .args .rows .now) (start .args .days .now) (start .args .sums .now) (start .args .due .now) (start .args .keys .now) (start .args .intervals .now) (start .args .len) (start .args .seed))
     (start .args .bound) (at-loop .loop .inv .0) (at-turn .turn .ensures) (at-loop-test .loop-test .taken)
-    (c .match .keys2)
+    (at-match .match .keys2) (c .stop-in .result) (c .stop-in .ensures)
 
 add-turns : tie.Need-add-turns Inv-loop μ-loop
 add-turns c =
@@ -120,6 +149,8 @@ run-turns-spec =
     loop-holds
     turn-requires
     enum-known-o
+    enum-told
+    stop-in-requires
     same-length
     same-length-2
     same-length-3
