@@ -17,7 +17,7 @@ use Rattle.model.proofs.Laws.{scheduled-between}
 use Rattle.cards.specs.declared.SimulatorConfig.{SimulatorConfig}
 use Rattle.cards.specs.Config.{rowOf, threeOf, weightsOk, transitionsOk, costsOk, intervalOk, configOk}
 use Rattle.cards.proofs.Later.{Fair, one-is}
-use Rattle.events.specs.Scalars.{Scalars, plain, kept}
+use Rattle.events.specs.Scalars.{Scalars, kept}
 use Rattle.events.proofs.Loops.{kept-is}
 use Rattle.simulation.specs.declared.Refusal.{Refusal}
 use Rattle.simulation.specs.declared.Check.{Check}
@@ -32,7 +32,7 @@ use Rattle.simulation.specs.Turn.{next}
 use Rattle.simulation.specs.Entry.{Inputs, inputs, checked}
 use Rattle.simulation.specs.SetUp.{setUp}
 use Rattle.simulation.specs.Simulate.{progress, bound, ran, finished, simulated}
-use Rattle.simulation.specs.Demands.{Finished, modelFor, cardsOf, turnsOf, DemandThree, LimitsFit}
+use Rattle.simulation.specs.Demands.{Finished, modelFor, cardsOf, turnsOf, DemandThree}
 use Rattle.simulation.specs.Steps.{Done}
 use Rattle.simulation.proofs.Good.{Fine}
 use Rattle.simulation.proofs.Accepted.{Accepted, accepted, both}
@@ -87,64 +87,57 @@ module _ (i : Inputs) (s : State) (ok : Accepted i s) where
   pub fresh-fair : (x y : Float) → Fair (modelFor i .fresh x y)
   fresh-fair x y = scheduled-fair (i .parameters) x y (i .config .«max_ivl») (interval-ok (i .config) (ok .config-ok))
 
-  pub fine : LimitsFit (i .config) → Fine (i .config) (cardsOf i s)
-  fine f = record {
+  pub fine : Fine (i .config) (cardsOf i s)
+  fine = record {
     some = ok .span-some;
     most = ok .span-most;
-    learns-fit = f .learns;
-    reviews-fit = f .reviews;
-    lapses-fit = f .lapses;
     few = omega (arith, set-up-few i s ok, ok .deck-most);
   }
 
   -- the bound on turns never shows: the run has stopped
-  pub has-stopped : LimitsFit (i .config) → (y : Stop) × (next (i .config) (modelFor i) ((ran (modelFor i) i (setUp i s)) .state) ≡ stops y)
+  pub has-stopped : (y : Stop) × (next (i .config) (modelFor i) ((ran (modelFor i) i (setUp i s)) .state) ≡ stops y)
   unfolding ran
-  has-stopped f = ends (i .config) (modelFor i) (cardsOf i s) (fine f) fresh-fair (setUp i s) (set-up-good i s ok)
+  has-stopped = ends (i .config) (modelFor i) (cardsOf i s) fine fresh-fair (setUp i s) (set-up-good i s ok)
 
-  pub few-turns : LimitsFit (i .config) → length (turnsOf i s) ≤ cardsOf i s * suc (i .config .«learn_span»)
+  pub few-turns : length (turnsOf i s) ≤ cardsOf i s * suc (i .config .«learn_span»)
   unfolding ran
-  few-turns f = turns-demand (i .config) (modelFor i) (cardsOf i s) (fine f) fresh-fair _ (setUp i s) (set-up-start i s ok) (set-up-good i s ok) (bound (i .config) (setUp i s)) .few
+  few-turns = turns-demand (i .config) (modelFor i) (cardsOf i s) fine fresh-fair _ (setUp i s) (set-up-start i s ok) (set-up-good i s ok) (bound (i .config) (setUp i s)) .few
 
-  pub demand-three : LimitsFit (i .config) → (counts days : List (List ℕ)) → counts ≡ (ran (modelFor i) i (setUp i s)) .state .counts → days ≡ (ran (modelFor i) i (setUp i s)) .state .days → DemandThree i s counts days
+  pub demand-three : (counts days : List (List ℕ)) → counts ≡ (ran (modelFor i) i (setUp i s)) .state .counts → days ≡ (ran (modelFor i) i (setUp i s)) .state .days → DemandThree i s counts days
   unfolding ran
-  demand-three f counts days ec ed =
+  demand-three counts days ec ed =
       let b = bound (i .config) (setUp i s) in
       record {
-        demand = turns-demand (i .config) (modelFor i) (cardsOf i s) (fine f) fresh-fair _ (setUp i s) (set-up-start i s ok) (set-up-good i s ok) b;
-        rows = rw (ec, ed) (turns-rows (i .config) (modelFor i) (cardsOf i s) (fine f) fresh-fair _ (setUp i s) (set-up-start i s ok) (set-up-good i s ok) b);
+        demand = turns-demand (i .config) (modelFor i) (cardsOf i s) fine fresh-fair _ (setUp i s) (set-up-start i s ok) (set-up-good i s ok) b;
+        rows = rw (ec, ed) (turns-rows (i .config) (modelFor i) (cardsOf i s) fine fresh-fair _ (setUp i s) (set-up-start i s ok) (set-up-good i s ok) b);
       }
 
 -- ---- the entry point
-module _ (g : SimulatorConfig) (w : List Float) (retention : Float) (seed : ℕ) (es : List (List Float)) (ns : List (List ℕ))
-    (cards : List (List Float)) (counts rows days : List (List ℕ)) (sums : List (List Float)) (due : List ℕ) (keys : List (List ℕ)) (intervals : List Float) where
-  abbrev i : Inputs
-  i = inputs g w retention seed es ns
+pub not-finished : (r : Refusal) (p : Progress) → Finished (answer.Refused r p) → ⊥
+not-finished r p f = let e = f .1 in let z : _≡_ {A = ℕ} 0 1 = cc in omega arith
 
-  abbrev s : State
-  s = state cards counts rows days sums due keys intervals 0 seed
-
+module _ (i : Inputs) (s : State) where
   -- the entry's tests look neither at the seed nor at the draws
-  pub same-check : (c : Check) → c ≡ checked (inputs g w retention 0 es ns) (state cards counts rows days sums due keys intervals 0 0) → c ≡ checked i s
+  pub same-check : {c : Check}
+      → c ≡ checked (inputs (i .config) (i .parameters) (i .retention) 0 (i .existing) (i .existing-counts)) (state (s .cards) (s .counts) (s .queue .rows) (s .days) (s .sums) (s .due) (s .table .keys) (s .table .intervals) 0 0)
+      → c ≡ checked i s
   unfolding checked
-  same-check c e = e
+  same-check e = e
 
-  pub refused-is : (r : Refusal) → checked i s ≡ check.Failed r → Done (simulated (modelOf g (plain w)) i s) (answer.Refused r (progress 0 0 seed)) cards counts rows days sums due keys intervals
+  pub refused-is : (r : Refusal) → checked i s ≡ check.Failed r
+      → Done (simulated (modelFor i) i s) (answer.Refused r (progress 0 0 (i .seed))) (s .cards) (s .counts) (s .queue .rows) (s .days) (s .sums) (s .due) (s .table .keys) (s .table .intervals)
   unfolding simulated
   refused-is r e = rw e (record { answer = refl; lists = record { cards-are = refl; counts-are = refl; rows-are = refl; days-are = refl; sums-are = refl; due-are = refl; table-is = refl } })
 
-  pub not-finished : (r : Refusal) (p : Progress) → Finished (answer.Refused r p) → ⊥
-  not-finished r p f = let e = f .1 in let z : _≡_ {A = ℕ} 0 1 = cc in omega arith
+  module _ (e : checked i s ≡ check.Passed) {r : Answer} {c′ : List (List Float)} {n′ r′ d′ : List (List ℕ)} {u′ : List (List Float)} {v′ : List ℕ} {k′ : List (List ℕ)} {t′ : List Float}
+      (d : Done (finished (modelOf (i .config) (kept (Kept.newOf (i .parameters)))) i (setUp i s)) r c′ n′ r′ d′ u′ v′ k′ t′) where
+    plainly : Done (finished (modelFor i) i (setUp i s)) r c′ n′ r′ d′ u′ v′ k′ t′
+    plainly = subst (λ (x : Scalars). Done (finished (modelOf (i .config) x) i (setUp i s)) r c′ n′ r′ d′ u′ v′ k′ t′) (kept-is (i .parameters)) d
 
-  module _ (r : Answer) (c′ : List (List Float)) (n′ r′ d′ : List (List ℕ)) (u′ : List (List Float)) (v′ : List ℕ) (k′ : List (List ℕ)) (t′ : List Float)
-      (e : checked i s ≡ check.Passed) (d : Done (finished (modelOf g (kept (Kept.newOf w))) i (setUp i s)) r c′ n′ r′ d′ u′ v′ k′ t′) where
-    plainly : Done (finished (modelOf g (plain w)) i (setUp i s)) r c′ n′ r′ d′ u′ v′ k′ t′
-    plainly = subst (λ (x : Scalars). Done (finished (modelOf g x) i (setUp i s)) r c′ n′ r′ d′ u′ v′ k′ t′) (kept-is w) d
-
-    pub accepted-is : Done (simulated (modelOf g (plain w)) i s) r c′ n′ r′ d′ u′ v′ k′ t′
+    pub accepted-is : Done (simulated (modelFor i) i s) r c′ n′ r′ d′ u′ v′ k′ t′
     unfolding simulated
     accepted-is = rw e plainly
 
-    pub three-is : LimitsFit g → DemandThree i s n′ d′
+    pub three-is : DemandThree i s n′ d′
     unfolding finished
-    three-is f = demand-three i s (accepted i s e) f n′ d′ (plainly .lists .counts-are) (plainly .lists .days-are)
+    three-is = demand-three i s (accepted i s e) n′ d′ (plainly .lists .counts-are) (plainly .lists .days-are)

@@ -28,7 +28,7 @@ use Rattle.simulation.specs.Turn.{slotFor, next}
 use Rattle.simulation.specs.Entry.{Inputs, checked}
 use Rattle.simulation.specs.SetUp.{emptied, setUp}
 use Rattle.simulation.specs.Simulate.{Result, progress, answerOf, bound, ran, finished, simulated}
-use Rattle.simulation.specs.Demands.{Finished, modelFor, cardsOf, turnsOf, LimitsFit, LongerTable, SameRun}
+use Rattle.simulation.specs.Demands.{Finished, modelFor, cardsOf, turnsOf, LongerTable, SameRun}
 use Rattle.simulation.proofs.Accepted.{Accepted, accepted}
 use Rattle.simulation.proofs.Claims.{fresh-fair, has-stopped, few-turns}
 use Rattle.simulation.proofs.Tables.{run-sound}
@@ -55,7 +55,7 @@ table-full i s e n x y =
     empty : (i : Inputs) (s : State) → Sound (setUp i s .table)
     empty i s = unfold setUp in clear-sound (s .table)
 
-module _ (i : Inputs) (s : State) (fit : LimitsFit (i .config)) (e : checked i s ≡ check.Passed) where
+module _ (i : Inputs) (s : State) (e : checked i s ≡ check.Passed) where
   abbrev s₀ : State
   s₀ = setUp i s
 
@@ -64,7 +64,7 @@ module _ (i : Inputs) (s : State) (fit : LimitsFit (i .config)) (e : checked i s
 
   -- DEMAND 3: the run comes to its end or to a refusal within cards × (span + 1) turns, so its bound never shows
   pub ends-within : length (turnsOf i s) ≤ cardsOf i s * suc (i .config .«learn_span»)
-  ends-within = few-turns i s ok fit
+  ends-within = few-turns i s ok
 
   pub stops-so : (y : Stop) → next (i .config) (modelFor i) ((ran (modelFor i) i s₀) .state) ≡ stops y → stopOf (next (i .config) (modelFor i)) stop.Ended (bound (i .config) s₀) s₀ ≡ y
   unfolding ran
@@ -82,14 +82,14 @@ module _ (i : Inputs) (s : State) (fit : LimitsFit (i .config)) (e : checked i s
   pub ok-ends : Finished (simulated (modelFor i) i s .answer) → next (i .config) (modelFor i) ((ran (modelFor i) i s₀) .state) ≡ stops stop.Ended
   unfolding finished
   ok-ends f =
-      let h = has-stopped i s ok fit in
+      let h = has-stopped i s ok in
       let a : finished (modelFor i) i s₀ .answer ≡ answer.Finished (f .0) = sym (ap (λ (r : Result). r .answer) finished-is) ∙ f .1 in
       let z : stopOf (next (i .config) (modelFor i)) stop.Ended (bound (i .config) s₀) s₀ ≡ stop.Ended = end-of (stopOf (next (i .config) (modelFor i)) stop.Ended (bound (i .config) s₀) s₀) _ (f .0) a in
       h .1 ∙ ap stops (sym (stops-so (h .0) (h .1)) ∙ z)
 
 -- DEMAND 3, the longer table: a run that ends Ok ends Ok with any longer interval table and all else alike, with the same turns, draws, answer,
 -- rows, due counts and cards
-module _ (i : Inputs) (s s′ : State) (fit : LimitsFit (i .config)) (e : checked i s ≡ check.Passed) (e′ : checked i s′ ≡ check.Passed) (longer : LongerTable s s′) where
+module _ (i : Inputs) (s s′ : State) (e : checked i s ≡ check.Passed) (e′ : checked i s′ ≡ check.Passed) (longer : LongerTable s s′) where
   set-up-same : (t : Table) → setUp i (withTable s t) ≡ withTable (setUp i s) (clearIn t)
   unfolding setUp emptied
   set-up-same t = refl
@@ -121,17 +121,17 @@ module _ (i : Inputs) (s s′ : State) (fit : LimitsFit (i .config)) (e : checke
   longer-table f =
       let g = i .config in
       let m = modelFor i in
-      let q = ok-ends i s fit e f in
+      let q = ok-ends i s e f in
       let b : bound g (setUp i s′) ≡ bound g (setUp i s) = ap (λ (z : ℕ). suc (z * suc (g .«learn_span»))) same-length in
       let r = run-longer g m (fresh-fair i s (accepted i s e)) (bound g (setUp i s)) (setUp i s) (setUp i s′) alike q in
       let r′ : run (next g m) (bound g (setUp i s′)) [] (setUp i s′) ≡ run (next g m) (bound g (setUp i s)) [] (setUp i s′) = ap (λ (z : ℕ). run (next g m) z [] (setUp i s′)) b in
       let st : (ran m i (setUp i s′)) .state ≡ (run (next g m) (bound g (setUp i s)) [] (setUp i s′)) .state = ap (λ (z : Reached (Turn Float) State). z .state) r′ in
-      let one : stopOf (next g m) stop.Ended (bound g (setUp i s)) (setUp i s) ≡ stop.Ended = stops-so i s fit e stop.Ended q in
-      let two : stopOf (next g m) stop.Ended (bound g (setUp i s′)) (setUp i s′) ≡ stop.Ended = stops-so i s′ fit e′ stop.Ended (ap (λ (z : State). next g m z) st ∙ r .stop) in
+      let one : stopOf (next g m) stop.Ended (bound g (setUp i s)) (setUp i s) ≡ stop.Ended = stops-so i s e stop.Ended q in
+      let two : stopOf (next g m) stop.Ended (bound g (setUp i s′)) (setUp i s′) ≡ stop.Ended = stops-so i s′ e′ stop.Ended (ap (λ (z : State). next g m z) st ∙ r .stop) in
       let turns : length ((ran m i (setUp i s′)) .turns) ≡ length ((ran m i (setUp i s)) .turns) = ap (λ (z : Reached (Turn Float) State). length (z .turns)) r′ ∙ ap (λ (z : List (Turn Float)). length z) (sym (r .turns)) in
       let all : (ran m i (setUp i s′)) .state ≡ withTable ((ran m i (setUp i s)) .state) ((run (next g m) (bound g (setUp i s)) [] (setUp i s′)) .state .table) = st ∙ r .states .same in
       let draws : (ran m i (setUp i s′)) .state .draws ≡ (ran m i (setUp i s)) .state .draws = ap (λ (z : State). z .draws) all in
-      rw (finished-is i s fit e, finished-is i s′ fit e′)
+      rw (finished-is i s e, finished-is i s′ e′)
       (record {
         answers = rw (two, one) (same-answer (length ((ran m i (setUp i s)) .turns)) (length ((ran m i (setUp i s′)) .turns)) (setUp i s .queue .len) (setUp i s′ .queue .len) ((ran m i (setUp i s)) .state .draws) ((ran m i (setUp i s′)) .state .draws) turns same-length draws);
         cards-are = ap (λ (z : State). z .cards) all;

@@ -6,14 +6,14 @@ use mathlib.Core.Logic.{_≢_}
 use Prim.Native.Nat.{ℕ, _+_, _-_, _*_, _^_, _≤_, _<_, min}
 use native.Mathlib.Decide.{ℕ-discrete}
 use native.Mathlib.Omega.{arith}
-use lib.Dec.{leb}
+use lib.Dec.{leb, ltb}
 use lib.ListN.{getD, length, length-set}
 use lib.Seq.{getD-set-same, getD-set-other}
 use lib.IntN.{pos}
 use lib.Ieee.{Float, binary32, ofInt, ofBits, le, toUnsigned}
 use Rattle.turns.specs.Sums.{bit, sumTo}
 use Rattle.turns.specs.Turns.{Turn, Kind, putOff, retire}
-use Rattle.turns.proofs.Sums.{sum-same}
+use Rattle.turns.proofs.Sums.{sum-same, sum-at, lt-step}
 use Rattle.turns.proofs.Demand.{Step}
 use Rattle.cards.specs.declared.SimulatorConfig.{SimulatorConfig}
 use Rattle.cards.specs.declared.Card.{Card}
@@ -35,17 +35,14 @@ use Rattle.simulation.specs.Turn.{putOffCard, holdCard, postponed, retir
 use Rattle.simulation.specs.Rules.{costs, limits}
 use Rattle.simulation.proofs.Views.{difficultyIn, dayIn, newIn, keyIn, view, columns}
 
--- of the configuration and the number of cards, by the entry's refusals and by the types
+-- of the configuration and the number of cards, by the entry's refusals
 pub record Fine (g : SimulatorConfig) (cards : ℕ) : Type 0 where
   pub some : 0 < g .«learn_span»
   pub most : g .«learn_span» ≤ 36500
-  pub learns-fit : g .«learn_limit» < 2 ^ 32
-  pub reviews-fit : g .«review_limit» < 2 ^ 32
-  pub lapses-fit : g .«suspend_after_lapses» < 2 ^ 32
   pub few : cards ≤ 65536
 
--- of the state: lists long enough, each queued card with its key, days that fit an i32, used intervals of 1 to 36,500, and counts that
--- stay below the top of a u32
+-- of the state: lists long enough, each queued card with its key, days that fit an i32, used intervals of 1 to 36,500; no more
+-- recalls than reviews, no more introduced than cards, a day's events no more than the cards that are now due later, and a lapse a day at most
 pub record Good (cards span : ℕ) (s : State) : Type 0 where
   pub cards-long : cards ≤ length (s .cards)
   pub counts-long : cards ≤ length (s .counts)
@@ -56,6 +53,8 @@ pub record Good (cards span : ℕ) (s : State) : Type 0 where
   pub held : (p : ℕ) → p < places (s .table) → freeAt (s .table) p ≡ false → Fair (valueAt (s .table) p)
   pub rights : (d : ℕ) → d < span → columns .correct s d ≤ columns .reviewed s d
   pub intro : (d : ℕ) → d < span → columns .introduced s d + sumTo cards (λ c. bit (newIn (s .cards) c)) ≤ cards
+  pub events : (d : ℕ) → d < span → columns .learned s d + columns .reviewed s d ≤ sumTo cards (λ c. bit (ltb d (dayIn (s .cards) c)))
+  pub lapses : (c : ℕ) → c < cards → columns .lapses s c ≤ 4000000000 + min (dayIn (s .cards) c) span
 
 bits-same : (b : Bool) → key.bit b ≡ bit b
 bits-same true = refl
@@ -203,7 +202,7 @@ module _ (g : SimulatorConfig) (m : Model) (cards : ℕ) (fine : Fine g cards) (
       }
 
   pub good-put : retires g k ≡ false → Good cards (g .«learn_span») (postponed g m s c k d)
-  unfolding postponed
+  unfolding postponed cardAt
   good-put e = record {
     cards-long = omega (arith, good .cards-long, write-long fs c k′);
     counts-long = good .counts-long;
@@ -214,8 +213,17 @@ module _ (g : SimulatorConfig) (m : Model) (cards : ℕ) (fine : Fine g cards) (
     held = good .held;
     rights = good .rights;
     intro = λ i l. omega (arith, good .intro i l, sum-same cards (λ x. bit (newIn fs′ x)) (λ x. bit (newIn fs x)) (λ x u. ap bit (put-new x)));
+    events = λ i l. omega (arith, good .events i l, lt-step i d (dayIn fs′ c) later, sum-at cards c (λ x. bit (ltb i (dayIn fs x))) (λ x. bit (ltb i (dayIn fs′ x))) is-card (λ x ne. ap (λ (y : ℕ). bit (ltb i y)) (else-day fs c k′ x ne)));
+    lapses = λ x l. few x l (ℕ-discrete x c);
   }
     where
+      later : d < dayIn fs′ c
+      later = rw put-own-day (day-later d (ofBits binary32 0x3F80_0000) (omega (arith, in-span e, fine .most)) (one-fair .least))
+
+      few : (x : ℕ) → x < cards → Dec (x ≡ c) → columns .lapses s x ≤ 4000000000 + min (dayIn fs′ x) (g .«learn_span»)
+      few x l (yes q) = omega (arith, good .lapses x l, later, ap (dayIn fs) q, ap (dayIn fs′) q)
+      few x l (no q) = omega (arith, good .lapses x l, else-day fs c k′ x q)
+
       at : (x : ℕ) → x < cards → Dec (x ≡ c) → dayIn fs′ x < 2147483648
       at x l (yes q) = let b = day-bound d (ofBits binary32 0x3F80_0000) (omega (arith, in-span e, fine .most)) one-fair in rw (q, put-own-day) (omega arith)
       at x l (no q) = omega (arith, else-day fs c k′ x q, good .near x l)
@@ -248,4 +256,6 @@ module _ (g : SimulatorConfig) (m : Model) (cards : ℕ) (fine : Fine g cards) (
     held = good .held;
     rights = good .rights;
     intro = good .intro;
+    events = good .events;
+    lapses = good .lapses;
   }

@@ -3,7 +3,7 @@ use mathlib.Core.Path.{_≡_, refl, sym, ap, _∙_}
 use mathlib.Core.Bool.{Bool, true, false, not, _&&_, cond}
 use mathlib.Core.List.{List, []}
 use mathlib.Core.Logic.{_≢_}
-use Prim.Native.Nat.{ℕ, suc, _+_, _-_, _≤_, _<_}
+use Prim.Native.Nat.{ℕ, suc, _+_, _-_, _≤_, _<_, min}
 use native.Mathlib.Decide.{ℕ-discrete}
 use native.Mathlib.Omega.{arith}
 use lib.Dec.{ltb, eqb}
@@ -15,7 +15,7 @@ use lib.Ieee.Exact.{HasValue}
 use lib.Ieee.Back.{round-whole}
 use Rattle.turns.specs.Sums.{bit, sumTo}
 use Rattle.turns.specs.Turns.{Turn, learn, review}
-use Rattle.turns.proofs.Sums.{sum-same, sum-at, and-le, bit-le}
+use Rattle.turns.proofs.Sums.{sum-same, sum-at, sum-le, lt-step, and-le, bit-le}
 use Rattle.turns.proofs.Demand.{Step}
 use Rattle.cards.specs.declared.SimulatorConfig.{SimulatorConfig}
 use Rattle.cards.specs.declared.Card.{Card}
@@ -58,11 +58,11 @@ module _ (counts : List (List ℕ)) (c : ℕ) (k : Card) where
   unfolding writeCounts
   counts-long = length-set counts c (countsOf k)
 
-  own-lapses : c < length counts → lapsesIn (writeCounts counts c k) c ≡ k .lapses
+  pub own-lapses : c < length counts → lapsesIn (writeCounts counts c k) c ≡ k .lapses
   unfolding writeCounts
   own-lapses h = ap (λ (l : List ℕ). getD l 1 0) (getD-set-same counts c (countsOf k) [] h)
 
-  else-lapses : (x : ℕ) → x ≢ c → lapsesIn (writeCounts counts c k) x ≡ lapsesIn counts x
+  pub else-lapses : (x : ℕ) → x ≢ c → lapsesIn (writeCounts counts c k) x ≡ lapsesIn counts x
   unfolding writeCounts
   else-lapses x ne = ap (λ (l : List ℕ). getD l 1 0) (getD-set-other counts c x (countsOf k) [] ne)
 
@@ -146,6 +146,28 @@ module _ (g : SimulatorConfig) (m : Model) (cards : ℕ) (fine : Fine g cards) (
   unfolding cardAt
   lapses-then = ap (λ (l : List ℕ). getD l 1 0) (getD-any (s .counts) c noCounts [] (omega (arith, mine, good .counts-long)))
 
+  -- a day's events are no more than the cards: each has put its card to a later day
+  few-events : (i : ℕ) → i < g .«learn_span» → learnedAt rows i + reviewedAt rows i ≤ 65536
+  few-events i l = omega (arith, good .events i l, sum-le cards 1 (λ j. bit (ltb i (dayIn fs j))) (λ j u. bit-le (ltb i (dayIn fs j))), fine .few)
+
+  later-cards : (i : ℕ) → sumTo cards (λ j. bit (ltb i (dayIn fs j))) + bit (eqb d i) ≤ sumTo cards (λ j. bit (ltb i (dayIn fs′ j)))
+  unfolding cardAt
+  later-cards i = omega (arith, lt-step i d (dayIn fs′ c) onward, sum-at cards c (λ j. bit (ltb i (dayIn fs j))) (λ j. bit (ltb i (dayIn fs′ j))) mine (λ j ne. ap (λ (y : ℕ). bit (ltb i y)) (else-day fs c k′ j ne)))
+
+  -- a lapse a day at most
+  lapses-then-few : k .lapses ≤ 4000000000 + d
+  unfolding cardAt
+  lapses-then-few = omega (arith, good .lapses c mine, lapses-then)
+
+  lapses-few : (n : ℕ) → n ≤ 1 → lapsesIn (writeCounts (s .counts) c k′) c ≡ lapsesIn (s .counts) c + n
+      → (i : ℕ) → i < cards → lapsesIn (writeCounts (s .counts) c k′) i ≤ 4000000000 + min (dayIn fs′ i) (g .«learn_span»)
+  unfolding cardAt
+  lapses-few n few e i l = at (ℕ-discrete i c)
+    where
+      at : Dec (i ≡ c) → lapsesIn (writeCounts (s .counts) c k′) i ≤ 4000000000 + min (dayIn fs′ i) (g .«learn_span»)
+      at (yes q) = rw q (omega (arith, e, few, good .lapses c mine, onward, h))
+      at (no q) = omega (arith, good .lapses i l, else-lapses (s .counts) c k′ i q, else-day fs c k′ i q)
+
   -- ---- A LEARNING
   module _ (en : newIn fs c ≡ true) (is : new ≡ true) (l-ok : learnedAt rows d < g .«learn_limit») (b-ok : not (g .«new_cards_ignore_review_limit») ≡ true → learnedAt rows d + reviewedAt rows d < g .«review_limit»)
       (c-ok : lt (g .«max_cost_perday») (costAt (s .sums) d) ≡ false) where
@@ -153,7 +175,7 @@ module _ (g : SimulatorConfig) (m : Model) (cards : ℕ) (fine : Fine g cards) (
     rows′ = introduceFrom (learnOn rows d) (g .«learn_span» - d) d
 
     learn-row : (i : ℕ) → learnedAt rows′ i ≡ learnedAt rows i + bit (eqb d i)
-    learn-row i = from-learned (learnOn rows d) (g .«learn_span» - d) d i ∙ learn-learned rows d i (omega (arith, h, good .days-long)) (omega (arith, l-ok, fine .learns-fit))
+    learn-row i = from-learned (learnOn rows d) (g .«learn_span» - d) d i ∙ learn-learned rows d i (omega (arith, h, good .days-long)) (omega (arith, few-events d h))
 
     review-row : (i : ℕ) → reviewedAt rows′ i ≡ reviewedAt rows i
     review-row i = from-reviewed (learnOn rows d) (g .«learn_span» - d) d i ∙ learn-reviewed rows d i
@@ -208,10 +230,12 @@ module _ (g : SimulatorConfig) (m : Model) (cards : ℕ) (fine : Fine g cards) (
       held = fair-entered (s .table) t fair (good .held);
       rights = λ i l. omega (arith, good .rights i l, review-row i, correct-row i);
       intro = λ i l. omega (arith, good .intro i l, introduced-row i l, fewer, bit-le (ltb d (suc i)));
+      events = λ i l. omega (arith, good .events i l, learn-row i, review-row i, later-cards i);
+      lapses = lapses-few 0 (omega arith) (omega (arith, same-lapses));
     })
 
   -- ---- A REVIEW
-  module _ (en : newIn fs c ≡ false) (is : new ≡ false) (r-ok : reviewedAt rows d < g .«review_limit») (c-ok : lt (g .«max_cost_perday») (costAt (s .sums) d) ≡ false) (p-ok : k .lapses < g .«suspend_after_lapses») where
+  module _ (en : newIn fs c ≡ false) (is : new ≡ false) (r-ok : reviewedAt rows d < g .«review_limit») (c-ok : lt (g .«max_cost_perday») (costAt (s .sums) d) ≡ false) where
     abbrev rows″ : List (List ℕ)
     rows″ = reviewOn rows d (x .recalled)
 
@@ -219,18 +243,18 @@ module _ (g : SimulatorConfig) (m : Model) (cards : ℕ) (fine : Fine g cards) (
     in-rows = omega (arith, h, good .days-long)
 
     reviewed-row : (i : ℕ) → reviewedAt rows″ i ≡ reviewedAt rows i + bit (eqb d i)
-    reviewed-row i = review-reviewed rows d (x .recalled) i in-rows (omega (arith, r-ok, fine .reviews-fit))
+    reviewed-row i = review-reviewed rows d (x .recalled) i in-rows (omega (arith, few-events d h))
 
     recalled-row : (i : ℕ) → correctAt rows″ i ≡ correctAt rows i + bit (x .recalled && eqb d i)
-    recalled-row i = review-correct rows d (x .recalled) i in-rows (omega (arith, good .rights d h, r-ok, fine .reviews-fit))
+    recalled-row i = review-correct rows d (x .recalled) i in-rows (omega (arith, good .rights d h, few-events d h))
 
-    lapsed : (b : Bool) (n : ℕ) → n < g .«suspend_after_lapses» → cond b n (raised n) ≡ n + bit (not b)
+    lapsed : (b : Bool) (n : ℕ) → n < 4294967295 → cond b n (raised n) ≡ n + bit (not b)
     lapsed true n l = omega arith
-    lapsed false n l = raised-is n (omega (arith, fine .lapses-fit))
+    lapsed false n l = raised-is n l
 
     more-lapses : lapsesIn (writeCounts (s .counts) c k′) c ≡ lapsesIn (s .counts) c + bit (not (x .recalled))
     unfolding eventCard
-    more-lapses = lapses-now ∙ rw is (lapsed (x .recalled) (k .lapses) p-ok ∙ ap (λ (n : ℕ). n + bit (not (x .recalled))) lapses-then)
+    more-lapses = lapses-now ∙ rw is (lapsed (x .recalled) (k .lapses) (omega (arith, lapses-then-few, h, fine .most)) ∙ ap (λ (n : ℕ). n + bit (not (x .recalled))) lapses-then)
 
     pub step-review : Step view columns costs (limits g) cards (g .«learn_span») ts s (turnAs c d (review (x .recalled) (x .cost))) (handled g m s c k false d x t)
     unfolding handled countEvent cardAt
@@ -274,4 +298,6 @@ module _ (g : SimulatorConfig) (m : Model) (cards : ℕ) (fine : Fine g cards) (
       held = fair-entered (s .table) t fair (good .held);
       rights = λ i l. omega (arith, good .rights i l, reviewed-row i, recalled-row i, and-le (x .recalled) (eqb d i));
       intro = λ i l. omega (arith, good .intro i l, review-introduced rows d (x .recalled) i, sum-same cards (λ j. bit (newIn fs′ j)) (λ j. bit (newIn fs j)) (λ j u. ap bit (all-new j)));
+      events = λ i l. omega (arith, good .events i l, review-learned rows d (x .recalled) i, reviewed-row i, later-cards i);
+      lapses = lapses-few (bit (not (x .recalled))) (bit-le (not (x .recalled))) more-lapses;
     })

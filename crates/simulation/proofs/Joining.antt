@@ -7,6 +7,7 @@ use Prim.Native.Nat.{ℕ, zero, suc, _+_, _-_, _/_, _≤_, _<_}
 use native.Mathlib.Decide.{ℕ-discrete}
 use native.Mathlib.Nat.{div-le-self}
 use native.Mathlib.Omega.{arith}
+use borrow.Author.Tests.{leb-true}
 use lib.Dec.{T, eqb, leb}
 use lib.ListN.{length, getD, set, replicate, length-set, length-replicate, getD-replicate}
 use lib.Seq.{getD-set-same, getD-set-other}
@@ -22,7 +23,7 @@ use Rattle.turns.proofs.Sums.{sum-same}
 use Rattle.turns.proofs.Columns.{SetUp}
 use Rattle.cards.specs.declared.Card.{Card}
 use Rattle.cards.specs.Day.{dayOf, newOf}
-use Rattle.cards.specs.Cards.{cardAt, writeFloats, isKept, dateOk, historyOk, cardOk}
+use Rattle.cards.specs.Cards.{cardAt, writeFloats, writeCounts, isKept, dateOk, historyOk, cardOk}
 use Rattle.cards.proofs.Later.{day-cut, whole-le}
 use Rattle.queue.specs.Queue.{queue, pushed}
 use Rattle.queue.specs.Sound.{Keyed}
@@ -32,9 +33,9 @@ use Rattle.simulation.specs.State.{State}
 use Rattle.simulation.specs.Entry.{Inputs}
 use Rattle.simulation.specs.SetUp.{Deck, filled, newCard, joined, retained, retainCard, retain, known, create, newCards, emptied, dealt, firstCounts, firstSums, setUp}
 use Rattle.simulation.specs.Rules.{costs}
-use Rattle.simulation.proofs.Views.{dayIn, newIn, keyIn, columns}
+use Rattle.simulation.proofs.Views.{dayIn, newIn, keyIn, lapsesIn, columns}
 use Rattle.simulation.proofs.Good.{Good, write-long, else-key, else-day, else-new, own-day, own-new, own-key}
-use Rattle.simulation.proofs.Handled.{counts-long}
+use Rattle.simulation.proofs.Handled.{counts-long, own-lapses, else-lapses}
 use Rattle.simulation.proofs.Accepted.{Accepted, both}
 
 -- ---- a list with its first places filled
@@ -81,6 +82,15 @@ day-kept k e =
     let u : toUnsigned 32 (k .due) ≤ 16777216 = whole-le 32 16777216 (ofBits binary32 0x4B80_0000) (k .due) latest-value (cmp.yes (d .1)) in
     rw (day-cut (k .due)) (omega (arith, u))
 
+lapses-kept : (k : Card) → cardOk k ≡ true → k .lapses ≤ 4000000000
+unfolding cardOk
+lapses-kept k e =
+    let rest : Bool = historyOk k && leb (k .lapses) 4000000000 in
+    let a = both (isFinite (k .stability)) (isFinite (k .«desired_retention») && (dateOk (k .due) && rest)) e in
+    let b = both (isFinite (k .«desired_retention»)) (dateOk (k .due) && rest) (a .1) in
+    let c = both (dateOk (k .due)) rest (b .1) in
+    leb-true (k .lapses) 4000000000 (both (historyOk k) (leb (k .lapses) 4000000000) (c .1) .1)
+
 -- ---- n cards have joined, `dated` of them with a last date; the lists are as long as they were
 pub record Joining (rows : List (List ℕ)) (cards-len counts-len dated n : ℕ) (s : Deck) : Type 0 where
   pub cards-are : length (s .cards) ≡ cards-len
@@ -88,6 +98,7 @@ pub record Joining (rows : List (List ℕ)) (cards-len counts-len dated n : ℕ)
   pub fill : Filled (keyIn (s .cards)) rows n (s .queue)
   pub near : (c : ℕ) → c < n → dayIn (s .cards) c < 2147483648
   pub news : dated + sumTo n (λ c. bit (newIn (s .cards) c)) ≡ n
+  pub lapses : (c : ℕ) → c < n → lapsesIn (s .counts) c ≤ 4000000000
 
 either : (b : Bool) → bit (not b) + bit b ≡ 1
 either true = refl
@@ -98,16 +109,17 @@ module _ (rows : List (List ℕ)) (lc ln : ℕ) where
   at-length : (dated n : ℕ) (s : Deck) → Joining rows lc ln dated n s → Joining rows lc ln dated (s .queue .len) s
   at-length dated n s j = subst (λ (z : ℕ). Joining rows lc ln dated z s) (sym (j .fill .count)) j
 
-  join-here : (dated : ℕ) (s : Deck) (k : Card) → Joining rows lc ln dated (s .queue .len) s → s .queue .len < lc → s .queue .len < length rows → s .queue .len < 65536 → dayOf (k .due) < 2147483648
+  join-here : (dated : ℕ) (s : Deck) (k : Card) → Joining rows lc ln dated (s .queue .len) s → s .queue .len < lc → s .queue .len < ln → s .queue .len < length rows → s .queue .len < 65536 → dayOf (k .due) < 2147483648 → k .lapses ≤ 4000000000
       → Joining rows lc ln (dated + bit (not (newOf (k .«last_date»)))) (suc (s .queue .len)) (joined s k)
   unfolding joined
-  join-here dated s k j h r few near = record {
+  join-here dated s k j h hn r few near most = record {
     cards-are = write-long (s .cards) n k ∙ j .cards-are;
     counts-are = counts-long (s .counts) n k ∙ j .counts-are;
     fill = subst (λ (key : ℕ). Filled (keyIn cs′) rows (suc n) (pushed (s .queue) n key)) (own-key (s .cards) n k row)
         (fill-next (keyIn cs′) rows n (s .queue) r (omega arith) (fill-same (keyIn (s .cards)) (keyIn cs′) rows n (s .queue) (λ c l. sym (else-key (s .cards) n k c (omega arith))) (j .fill)));
     near = λ c l. at c l (ℕ-discrete c n);
     news = omega (arith, j .news, either (newOf (k .«last_date»)), ap bit (own-new (s .cards) n k row), sum-same n (λ c. bit (newIn cs′ c)) (λ c. bit (newIn (s .cards) c)) (λ c l. ap bit (else-new (s .cards) n k c (omega arith))));
+    lapses = λ c l. lapsed c l (ℕ-discrete c n);
   }
     where
       n : ℕ
@@ -123,12 +135,16 @@ module _ (rows : List (List ℕ)) (lc ln : ℕ) where
       at c l (yes e) = rw (e, own-day (s .cards) n k row) near
       at c l (no e) = omega (arith, else-day (s .cards) n k c e, j .near c (omega arith))
 
-  pub join : (dated n : ℕ) (s : Deck) (k : Card) → Joining rows lc ln dated n s → n < lc → n < length rows → n < 65536 → dayOf (k .due) < 2147483648
+      lapsed : (c : ℕ) → c < suc n → Dec (c ≡ n) → lapsesIn (writeCounts (s .counts) n k) c ≤ 4000000000
+      lapsed c l (yes e) = rw (e, own-lapses (s .counts) n k (omega (arith, j .counts-are))) most
+      lapsed c l (no e) = omega (arith, else-lapses (s .counts) n k c e, j .lapses c (omega arith))
+
+  pub join : (dated n : ℕ) (s : Deck) (k : Card) → Joining rows lc ln dated n s → n < lc → n < ln → n < length rows → n < 65536 → dayOf (k .due) < 2147483648 → k .lapses ≤ 4000000000
       → Joining rows lc ln (dated + bit (not (newOf (k .«last_date»)))) (suc n) (joined s k)
-  join dated n s k j h r few near =
+  join dated n s k j h hn r few near most =
       let e : s .queue .len ≡ n = j .fill .count in
       subst (λ (z : ℕ). Joining rows lc ln (dated + bit (not (newOf (k .«last_date»)))) (suc z) (joined s k)) e
-      (join-here dated s k (at-length dated n s j) (omega arith) (omega arith) (omega arith) near)
+      (join-here dated s k (at-length dated n s j) (omega arith) (omega arith) (omega arith) (omega arith) near most)
 
 -- ---- the existing cards
 module _ (i : Inputs) (s : State) (ok : Accepted i s) where
@@ -158,12 +174,12 @@ module _ (i : Inputs) (s : State) (ok : Accepted i s) where
   none = record {
     cards = 0;
     few = omega arith;
-    joining = record { cards-are = refl; counts-are = refl; fill = fill-none (keyIn (s .cards)) rows; near = λ c l. absurd (omega arith); news = refl };
+    joining = record { cards-are = refl; counts-are = refl; fill = fill-none (keyIn (s .cards)) rows; near = λ c l. absurd (omega arith); news = refl; lapses = λ c l. absurd (omega arith) };
   }
 
   retained-same : (dated n : ℕ) (s′ : Deck) (k : Card) → Joining rows (length (s .cards)) (length (s .counts)) dated n (joined s′ k) → Joining rows (length (s .cards)) (length (s .counts)) dated n (retained span s′ k)
   unfolding retained
-  retained-same dated n s′ k j = record { cards-are = j .cards-are; counts-are = j .counts-are; fill = j .fill; near = j .near; news = j .news }
+  retained-same dated n s′ k j = record { cards-are = j .cards-are; counts-are = j .counts-are; fill = j .fill; near = j .near; news = j .news; lapses = j .lapses }
 
   retains : (n : ℕ) → n ≤ length es → Came (known es ns n) n (retain span es ns n (emptied i s))
   unfolding retain retainCard known
@@ -181,7 +197,7 @@ module _ (i : Inputs) (s : State) (ok : Accepted i s) where
         cards = suc (c .cards);
         few = omega (arith, c .few);
         joining = retained-same (known es ns n + bit (not (newOf (k .«last_date»)))) (suc (c .cards)) before k
-            (join rows (length (s .cards)) (length (s .counts)) (known es ns n) (c .cards) before k (c .joining) (omega (arith, c .few, ok .existing-few, ok .cards-long)) (omega (arith, c .few, ok .existing-few, ok .queue-long)) (omega (arith, c .few, ok .existing-few, ok .deck-most)) (day-kept k (ok .cards-ok n (omega arith) e)));
+            (join rows (length (s .cards)) (length (s .counts)) (known es ns n) (c .cards) before k (c .joining) (omega (arith, c .few, ok .existing-few, ok .cards-long)) (omega (arith, c .few, ok .existing-few, ok .counts-long)) (omega (arith, c .few, ok .existing-few, ok .queue-long)) (omega (arith, c .few, ok .existing-few, ok .deck-most)) (day-kept k (ok .cards-ok n (omega arith) e)) (lapses-kept k (ok .cards-ok n (omega arith) e)));
       }
       go false e c = record { cards = c .cards; few = omega (arith, c .few); joining = subst (λ (z : ℕ). Joining rows (length (s .cards)) (length (s .counts)) z (c .cards) before) (let z : known es ns n ≡ known es ns n + 0 = omega arith in z) (c .joining) }
 
@@ -195,6 +211,10 @@ module _ (i : Inputs) (s : State) (ok : Accepted i s) where
   new-day : (n : ℕ) → n < 65536 → dayOf (newCard (i .retention) (i .config .«learn_limit») n .due) < 2147483648
   unfolding newCard
   new-day n h = let l = div-le-self n (i .config .«learn_limit») in omega (arith, l, day-int (n / i .config .«learn_limit») (omega (arith, l)))
+
+  new-lapses : (n : ℕ) → newCard (i .retention) (i .config .«learn_limit») n .lapses ≤ 4000000000
+  unfolding newCard
+  new-lapses n = omega arith
 
   new-new : (n : ℕ) → newOf (newCard (i .retention) (i .config .«learn_limit») n .«last_date») ≡ true
   unfolding newCard newOf eq
@@ -216,7 +236,7 @@ module _ (i : Inputs) (s : State) (ok : Accepted i s) where
         cards = suc (c .cards);
         few = omega (arith, c .few);
         joining = subst (λ (z : ℕ). Joining rows (length (s .cards)) (length (s .counts)) z (suc (c .cards)) (joined before k)) (let z : known es ns (length es) + bit (not (newOf (k .«last_date»))) ≡ known es ns (length es) = omega (arith, ap (λ (b : Bool). bit (not b)) (new-new n)) in z)
-            (join rows (length (s .cards)) (length (s .counts)) (known es ns (length es)) (c .cards) before k (c .joining) (omega (arith, c .few, h, ok .cards-long)) (omega (arith, c .few, h, ok .queue-long)) (omega (arith, c .few, h, ok .deck-most)) (new-day n (omega (arith, h, ok .deck-most))));
+            (join rows (length (s .cards)) (length (s .counts)) (known es ns (length es)) (c .cards) before k (c .joining) (omega (arith, c .few, h, ok .cards-long)) (omega (arith, c .few, h, ok .counts-long)) (omega (arith, c .few, h, ok .queue-long)) (omega (arith, c .few, h, ok .deck-most)) (new-day n (omega (arith, h, ok .deck-most))) (new-lapses n));
       }
 
   -- ---- the whole set-up
@@ -282,6 +302,8 @@ module _ (i : Inputs) (s : State) (ok : Accepted i s) where
         held = λ p l e. absurd (true≢false (sym (all-free (s .table) p l) ∙ e));
         rights = λ d h. omega (arith, ap (λ (l : List ℕ). getD l 2 0) (row-at d h));
         intro = λ d h. news d h;
+        events = λ d h. omega (arith, ap (λ (l : List ℕ). getD l 0 0) (row-at d h), ap (λ (l : List ℕ). getD l 1 0) (row-at d h));
+        lapses = λ c l. omega (arith, j .lapses c (omega (arith, l, len-is)));
       }
     where
       news : (d : ℕ) → d < span → getD (getD (filled (firstCounts i) span (s .days)) d []) 3 0 + sumTo (s₁ .queue .len) (λ c. bit (newIn (s₁ .cards) c)) ≤ s₁ .queue .len

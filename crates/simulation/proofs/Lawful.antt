@@ -7,8 +7,7 @@ use Prim.Native.Nat.{ℕ, suc, _+_, _*_, _<_}
 use native.Mathlib.Omega.{arith}
 use borrow.Author.Tests.{eqb-false, leb-false}
 use lib.Dec.{leb, eqb}
-use lib.IntN.{pos}
-use lib.Ieee.{Float, binary32, ofInt, lt, le}
+use lib.Ieee.{Float, lt}
 use Rattle.turns.specs.Sums.{sumTo}
 use Rattle.turns.specs.Turns.{Turn, putOff, Demand, Rows}
 use Rattle.turns.specs.Run.{takes, stops, run}
@@ -83,10 +82,6 @@ module _ (g : SimulatorConfig) (m : Model) (cards : ℕ) (fine : Fine g cards) (
     abbrev x : Float
     x = costAt (s .sums) d
 
-    few-lapses : retires g k ≡ false → k .lapses < g .«suspend_after_lapses»
-    unfolding retires
-    few-lapses e = leb-false (g .«suspend_after_lapses») (k .lapses) (or-right (le (ofInt binary32 (pos (g .«learn_span»))) (k .due)) (leb (g .«suspend_after_lapses») (k .lapses)) e)
-
     -- an event that is not refused is a step, where it is one with any interval that is given
     law-slot : (new : Bool) (y : Memory) (t : Slot) → (isFull t ≡ false → Fair (intervalOf t))
         → (Fair (intervalOf t) → Steps ts s (turnAs c d (kindAs new y)) (handled g m s c k new d y t) × Fit (handled g m s c k new d y t))
@@ -135,8 +130,8 @@ module _ (g : SimulatorConfig) (m : Model) (cards : ℕ) (fine : Fine g cards) (
     law-review : retires g k ≡ false → blocked g false l r x ≡ false → newOf (k .«last_date») ≡ false → Lawful Steps Fit ts s (handle g m s c k false d)
     unfolding blocked cardAt
     law-review e₁ e₂ e₃ = law-event false (λ y t f. (
-      step-review g m cards fine ts s good some false y t f h e₃ refl a pays (few-lapses e₁),
-      good-review g m cards fine ts s good some false y t f h e₃ refl a pays (few-lapses e₁),
+      step-review g m cards fine ts s good some false y t f h e₃ refl a pays,
+      good-review g m cards fine ts s good some false y t f h e₃ refl a pays,
     ))
       where
         h : d < g .«learn_span»

@@ -1,12 +1,11 @@
 -- DEMAND 3 of a run that ends Ok: the daily rules of its whole list of turns, and its rows. Definitions only.
-use Prim.Native.Nat.{ℕ, _^_, _≤_, _<_}
+use Prim.Native.Nat.{ℕ, _≤_}
 use mathlib.Core.Path.{_≡_}
 use mathlib.Core.List.{List, []}
 use lib.ListN.{length, getD}
 use lib.Ieee.{Float}
 use Rattle.turns.specs.Sums.{sumTo}
 use Rattle.turns.specs.Turns.{Turn, Demand, Rows}
-use Rattle.cards.specs.declared.SimulatorConfig.{SimulatorConfig}
 use Rattle.days.specs.Counts.{learnedAt, reviewedAt, correctAt, introducedAt}
 use Rattle.events.specs.Scalars.{plain}
 use Rattle.simulation.specs.declared.Progress.{Progress}
@@ -44,12 +43,6 @@ pub record DemandThree (i : Inputs) (s : State) (counts days : List (List ℕ)) 
       Rows (i .config .«learn_span») (known (i .existing) (i .existing-counts) (length (i .existing)))
       (sumTo (cardsOf i s) (lapsesAt (setUp i s .counts))) (sumTo (cardsOf i s) (lapsesAt counts))
       (learnedAt days) (reviewedAt days) (correctAt days) (introducedAt days) (turnsOf i s)
-
--- limits are u32
-pub record LimitsFit (g : SimulatorConfig) : Type 0 where
-  pub learns : g .«learn_limit» < 2 ^ 32
-  pub reviews : g .«review_limit» < 2 ^ 32
-  pub lapses : g .«suspend_after_lapses» < 2 ^ 32
 
 -- A second run's lists: those of the first, but for an interval table that is longer in both its columns
 pub record LongerTable (s s′ : State) : Type 0 where

@@ -6,7 +6,7 @@ ghost use Rattle.simulation.specs.Model.{modelOf};
 ghost use Rattle.simulation.specs.Steps.{Done};
 ghost use Rattle.simulation.specs.Entry.{inputs};
 ghost use Rattle.simulation.specs.Simulate.{simulated};
-ghost use Rattle.simulation.specs.Demands.{Finished, DemandThree, LimitsFit};
+ghost use Rattle.simulation.specs.Demands.{Finished, DemandThree};
 
 mod entry;
 mod run;
@@ -64,16 +64,6 @@ pub struct Reach {
     pub draws: u64,
 }
 
-// The limits are u32, which the claims on counts lean on.
-fn limits_fit(config: SimulatorConfig) -> bool
-    ensures { λ _. ⌜ LimitsFit config ⌝ }
-{
-    let learns = config.learn_limit;
-    let reviews = config.review_limit;
-    let lapses = config.suspend_after_lapses;
-    learns <= reviews || reviews <= lapses
-}
-
 // A run, from its entry to its answer. The first eight lists are written: rows of cards and of their counts, of the queue, of
 // days' counts and sums, the due counts, and the interval table; the others are read.
 pub fn simulate(
@@ -103,7 +93,6 @@ pub fn simulate(
         (state (now (cards .entry)) (now (counts .entry)) (now (rows .entry)) (now (days .entry)) (now (sums .entry)) (now (due .entry)) (now (keys .entry)) (now (intervals .entry)) 0 seed)
         (now (counts .exit)) (now (days .exit))) ⌝ }
 {
-    limits_fit(config);
     let entry = entry::check_entry(
         cards,
         counts,

@@ -1,12 +1,11 @@
--- `simulation::simulate` meets its contract.
+-- A call that an entry test fails is turned away as it came; any other is set up and run.
 use mathlib.Core.Path.{sym, _∙_}
+use Rattle.simulation.specs.State.{state}
+use Rattle.simulation.specs.Entry.{inputs}
 use Rattle.simulation.proofs.Claims.{same-check, refused-is, not-finished, accepted-is, three-is}
 use borrow.Author.Needs.{needs}
 use Rattle.simulation.proofs.simulate.Statement.{statement}
 use Rattle.simulation.proofs.simulate.Tie as tie
-
-limits-fit-requires : tie.Need-limits-fit-requires
-limits-fit-requires c κs = search needs
 
 check-entry-requires : tie.Need-check-entry-requires
 check-entry-requires c κs = search needs
@@ -18,7 +17,13 @@ enum-told : tie.Need-enum-told
 enum-told c = search needs
 
 start-requires : tie.Need-start-requires
-start-requires c κs = sym (same-check (c .before .before .before .before .before .before .before .before .before .before .before .before .before .before .before .before .before .before .before .before .before .before .before .args .config) (c .before .before .before .before .before .before .before .before .before .before .before .before .before .before .before .before .before .before .before .before .before .before .before .args .parameters .now) (c .before .before .before .before .before .before .before .before .before .before .before .before .before .before .before .before .before .before .before .before .before .before .before .args .retention) (c .before .before .before .before .before .before .before .before .before .before .before .before .before .before .before .before .before .before .before .before .before .before .before .args .seed) (c .before .before .before .before .before .before .before .before .before .before .before .before .before .before .before .before .before .before .before .before .before .before .before .args .existing .now) (c .before .before .before .before .before .before .before .before .before .before .before .before .before .before .before .before .before .before .before .before .before .before .before .args .existing-counts .now) (c .before .before .before .before .before .before .before .before .before .before .before .before .before .before .before .before .before .before .before .before .before .before .before .args .cards .now) (c .before .before .before .before .before .before .before .before .before .before .before .before .before .before .before .before .before .before .before .before .before .before .before .args .counts .now) (c .before .before .before .before .before .before .before .before .before .before .before .before .before .before .before .before .before .before .before .before .before .before .before .args .rows .now) (c .before .before .before .before .before .before .before .before .before .before .before .before .before .before .before .before .before .before .before .before .before .before .before .args .days .now) (c .before .before .before .before .before .before .before .before .before .before .before .before .before .before .before .before .before .before .before .before .before .before .before .args .sums .now) (c .before .before .before .before .before .before .before .before .before .before .before .before .before .before .before .before .before .before .before .before .before .before .before .args .due .now) (c .before .before .before .before .before .before .before .before .before .before .before .before .before .before .before .before .before .before .before .before .before .before .before .args .keys .now) (c .before .before .before .before .before .before .before .before .before .before .before .before .before .before .before .before .before .before .before .before .before .before .before .args .intervals .now) _ (c .before .before .before .before .before .before .before .before .before .before .check-entry .ensures)) ∙ c .before .before .before .before .before .before .before .before .enum-told .given .1
+start-requires c κs =
+    let at-enum-told = c .before .before .before .before .before .before .before .before in
+    let at-check-entry = at-enum-told .before .before in
+    let a = at-check-entry .before .before .before .before .before .before .before .before .before .before .before .before .args in
+    let i = inputs (a .config) (a .parameters .now) (a .retention) (a .seed) (a .existing .now) (a .existing-counts .now) in
+    let s = state (a .cards .now) (a .counts .now) (a .rows .now) (a .days .now) (a .sums .now) (a .due .now) (a .keys .now) (a .intervals .now) 0 (a .seed) in
+    sym (same-check i s (at-check-entry .check-entry .ensures)) ∙ at-enum-told .enum-told .given .1
 
 same-length : tie.Need-same-length
 same-length c = search needs
@@ -46,9 +51,12 @@ same-length-8 c = search needs
 
 returns : tie.Need-returns
 returns c =
-    let at-check-entry = c .before .before .before in
-    let start = at-check-entry .before .before .before .before .before .before .before .before .before .before .before .before .before in
-    (refused-is (start .args .config) (start .args .parameters .now) (start .args .retention) (start .args .seed) (start .args .existing .now) (start .args .existing-counts .now) (start .args .cards .now) (start .args .counts .now) (start .args .rows .now) (start .args .days .now) (start .args .sums .now) (start .args .due .now) (start .args .keys .now) (start .args .intervals .now) _ (sym (same-check (start .args .config) (start .args .parameters .now) (start .args .retention) (start .args .seed) (start .args .existing .now) (start .args .existing-counts .now) (start .args .cards .now) (start .args .counts .now) (start .args .rows .now) (start .args .days .now) (start .args .sums .now) (start .args .due .now) (start .args .keys .now) (start .args .intervals .now) _ (at-check-entry .check-entry .ensures)) ∙ c .before .entry .given .1), λ f. absurd (not-finished (start .args .config) (start .args .parameters .now) (start .args .retention) (start .args .seed) (start .args .existing .now) (start .args .existing-counts .now) (start .args .cards .now) (start .args .counts .now) (start .args .rows .now) (start .args .days .now) (start .args .sums .now) (start .args .due .now) (start .args .keys .now) (start .args .intervals .now) _ _ f))
+    let at-entry = c .before in
+    let at-check-entry = at-entry .before .before in
+    let a = at-check-entry .before .before .before .before .before .before .before .before .before .before .before .before .args in
+    let i = inputs (a .config) (a .parameters .now) (a .retention) (a .seed) (a .existing .now) (a .existing-counts .now) in
+    let s = state (a .cards .now) (a .counts .now) (a .rows .now) (a .days .now) (a .sums .now) (a .due .now) (a .keys .now) (a .intervals .now) 0 (a .seed) in
+    (refused-is i s _ (sym (same-check i s (at-check-entry .check-entry .ensures)) ∙ at-entry .entry .given .1), λ f. absurd (not-finished _ _ f))
 
 same-length-9 : tie.Need-same-length-9
 same-length-9 c = search needs
@@ -79,18 +87,16 @@ returns-2 c =
     let at-start = c .before .before .before .before .before .before .before .before .before .before in
     let at-enum-told = at-start .before .before .before .before .before .before .before .before .before in
     let at-check-entry = at-enum-told .before .before in
-    let at-limits-fit = at-check-entry .before .before .before .before .before .before .before .before .before in
-    let start = at-limits-fit .before .before .before .before in
-    let e = sym
-    (same-check (start .args .config) (start .args .parameters .now) (start .args .retention) (start .args .seed) (start .args .existing .now) (start .args .existing-counts .now) (start .args .cards .now) (start .args .counts .now) (start .args .rows .now) (start .args .days .now) (start .args .sums .now) (start .args .due .now) (start .args .keys .now) (start .args .intervals .now) _ (at-check-entry .check-entry .ensures))
-    ∙ at-enum-told .enum-told .given .1 in
-    (accepted-is (start .args .config) (start .args .parameters .now) (start .args .retention) (start .args .seed) (start .args .existing .now) (start .args .existing-counts .now) (start .args .cards .now) (start .args .counts .now) (start .args .rows .now) (start .args .days .now) (start .args .sums .now) (start .args .due .now) (start .args .keys .now) (start .args .intervals .now) _ _ _ _ _ _ _ _ _ e (at-start .start .ensures), λ f. three-is (start .args .config) (start .args .parameters .now) (start .args .retention) (start .args .seed) (start .args .existing .now) (start .args .existing-counts .now) (start .args .cards .now) (start .args .counts .now) (start .args .rows .now) (start .args .days .now) (start .args .sums .now) (start .args .due .now) (start .args .keys .now) (start .args .intervals .now) _ _ _ _ _ _ _ _ _ e (at-start .start .ensures) (at-limits-fit .limits-fit .ensures))
+    let a = at-check-entry .before .before .before .before .before .before .before .before .before .before .before .before .args in
+    let i = inputs (a .config) (a .parameters .now) (a .retention) (a .seed) (a .existing .now) (a .existing-counts .now) in
+    let s = state (a .cards .now) (a .counts .now) (a .rows .now) (a .days .now) (a .sums .now) (a .due .now) (a .keys .now) (a .intervals .now) 0 (a .seed) in
+    let e = sym (same-check i s (at-check-entry .check-entry .ensures)) ∙ at-enum-told .enum-told .given .1 in
+    (accepted-is i s e (at-start .start .ensures), λ f. three-is i s e (at-start .start .ensures))
 
 pub simulate-spec : {M : Type 1} → statement M
 simulate-spec =
     tie.close
     (tie.spec
-    limits-fit-requires
     check-entry-requires
     enum-known-entry
     enum-told
