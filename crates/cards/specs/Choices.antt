@@ -4,6 +4,7 @@ use mathlib.Core.Bool.{Bool, true, false, not, _&&_, _||_}
 use lib.Dec.{leb}
 use lib.IntN.{pos}
 use lib.Ieee.{Float, binary32, ofInt, lt, le}
+use Rattle.turns.specs.Turns.{Limits}
 use Rattle.cards.specs.declared.SimulatorConfig.{SimulatorConfig}
 use Rattle.cards.specs.declared.Card.{Card}
 use Rattle.cards.specs.declared.Choice.{Choice}
@@ -11,18 +12,27 @@ use Rattle.cards.specs.declared.Choice.the-variants as choice
 use Rattle.cards.specs.Day.{newOf}
 
 -- due at or past the span, or as many lapses as the lapse limit
-unfoldable pub retires : SimulatorConfig → Card → Bool
-retires g k = le (ofInt binary32 (pos (g .«learn_span»))) (k .due) || leb (g .«suspend_after_lapses») (k .lapses)
+unfoldable pub retires : ℕ → ℕ → Card → Bool
+retires span most k = le (ofInt binary32 (pos span)) (k .due) || leb most (k .lapses)
 
--- a limit is reached; a learning counts as a review too unless new cards ignore the review limit
-abbrev pub limited : SimulatorConfig → Bool → ℕ → ℕ → Bool
-limited g true learned reviewed =
-    leb (g .«learn_limit») learned || (not (g .«new_cards_ignore_review_limit») && leb (g .«review_limit») (learned + reviewed))
-limited g false learned reviewed = leb (g .«review_limit») reviewed
+-- the limits of a configuration: the same on every day
+abbrev pub limits : SimulatorConfig → Limits Float
+limits g = record {
+  learns = λ d. g .«learn_limit»;
+  reviews = λ d. g .«review_limit»;
+  counted = λ d. not (g .«new_cards_ignore_review_limit»);
+  over = λ d x. lt (g .«max_cost_perday») x;
+}
 
--- a limit is reached, or the day's cost is strictly above the maximum
-unfoldable pub blocked : SimulatorConfig → Bool → ℕ → ℕ → Float → Bool
-blocked g new learned reviewed cost = lt (g .«max_cost_perday») cost || limited g new learned reviewed
+module _ {C : Type 0} (l : Limits C) (d : ℕ) where
+  -- a limit of day d is reached; a learning may count as a review too
+  abbrev pub limited : Bool → ℕ → ℕ → Bool
+  limited true learned reviewed = leb (l .learns d) learned || (l .counted d && leb (l .reviews d) (learned + reviewed))
+  limited false learned reviewed = leb (l .reviews d) reviewed
+
+  -- a limit is reached, or the day's cost is above the maximum
+  unfoldable pub blocked : Bool → ℕ → ℕ → C → Bool
+  blocked new learned reviewed cost = l .over d cost || limited new learned reviewed
 
 abbrev pub choose : Bool → Bool → Bool → Choice
 choose true block new = choice.Retire
@@ -30,6 +40,7 @@ choose false true new = choice.PutOff
 choose false false true = choice.Learn
 choose false false false = choice.Review
 
--- of a card on a day of so many learnings and reviews and such a cost
-unfoldable pub choiceOf : SimulatorConfig → Card → ℕ → ℕ → Float → Choice
-choiceOf g k learned reviewed cost = choose (retires g k) (blocked g (newOf (k .«last_date»)) learned reviewed cost) (newOf (k .«last_date»))
+-- of a card on day d, with so many learnings and reviews and such a cost so far
+unfoldable pub choiceOf : {C : Type 0} → ℕ → ℕ → Limits C → ℕ → Card → ℕ → ℕ → C → Choice
+choiceOf span most l d k learned reviewed cost =
+    choose (retires span most k) (blocked l d (newOf (k .«last_date»)) learned reviewed cost) (newOf (k .«last_date»))

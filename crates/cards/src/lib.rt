@@ -1,4 +1,5 @@
 // The configuration of a run, its cards by value and as rows of lent lists, and what a turn does with a card.
+ghost use Prim.Native.Nat.{ℕ};
 ghost use mathlib.Core.Path.{_≡_};
 ghost use mathlib.Core.Bool.{not, _&&_};
 ghost use lib.ListN.{getD};
@@ -7,7 +8,7 @@ ghost use Rattle.float32.specs.Float32.{isFinite};
 ghost use Rattle.cards.specs.Day.{dayOf, nextDue, newOf};
 ghost use Rattle.cards.specs.Cards.{noFloats, noCounts, cardAt, writeFloats, writeCounts, isKept, dateOk, historyOk, cardOk};
 ghost use Rattle.cards.specs.Config.{rowOf, threeOf, amountOk, amountsOk, weightsOk, transitionsOk, costsOk, intervalOk, configOk};
-ghost use Rattle.cards.specs.Choices.{retires, blocked, choiceOf};
+ghost use Rattle.cards.specs.Choices.{limits, retires, blocked, choiceOf};
 
 // `SimulatorConfig` of the Rust without its callbacks. A limit of 4294967295 is none; rows of four stand one after the other.
 pub struct SimulatorConfig {
@@ -179,7 +180,7 @@ pub fn card_ok(card: Card) -> bool
 }
 
 pub fn is_retired(config: SimulatorConfig, card: Card) -> bool
-    ensures { λ r. ⌜ r ≡ retires config card ⌝ }
+    ensures { λ r. ⌜ r ≡ retires (config .«learn_span») (config .«suspend_after_lapses») card ⌝ }
 {
     let span = float32::from_u32(config.learn_span);
     if card.due >= span {
@@ -196,7 +197,7 @@ pub fn is_blocked(
     reviewed: u32,
     cost: f32,
 ) -> bool
-    ensures { λ r. ⌜ r ≡ blocked config new learned reviewed cost ⌝ }
+    ensures { λ r. ⌜ ((d : ℕ) → r ≡ blocked (limits config) d new learned reviewed cost) ⌝ }
 {
     if cost > config.max_cost_perday {
         return true;
@@ -214,7 +215,7 @@ pub fn is_blocked(
 }
 
 pub fn decide(config: SimulatorConfig, card: Card, learned: u32, reviewed: u32, cost: f32) -> Choice
-    ensures { λ r. ⌜ r ≡ choiceOf config card learned reviewed cost ⌝ }
+    ensures { λ r. ⌜ ((d : ℕ) → r ≡ choiceOf (config .«learn_span») (config .«suspend_after_lapses») (limits config) d card learned reviewed cost) ⌝ }
 {
     if is_retired(config, card) {
         return Choice::Retire;

@@ -22,6 +22,14 @@ mix z = xorShift 31 (xorShift 27 (xorShift 30 z * 0xBF58476D1CE4E5B9 % 2 ^ 64) *
 unfoldable pub word : ℕ → ℕ
 word z = z / 2 ^ 32
 
+-- HOW A RUN DRAWS: from a state of the draws, the word of the next draw and the state after it
+pub record DrawRule : Type 0 where
+  pub word : ℕ → ℕ
+  pub after : ℕ → ℕ
+
+abbrev pub splitMix : DrawRule
+splitMix = record { word = λ s. word (mix (advance s)); after = advance }
+
 -- v: the top 24 bits of a word, over 2 ^ 24
 unfoldable pub unit : ℕ → Float
 unit w = ofInt binary32 (pos (w / 2 ^ 8)) /ᶠ ofBits binary32 0x4B800000

@@ -7,6 +7,7 @@ use native.Mathlib.Omega.{arith}
 use borrow.Author.Tests.{le-leb, lt-leb}
 use lib.Dec.{leb}
 use lib.Ieee.{Float, ofBits, binary32}
+use Rattle.draws.specs.Draws.{DrawRule}
 use Rattle.model.specs.Model as Model
 use Rattle.model.specs.Kept as Kept
 use Rattle.model.proofs.Kept as kept-laws
@@ -14,26 +15,26 @@ use Rattle.events.specs.declared.ShortTerm.{ShortTerm}
 use Rattle.events.specs.Scalars.{Scalars, plain, kept}
 use Rattle.events.specs.Events.{shortStep, shortSteps}
 
-module _ (x : Scalars) (transitions costs : List Float) (limit : ℕ) where
-  pub steps-many : (n : ℕ) (t : ShortTerm) → limit ≤ t .consecutive → shortSteps x transitions costs limit n t ≡ t
+module _ (w : DrawRule) (x : Scalars) (transitions costs : List Float) (limit : ℕ) where
+  pub steps-many : (n : ℕ) (t : ShortTerm) → limit ≤ t .consecutive → shortSteps w x transitions costs limit n t ≡ t
   unfolding shortSteps
   steps-many zero t h = refl
   steps-many (suc n) t h = rw (le-leb limit (t .consecutive) h)
 
-  pub steps-easy : (n : ℕ) (t : ShortTerm) → 4 ≤ t .rating → shortSteps x transitions costs limit n t ≡ t
+  pub steps-easy : (n : ℕ) (t : ShortTerm) → 4 ≤ t .rating → shortSteps w x transitions costs limit n t ≡ t
   unfolding shortSteps
   steps-easy zero t h = refl
   steps-easy (suc n) t h = go (leb limit (t .consecutive))
     where
-      go : (b : Bool) → cond (b || leb 4 (t .rating)) t (shortSteps x transitions costs limit n (shortStep x transitions costs t)) ≡ t
+      go : (b : Bool) → cond (b || leb 4 (t .rating)) t (shortSteps w x transitions costs limit n (shortStep w x transitions costs t)) ≡ t
       go true = refl
       go false = rw (le-leb 4 (t .rating) h)
 
-  pub steps-on : (n : ℕ) (t t′ : ShortTerm) → 0 < n → t .consecutive < limit → t .rating < 4 → t′ ≡ shortStep x transitions costs t
-      → shortSteps x transitions costs limit (n - 1) t′ ≡ shortSteps x transitions costs limit n t
-  steps-on n t t′ p h k e = rw e (sym (ap (λ (z : ℕ). shortSteps x transitions costs limit z t) (let z : n ≡ suc (n - 1) = omega arith in z) ∙ one (n - 1)))
+  pub steps-on : (n : ℕ) (t t′ : ShortTerm) → 0 < n → t .consecutive < limit → t .rating < 4 → t′ ≡ shortStep w x transitions costs t
+      → shortSteps w x transitions costs limit (n - 1) t′ ≡ shortSteps w x transitions costs limit n t
+  steps-on n t t′ p h k e = rw e (sym (ap (λ (z : ℕ). shortSteps w x transitions costs limit z t) (let z : n ≡ suc (n - 1) = omega arith in z) ∙ one (n - 1)))
     where
-      one : (m : ℕ) → shortSteps x transitions costs limit (suc m) t ≡ shortSteps x transitions costs limit m (shortStep x transitions costs t)
+      one : (m : ℕ) → shortSteps w x transitions costs limit (suc m) t ≡ shortSteps w x transitions costs limit m (shortStep w x transitions costs t)
       one m = unfold shortSteps in rw (lt-leb limit (t .consecutive) h, lt-leb 4 (t .rating) k)
 
 -- THE MODEL KEPT BY VALUE is the model

@@ -1,4 +1,4 @@
--- What a learning and a review do to a card, over any memory model. Definitions only.
+-- What a learning and a review do to a card, over any memory model and any way to draw. Definitions only.
 use Prim.Native.Nat.{ℕ, zero, suc, _+_, _-_, min}
 use mathlib.Core.Bool.{Bool, true, false, _&&_, _||_, cond}
 use mathlib.Core.List.{List}
@@ -8,7 +8,7 @@ use lib.IntN.{pos}
 use lib.Ieee.{Float, nan, ofBits, binary32, ofInt, le}
 use Rattle.float32.specs.Float32.{clamp}
 use Rattle.float32.specs.Ops.{_+ᶠ_, _-ᶠ_}
-use Rattle.draws.specs.Draws.{advance, mix, word, rating, recalled}
+use Rattle.draws.specs.Draws.{DrawRule, rating, recalled}
 use Rattle.model.specs.Constants.{sMin, sMax, dMin, dMax}
 use Rattle.cards.specs.declared.SimulatorConfig.{SimulatorConfig}
 use Rattle.cards.specs.declared.Card.{Card}
@@ -18,10 +18,6 @@ use Rattle.events.specs.declared.Memory.{Memory}
 use Rattle.events.specs.declared.Event.{Event}
 use Rattle.events.specs.declared.Event.the-variants as event
 use Rattle.events.specs.Scalars.{Scalars}
-
--- the word of the draw that leads to a state
-abbrev pub wordOf : ℕ → ℕ
-wordOf state = word (mix state)
 
 -- a rating from an index of its weight: 1 to 4 by four weights, 2 to 4 by three
 abbrev pub ratingOf : ℕ → ℕ
@@ -38,19 +34,18 @@ ofRating row rating = getD row (rating - 1) nan
 unfoldable pub consecutiveAfter : ℕ → ℕ → ℕ
 consecutiveAfter n rating = cond (ltb 2 rating) (n + 1) (cond (eqb rating 1) 0 n)
 
-module _ (x : Scalars) (transitions costs : List Float) where
+module _ (w : DrawRule) (x : Scalars) (transitions costs : List Float) where
   -- a short-term step: a rating drawn by the row of the last one, and what it does at a chance to recall of 1
   unfoldable pub shortStep : ShortTerm → ShortTerm
   shortStep t =
-      let draws = advance (t .draws) in
-      let r = ratingOf (rating (rowOf transitions (t .rating - 1)) (wordOf draws)) in
+      let r = ratingOf (rating (rowOf transitions (t .rating - 1)) (w .word (t .draws))) in
       record {
         stability = x .next-stability (t .stability) (t .difficulty) (ofBits binary32 0x3F80_0000) r;
         difficulty = x .next-difficulty (t .difficulty) r;
         cost = t .cost +ᶠ ofRating costs r;
         rating = r;
         consecutive = consecutiveAfter (t .consecutive) r;
-        draws = draws;
+        draws = w .after (t .draws);
       }
 
   -- at most n steps, until a rating of 4 or so many consecutive successes
@@ -86,12 +81,11 @@ pickEvent false a b = b
 abbrev pub learningLimit : SimulatorConfig → ℕ → ℕ
 learningLimit g rating = cond (ltb 2 rating) (g .«learning_step_count» - 1) (g .«learning_step_count»)
 
-module _ (g : SimulatorConfig) (x : Scalars) where
+module _ (w : DrawRule) (g : SimulatorConfig) (x : Scalars) where
   -- a learning: a first rating, and at most five short-term steps
   unfoldable pub learning : ℕ → Memory
   learning state =
-      let draws = advance state in
-      let r = ratingOf (rating (g .«first_rating_prob») (wordOf draws)) in
+      let r = ratingOf (rating (g .«first_rating_prob») (w .word state)) in
       let costs = rowOf (g .«state_rating_costs») 0 in
       let first : ShortTerm = record {
         stability = x .init-stability r;
@@ -99,22 +93,21 @@ module _ (g : SimulatorConfig) (x : Scalars) where
         cost = ofRating costs r;
         rating = r;
         consecutive = 0;
-        draws = draws;
+        draws = w .after state;
       } in
-      let t = shortSteps x (g .«learning_step_transitions») costs (learningLimit g r) 5 first in
+      let t = shortSteps w x (g .«learning_step_transitions») costs (learningLimit g r) 5 first in
       memoryOf t (t .cost) true
 
   -- a review that was recalled: a rating of 2 to 4
   unfoldable pub success : Card → Float → ℕ → Memory
   success k chance state =
-      let draws = advance state in
-      let r = recalledRatingOf (rating (g .«review_rating_prob») (wordOf draws)) in
+      let r = recalledRatingOf (rating (g .«review_rating_prob») (w .word state)) in
       record {
         difficulty = x .next-difficulty (k .difficulty) r;
         stability = x .next-stability (k .stability) (k .difficulty) chance r;
         cost = ofRating (rowOf (g .«state_rating_costs») 1) r;
         recalled = true;
-        draws = draws;
+        draws = w .after state;
       }
 
   -- a lapse: rating 1, and at most five short-term steps
@@ -128,15 +121,15 @@ module _ (g : SimulatorConfig) (x : Scalars) where
         consecutive = 0;
         draws = state;
       } in
-      let t = shortSteps x (g .«relearning_step_transitions») (rowOf (g .«state_rating_costs») 2) (g .«relearning_step_count») 5 first in
+      let t = shortSteps w x (g .«relearning_step_transitions») (rowOf (g .«state_rating_costs») 2) (g .«relearning_step_count») 5 first in
       memoryOf t (ofRating (rowOf (g .«state_rating_costs») 1) 1 +ᶠ t .cost) false
 
   -- a review at a chance to recall draws once, whatever the chance
   unfoldable pub reviewing : Card → Float → ℕ → Event
   reviewing k chance state =
-      let draws = advance state in
+      let draws = w .after state in
       pickEvent (chanceOk chance)
-      (pickEvent (recalled chance (wordOf draws)) (event.Happened (success k chance draws)) (event.Happened (lapse k chance draws)))
+      (pickEvent (recalled chance (w .word state)) (event.Happened (success k chance draws)) (event.Happened (lapse k chance draws)))
       event.Chance
 
   -- a learning of a new card, or a review at a chance

@@ -7,7 +7,7 @@ ghost use mathlib.Core.Path.{_≡_};
 ghost use Prim.Native.Nat.{_+_, _-_, _≤_, _<_, min};
 ghost use mathlib.Core.Bool.{cond};
 ghost use lib.Dec.{ltb};
-ghost use Rattle.draws.specs.Draws.{word, rating};
+ghost use Rattle.draws.specs.Draws.{word, rating, splitMix};
 ghost use Rattle.events.specs.Scalars.{kept};
 ghost use Rattle.events.specs.Events.{ratingOf, recalledRatingOf, ofRating, consecutiveAfter, shortStep, shortSteps, memoryOf, learningLimit, learning, success, lapse, chanceOk, reviewing, eventAt};
 
@@ -90,7 +90,7 @@ fn consecutive_after(n: u32, rating: u32) -> u32
 
 fn short_step(m: Fsrs7, transitions: [f32; 12], costs: [f32; 4], t: ShortTerm) -> ShortTerm
     requires { ⌜ t .consecutive < 4294967295 ⌝ }
-    ensures { λ r. ⌜ r ≡ shortStep (kept m) transitions costs t ⌝ }
+    ensures { λ r. ⌜ r ≡ shortStep splitMix (kept m) transitions costs t ⌝ }
 {
     let drawn = SplitMix64::new(t.draws).next();
     let row = cards::row_of(transitions, one_less(t.rating));
@@ -113,7 +113,7 @@ fn short_steps(
     limit: u32,
     first: ShortTerm,
 ) -> ShortTerm
-    ensures { λ r. ⌜ r ≡ shortSteps (kept m) transitions costs limit 5 first ⌝ }
+    ensures { λ r. ⌜ r ≡ shortSteps splitMix (kept m) transitions costs limit 5 first ⌝ }
 {
     let mut t = first;
     let mut left: u32 = 5;
@@ -153,7 +153,7 @@ fn learning_limit(config: SimulatorConfig, rating: u32) -> u32
 }
 
 fn learning(config: SimulatorConfig, m: Fsrs7, state: u64) -> Memory
-    ensures { λ r. ⌜ r ≡ learning config (kept m) state ⌝ }
+    ensures { λ r. ⌜ r ≡ learning splitMix config (kept m) state ⌝ }
 {
     let drawn = SplitMix64::new(state).next();
     let row = config.first_rating_prob;
@@ -175,7 +175,7 @@ fn learning(config: SimulatorConfig, m: Fsrs7, state: u64) -> Memory
 }
 
 fn success(config: SimulatorConfig, m: Fsrs7, card: Card, chance: f32, state: u64) -> Memory
-    ensures { λ r. ⌜ r ≡ success config (kept m) card chance state ⌝ }
+    ensures { λ r. ⌜ r ≡ success splitMix config (kept m) card chance state ⌝ }
 {
     let drawn = SplitMix64::new(state).next();
     let row = config.review_rating_prob;
@@ -193,7 +193,7 @@ fn success(config: SimulatorConfig, m: Fsrs7, card: Card, chance: f32, state: u6
 }
 
 fn lapse(config: SimulatorConfig, m: Fsrs7, card: Card, chance: f32, state: u64) -> Memory
-    ensures { λ r. ⌜ r ≡ lapse config (kept m) card chance state ⌝ }
+    ensures { λ r. ⌜ r ≡ lapse splitMix config (kept m) card chance state ⌝ }
 {
     let first = ShortTerm {
         stability: m.stability_after_failure(card.stability, chance, card.difficulty),
@@ -222,7 +222,7 @@ fn chance_ok(chance: f32) -> bool
 }
 
 fn reviewing(config: SimulatorConfig, m: Fsrs7, card: Card, chance: f32, state: u64) -> Event
-    ensures { λ r. ⌜ r ≡ reviewing config (kept m) card chance state ⌝ }
+    ensures { λ r. ⌜ r ≡ reviewing splitMix config (kept m) card chance state ⌝ }
 {
     if chance_ok(chance) {
         let drawn = SplitMix64::new(state).next();
@@ -244,7 +244,7 @@ pub fn event_at(
     chance: f32,
     state: u64,
 ) -> Event
-    ensures { λ r. ⌜ r ≡ eventAt config (kept m) card new chance state ⌝ }
+    ensures { λ r. ⌜ r ≡ eventAt splitMix config (kept m) card new chance state ⌝ }
 {
     if new {
         return Event::Happened(learning(config, m, state));

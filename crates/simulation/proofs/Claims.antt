@@ -11,13 +11,15 @@ use lib.Ieee.{Float, ofBits, ofFields, binary32, ofInt, round, le, isNan}
 use lib.Ieee.Positive.{positive, between, le-trans-positive}
 use Rattle.float32.proofs.Cmp as cmp
 use Rattle.turns.specs.Run.{stops}
+use Rattle.turns.proofs.Columns.{SetUp}
+use Rattle.draws.specs.Draws.{DrawRule, splitMix}
 use Rattle.model.specs.Kept as Kept
 use Rattle.model.specs.Model.{scheduled}
 use Rattle.model.proofs.Laws.{scheduled-between}
 use Rattle.cards.specs.declared.SimulatorConfig.{SimulatorConfig}
 use Rattle.cards.specs.Config.{rowOf, threeOf, weightsOk, transitionsOk, costsOk, intervalOk, configOk}
 use Rattle.cards.proofs.Later.{Fair, one-is}
-use Rattle.events.specs.Scalars.{Scalars, kept}
+use Rattle.events.specs.Scalars.{Scalars, plain, kept}
 use Rattle.events.proofs.Loops.{kept-is}
 use Rattle.simulation.specs.declared.Refusal.{Refusal}
 use Rattle.simulation.specs.declared.Check.{Check}
@@ -27,14 +29,15 @@ use Rattle.simulation.specs.declared.Answer.{Answer}
 use Rattle.simulation.specs.declared.Answer.the-variants as answer
 use Rattle.simulation.specs.declared.Stop.{Stop}
 use Rattle.simulation.specs.State.{State, state}
-use Rattle.simulation.specs.Model.{modelOf}
+use Rattle.simulation.specs.Rules.{Rules, rulesWith, rulesOf, costs}
 use Rattle.simulation.specs.Turn.{next}
 use Rattle.simulation.specs.Entry.{Inputs, inputs, checked}
-use Rattle.simulation.specs.SetUp.{setUp}
-use Rattle.simulation.specs.Simulate.{progress, bound, ran, finished, simulated}
-use Rattle.simulation.specs.Demands.{Finished, modelFor, cardsOf, turnsOf, DemandThree}
+use Rattle.simulation.specs.SetUp.{known, setUp}
+use Rattle.simulation.specs.Simulate.{progress, rulesFor, bound, ran, finished, simulatedBy, simulated}
+use Rattle.simulation.specs.Demands.{Finished, cardsOf, turnsOf, DemandThree}
 use Rattle.simulation.specs.Steps.{Done}
-use Rattle.simulation.proofs.Good.{Fine}
+use Rattle.simulation.proofs.Views.{columns}
+use Rattle.simulation.proofs.Good.{Fine, Good}
 use Rattle.simulation.proofs.Accepted.{Accepted, accepted, both}
 use Rattle.simulation.proofs.Joining.{set-up-few, set-up-start, set-up-good}
 use Rattle.simulation.proofs.Lawful.{turns-demand, turns-rows, ends}
@@ -83,34 +86,40 @@ interval-ok g e =
     let f = both (costsOk (g .«state_rating_costs»)) last (d .1) in
     both (not (isNan (g .«max_cost_perday»))) (intervalOk (g .«max_ivl»)) (f .1) .1
 
-module _ (i : Inputs) (s : State) (ok : Accepted i s) where
-  pub fresh-fair : (x y : Float) → Fair (modelFor i .fresh x y)
-  fresh-fair x y = scheduled-fair (i .parameters) x y (i .config .«max_ivl») (interval-ok (i .config) (ok .config-ok))
+-- what demand 3 asks of a run's rules: the span of the inputs, and new intervals of 1 to 36,500; nothing of limits or draws
+pub record Suits (R : Rules) (i : Inputs) : Type 0 where
+  pub span-is : i .config .«learn_span» ≡ R .span
+  pub fresh-fair : (x y : Float) → Fair (R .model .fresh x y)
 
-  pub fine : Fine (i .config) (cardsOf i s)
-  fine = record {
-    some = ok .span-some;
-    most = ok .span-most;
-    few = omega (arith, set-up-few i s ok, ok .deck-most);
-  }
+-- so WHATEVER IS DRAWN
+pub suits : (w : DrawRule) (i : Inputs) (s : State) → Accepted i s → Suits (rulesWith w (i .config) (plain (i .parameters))) i
+suits w i s ok = record { span-is = refl; fresh-fair = λ x y. scheduled-fair (i .parameters) x y (i .config .«max_ivl») (interval-ok (i .config) (ok .config-ok)) }
+
+module _ (R : Rules) (i : Inputs) (s : State) (ok : Accepted i s) (fit : Suits R i) where
+  fine : Fine (R .span) (cardsOf i s)
+  fine = record { some = omega (arith, fit .span-is, ok .span-some); most = omega (arith, fit .span-is, ok .span-most); few = omega (arith, set-up-few i s ok, ok .deck-most) }
+
+  begins : SetUp columns costs (R .span) (known (i .existing) (i .existing-counts) (length (i .existing))) (setUp i s)
+  begins = subst (λ (z : ℕ). SetUp columns costs z (known (i .existing) (i .existing-counts) (length (i .existing))) (setUp i s)) (fit .span-is) (set-up-start i s ok)
+
+  good : Good (cardsOf i s) (R .span) (setUp i s)
+  good = subst (λ (z : ℕ). Good (cardsOf i s) z (setUp i s)) (fit .span-is) (set-up-good i s ok)
 
   -- the bound on turns never shows: the run has stopped
-  pub has-stopped : (y : Stop) × (next (i .config) (modelFor i) ((ran (modelFor i) i (setUp i s)) .state) ≡ stops y)
+  pub has-stopped : (y : Stop) × (next R ((ran R (setUp i s)) .state) ≡ stops y)
   unfolding ran
-  has-stopped = ends (i .config) (modelFor i) (cardsOf i s) fine fresh-fair (setUp i s) (set-up-good i s ok)
+  has-stopped = ends R (cardsOf i s) fine (fit .fresh-fair) (setUp i s) good
 
-  pub few-turns : length (turnsOf i s) ≤ cardsOf i s * suc (i .config .«learn_span»)
+  pub few-turns : length (turnsOf R i s) ≤ cardsOf i s * suc (R .span)
   unfolding ran
-  few-turns = turns-demand (i .config) (modelFor i) (cardsOf i s) fine fresh-fair _ (setUp i s) (set-up-start i s ok) (set-up-good i s ok) (bound (i .config) (setUp i s)) .few
+  few-turns = turns-demand R (cardsOf i s) fine (fit .fresh-fair) _ (setUp i s) begins good (bound R (setUp i s)) .few
 
-  pub demand-three : (counts days : List (List ℕ)) → counts ≡ (ran (modelFor i) i (setUp i s)) .state .counts → days ≡ (ran (modelFor i) i (setUp i s)) .state .days → DemandThree i s counts days
+  pub demand-three : (counts days : List (List ℕ)) → counts ≡ (ran R (setUp i s)) .state .counts → days ≡ (ran R (setUp i s)) .state .days → DemandThree R i s counts days
   unfolding ran
-  demand-three counts days ec ed =
-      let b = bound (i .config) (setUp i s) in
-      record {
-        demand = turns-demand (i .config) (modelFor i) (cardsOf i s) fine fresh-fair _ (setUp i s) (set-up-start i s ok) (set-up-good i s ok) b;
-        rows = rw (ec, ed) (turns-rows (i .config) (modelFor i) (cardsOf i s) fine fresh-fair _ (setUp i s) (set-up-start i s ok) (set-up-good i s ok) b);
-      }
+  demand-three counts days ec ed = record {
+    demand = turns-demand R (cardsOf i s) fine (fit .fresh-fair) _ (setUp i s) begins good (bound R (setUp i s));
+    rows = rw (ec, ed) (turns-rows R (cardsOf i s) fine (fit .fresh-fair) _ (setUp i s) begins good (bound R (setUp i s)));
+  }
 
 -- ---- the entry point
 pub not-finished : (r : Refusal) (p : Progress) → Finished (answer.Refused r p) → ⊥
@@ -125,19 +134,19 @@ module _ (i : Inputs) (s : State) where
   same-check e = e
 
   pub refused-is : (r : Refusal) → checked i s ≡ check.Failed r
-      → Done (simulated (modelFor i) i s) (answer.Refused r (progress 0 0 (i .seed))) (s .cards) (s .counts) (s .queue .rows) (s .days) (s .sums) (s .due) (s .table .keys) (s .table .intervals)
-  unfolding simulated
+      → Done (simulated i s) (answer.Refused r (progress 0 0 (i .seed))) (s .cards) (s .counts) (s .queue .rows) (s .days) (s .sums) (s .due) (s .table .keys) (s .table .intervals)
+  unfolding simulatedBy
   refused-is r e = rw e (record { answer = refl; lists = record { cards-are = refl; counts-are = refl; rows-are = refl; days-are = refl; sums-are = refl; due-are = refl; table-is = refl } })
 
   module _ (e : checked i s ≡ check.Passed) {r : Answer} {c′ : List (List Float)} {n′ r′ d′ : List (List ℕ)} {u′ : List (List Float)} {v′ : List ℕ} {k′ : List (List ℕ)} {t′ : List Float}
-      (d : Done (finished (modelOf (i .config) (kept (Kept.newOf (i .parameters)))) i (setUp i s)) r c′ n′ r′ d′ u′ v′ k′ t′) where
-    plainly : Done (finished (modelFor i) i (setUp i s)) r c′ n′ r′ d′ u′ v′ k′ t′
-    plainly = subst (λ (x : Scalars). Done (finished (modelOf (i .config) x) i (setUp i s)) r c′ n′ r′ d′ u′ v′ k′ t′) (kept-is (i .parameters)) d
+      (d : Done (finished (rulesOf (i .config) (kept (Kept.newOf (i .parameters)))) (setUp i s)) r c′ n′ r′ d′ u′ v′ k′ t′) where
+    plainly : Done (finished (rulesFor i) (setUp i s)) r c′ n′ r′ d′ u′ v′ k′ t′
+    plainly = subst (λ (x : Scalars). Done (finished (rulesOf (i .config) x) (setUp i s)) r c′ n′ r′ d′ u′ v′ k′ t′) (kept-is (i .parameters)) d
 
-    pub accepted-is : Done (simulated (modelFor i) i s) r c′ n′ r′ d′ u′ v′ k′ t′
-    unfolding simulated
+    pub accepted-is : Done (simulated i s) r c′ n′ r′ d′ u′ v′ k′ t′
+    unfolding simulatedBy
     accepted-is = rw e plainly
 
-    pub three-is : DemandThree i s n′ d′
+    pub three-is : DemandThree (rulesFor i) i s n′ d′
     unfolding finished
-    three-is = demand-three i s (accepted i s e) n′ d′ (plainly .lists .counts-are) (plainly .lists .days-are)
+    three-is = demand-three (rulesFor i) i s (accepted i s e) (suits splitMix i s (accepted i s e)) n′ d′ (plainly .lists .counts-are) (plainly .lists .days-are)

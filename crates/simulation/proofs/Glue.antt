@@ -11,7 +11,6 @@ use Prim.Native.Nat.{ℕ}
 use lib.Ieee.{Float}
 use Rattle.turns.specs.Turns.{putOff}
 use Rattle.turns.specs.Run.{takes, stops}
-use Rattle.cards.specs.declared.SimulatorConfig.{SimulatorConfig}
 use Rattle.cards.specs.declared.Card.{Card}
 use Rattle.cards.specs.declared.Choice.{Choice}
 use Rattle.cards.specs.declared.Choice.the-variants as choice
@@ -34,7 +33,8 @@ use Rattle.simulation.specs.declared.Outcome.{Outcome}
 use Rattle.simulation.specs.declared.Outcome.the-variants as outcome
 use Rattle.simulation.specs.declared.Refusal.the-variants as refusal
 use Rattle.simulation.specs.declared.Stop.the-variants as stop
-use Rattle.simulation.specs.State.{State, Model, Lists, state, keyOf}
+use Rattle.simulation.specs.State.{State, Lists, state, keyOf}
+use Rattle.simulation.specs.Rules.{Rules}
 use Rattle.simulation.specs.Turn.{refuses, turnAs, kindAs, eventCard, retired, postponed, handled, slotFor, handleAs, handle, orElse, act, next}
 use Rattle.simulation.specs.Steps.{Turned, PutOff, PutOffStep, RetireStep, DaysWritten, CardWritten}
 
@@ -58,18 +58,18 @@ put-off-done span c k d len draws cards rows due new b cards′ rows′ due′ e
     let x : noneDue due (newOf (k .«last_date»)) d ≡ false = rw (← en) (sym eb ∙ t) in
     record { refused = λ y. absurd (true≢false (sym y ∙ x)); done = λ y. (refl, p) }
 
-module _ (g : SimulatorConfig) (m : Model) (r : State) (c : ℕ) (k : Card) (new : Bool) (d : ℕ) (y : Memory) where
-  handle-full : (t : Slot) → isFull t ≡ true → handleAs g m r c k new d y t ≡ refuses (refusal.TableFull c)
+module _ (R : Rules) (r : State) (c : ℕ) (k : Card) (new : Bool) (d : ℕ) (y : Memory) where
+  handle-full : (t : Slot) → isFull t ≡ true → handleAs R r c k new d y t ≡ refuses (refusal.TableFull c)
   handle-full (slot.Keep v) e = absurd (false≢true e)
   handle-full (slot.Enter p a b v) e = absurd (false≢true e)
   handle-full slot.Full e = refl
 
-  handle-some : (t : Slot) → isFull t ≡ false → handleAs g m r c k new d y t ≡ takes (turnAs c d (kindAs new y)) (handled g m r c k new d y t)
+  handle-some : (t : Slot) → isFull t ≡ false → handleAs R r c k new d y t ≡ takes (turnAs c d (kindAs new y)) (handled R r c k new d y t)
   handle-some (slot.Keep v) e = refl
   handle-some (slot.Enter p a b v) e = refl
   handle-some slot.Full e = absurd (true≢false e)
 
-module _ (g : SimulatorConfig) (m : Model) (cards : List (List Float)) (counts rows days : List (List ℕ)) (sums : List (List Float)) (due : List ℕ) (keys : List (List ℕ)) (intervals : List Float) (len draws : ℕ) where
+module _ (R : Rules) (cards : List (List Float)) (counts rows days : List (List ℕ)) (sums : List (List Float)) (due : List ℕ) (keys : List (List ℕ)) (intervals : List Float) (len draws : ℕ) where
   abbrev st : State
   st = state cards counts rows days sums due keys intervals len draws
 
@@ -78,21 +78,21 @@ module _ (g : SimulatorConfig) (m : Model) (cards : List (List Float)) (counts r
 
   -- ---- an event
   module _ (c : ℕ) (k : Card) (new : Bool) (d : ℕ) where
-    pub chance-is : (e : Event) → e ≡ m .event k new d draws → e ≡ event.Chance → Turned (handle g m st c k new d) st (outcome.Stopped (stop.Refused (refusal.Chance c))) cards counts rows days sums due keys intervals
+    pub chance-is : (e : Event) → e ≡ R .model .event (R .draw) k new d draws → e ≡ event.Chance → Turned (handle R st c k new d) st (outcome.Stopped (stop.Refused (refusal.Chance c))) cards counts rows days sums due keys intervals
     unfolding handle
     chance-is e p q =
-        let x : m .event k new d draws ≡ event.Chance = sym p ∙ q in
+        let x : R .model .event (R .draw) k new d draws ≡ event.Chance = sym p ∙ q in
         rw x (record { outcome = refl; lists = same })
 
-    module _ (e : Event) (x : Memory) (p : e ≡ m .event k new d draws) (q : e ≡ event.Happened x) (t : Slot) (z : t ≡ slotFor g m (table keys intervals) (x .stability) (k .«desired_retention»)) where
-      handles : handle g m st c k new d ≡ handleAs g m st c k new d x t
+    module _ (e : Event) (x : Memory) (p : e ≡ R .model .event (R .draw) k new d draws) (q : e ≡ event.Happened x) (t : Slot) (z : t ≡ slotFor (R .model) (table keys intervals) (x .stability) (k .«desired_retention»)) where
+      handles : handle R st c k new d ≡ handleAs R st c k new d x t
       unfolding handle
       handles =
-          let y : m .event k new d draws ≡ event.Happened x = sym p ∙ q in
+          let y : R .model .event (R .draw) k new d draws ≡ event.Happened x = sym p ∙ q in
           rw (y, z)
 
-      pub full-is : (f : Bool) → f ≡ isFull t → f ≡ true → Turned (handle g m st c k new d) st (outcome.Stopped (stop.Refused (refusal.TableFull c))) cards counts rows days sums due keys intervals
-      full-is f u y = rw (handles ∙ handle-full g m st c k new d x t (sym u ∙ y)) (record { outcome = refl; lists = same })
+      pub full-is : (f : Bool) → f ≡ isFull t → f ≡ true → Turned (handle R st c k new d) st (outcome.Stopped (stop.Refused (refusal.TableFull c))) cards counts rows days sums due keys intervals
+      full-is f u y = rw (handles ∙ handle-full R st c k new d x t (sym u ∙ y)) (record { outcome = refl; lists = same })
 
       pub handled-is : (f : Bool) → f ≡ isFull t → f ≡ false
           → (v : Float) → v ≡ intervalOf t
@@ -100,46 +100,46 @@ module _ (g : SimulatorConfig) (m : Model) (cards : List (List Float)) (counts r
           → (day : ℕ) → day ≡ dayOf (k′ .due)
           → (cards′ : List (List Float)) (counts′ rows′ days′ : List (List ℕ)) (sums′ : List (List Float)) (due′ : List ℕ) (keys′ : List (List ℕ)) (intervals′ : List Float)
           → CardWritten c k′ len cards counts rows cards′ counts′ rows′
-          → DaysWritten g m k new d x days sums days′ sums′
-          → due′ ≡ addDue (g .«learn_span») due day
+          → DaysWritten R k new d x days sums days′ sums′
+          → due′ ≡ addDue (R .span) due day
           → table keys′ intervals′ ≡ entered (table keys intervals) t
-          → Turned (handle g m st c k new d) st (outcome.Took len (x .draws)) cards′ counts′ rows′ days′ sums′ due′ keys′ intervals′
+          → Turned (handle R st c k new d) st (outcome.Took len (x .draws)) cards′ counts′ rows′ days′ sums′ due′ keys′ intervals′
       unfolding handled
       handled-is f u y v ev k′ ek day ed cards′ counts′ rows′ days′ sums′ due′ keys′ intervals′ cw dw du tw =
           let kk : eventCard k new x d (intervalOf t) ≡ k′ = sym (ek ∙ ap (λ (w : Float). eventCard k new x d w) ev) in
           let q′ : frontChanged (queue rows len) (keyOf k′) ≡ queue rows′ len = sym (cw .queue-is) in
-          rw (handles ∙ handle-some g m st c k new d x t (sym u ∙ y))
+          rw (handles ∙ handle-some R st c k new d x t (sym u ∙ y))
           (rw (kk, q′)
           (record {
             outcome = refl;
-            lists = record { cards-are = cw .cards-are; counts-are = cw .counts-are; rows-are = refl; days-are = dw .days-are; sums-are = dw .sums-are; due-are = du ∙ ap (addDue (g .«learn_span») due) ed; table-is = tw };
+            lists = record { cards-are = cw .cards-are; counts-are = cw .counts-are; rows-are = refl; days-are = dw .days-are; sums-are = dw .sums-are; due-are = du ∙ ap (addDue (R .span) due) ed; table-is = tw };
           }))
 
   -- ---- the turn
-  pub ended-is : len ≡ 0 → Turned (next g m st) st (outcome.Stopped stop.Ended) cards counts rows days sums due keys intervals
+  pub ended-is : len ≡ 0 → Turned (next R st) st (outcome.Stopped stop.Ended) cards counts rows days sums due keys intervals
   unfolding next
   ended-is e = rw (eq-eqb len 0 e) (record { outcome = refl; lists = same })
 
   module _ (ne : len ≢ 0) (c : ℕ) (k : Card) (d l r : ℕ) (x : Float) (ch : Choice) (ec : c ≡ front (queue rows len)) (ek : k ≡ cardAt cards counts c) (ed : d ≡ dayOf (k .due))
-      (el : l ≡ learnedAt days d) (er : r ≡ reviewedAt days d) (ex : x ≡ costAt sums d) (eh : ch ≡ choiceOf g k l r x) where
-    next-is : next g m st ≡ act g m st c k d ch
+      (el : l ≡ learnedAt days d) (er : r ≡ reviewedAt days d) (ex : x ≡ costAt sums d) (eh : ch ≡ choiceOf (R .span) (R .lapse-limit) (R .limits) d k l r x) where
+    next-is : next R st ≡ act R st c k d ch
     unfolding next
     next-is = rw (ne-eqb len 0 ne, ← ec, ← ek, ← ed, ← el, ← er, ← ex, ← eh)
 
-    pub retired-is : (o : Outcome) (sums′ : List (List Float)) (rows′ : List (List ℕ)) → ch ≡ choice.Retire → RetireStep g m k len draws sums rows o sums′ rows′
-        → Turned (next g m st) st o cards counts rows′ days sums′ due keys intervals
+    pub retired-is : (o : Outcome) (sums′ : List (List Float)) (rows′ : List (List ℕ)) → ch ≡ choice.Retire → RetireStep R k len draws sums rows o sums′ rows′
+        → Turned (next R st) st o cards counts rows′ days sums′ due keys intervals
     unfolding retired
     retired-is o sums′ rows′ e p =
-        rw (next-is ∙ ap (act g m st c k d) e)
+        rw (next-is ∙ ap (act R st c k d) e)
         (record { outcome = p .outcome; lists = record { cards-are = refl; counts-are = refl; rows-are = p .rows-are; days-are = refl; sums-are = p .sums-are; due-are = refl; table-is = refl } })
 
-    pub put-off-is : (o : Outcome) (cards′ : List (List Float)) (rows′ : List (List ℕ)) (due′ : List ℕ) → ch ≡ choice.PutOff → PutOffStep (g .«learn_span») c k d len draws cards rows due o cards′ rows′ due′
-        → Turned (next g m st) st o cards′ counts rows′ days sums due′ keys intervals
+    pub put-off-is : (o : Outcome) (cards′ : List (List Float)) (rows′ : List (List ℕ)) (due′ : List ℕ) → ch ≡ choice.PutOff → PutOffStep (R .span) c k d len draws cards rows due o cards′ rows′ due′
+        → Turned (next R st) st o cards′ counts rows′ days sums due′ keys intervals
     unfolding postponed
-    put-off-is o cards′ rows′ due′ e p = rw (next-is ∙ ap (act g m st c k d) e) (go (noneDue due (newOf (k .«last_date»)) d) refl)
+    put-off-is o cards′ rows′ due′ e p = rw (next-is ∙ ap (act R st c k d) e) (go (noneDue due (newOf (k .«last_date»)) d) refl)
       where
         go : (b : Bool) → noneDue due (newOf (k .«last_date»)) d ≡ b
-            → Turned (orElse g m b (refuses (refusal.DueCount c)) (takes (turnAs c d putOff) (postponed g m st c k d))) st o cards′ counts rows′ days sums due′ keys intervals
+            → Turned (orElse b (refuses (refusal.DueCount c)) (takes (turnAs c d putOff) (postponed R st c k d))) st o cards′ counts rows′ days sums due′ keys intervals
         go true y =
             let h = p .refused y in
             record { outcome = h .0; lists = record { cards-are = h .1 .cards-are; counts-are = refl; rows-are = h .1 .rows-are; days-are = refl; sums-are = refl; due-are = h .1 .due-are; table-is = refl } }
@@ -149,7 +149,7 @@ module _ (g : SimulatorConfig) (m : Model) (cards : List (List Float)) (counts r
             (record { outcome = h .0; lists = record { cards-are = h .1 .cards-are; counts-are = refl; rows-are = refl; days-are = refl; sums-are = refl; due-are = h .1 .due-are; table-is = refl } })
 
     pub event-is : (new : Bool) (o : Outcome) (cards′ : List (List Float)) (counts′ rows′ days′ : List (List ℕ)) (sums′ : List (List Float)) (due′ : List ℕ) (keys′ : List (List ℕ)) (intervals′ : List Float)
-        → act g m st c k d ch ≡ handle g m st c k new d
-        → Turned (handle g m st c k new d) st o cards′ counts′ rows′ days′ sums′ due′ keys′ intervals′
-        → Turned (next g m st) st o cards′ counts′ rows′ days′ sums′ due′ keys′ intervals′
+        → act R st c k d ch ≡ handle R st c k new d
+        → Turned (handle R st c k new d) st o cards′ counts′ rows′ days′ sums′ due′ keys′ intervals′
+        → Turned (next R st) st o cards′ counts′ rows′ days′ sums′ due′ keys′ intervals′
     event-is new o cards′ counts′ rows′ days′ sums′ due′ keys′ intervals′ e p = rw (next-is ∙ e) p

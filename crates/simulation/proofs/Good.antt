@@ -15,7 +15,6 @@ use Rattle.turns.specs.Sums.{bit, sumTo}
 use Rattle.turns.specs.Turns.{Turn, Kind, putOff, retire}
 use Rattle.turns.proofs.Sums.{sum-same, sum-at, lt-step}
 use Rattle.turns.proofs.Demand.{Step}
-use Rattle.cards.specs.declared.SimulatorConfig.{SimulatorConfig}
 use Rattle.cards.specs.declared.Card.{Card}
 use Rattle.cards.specs.Day.{dayOf, newOf, nextDue}
 use Rattle.cards.specs.Cards.{noFloats, cardAt, floatsOf, writeFloats}
@@ -32,13 +31,13 @@ use Rattle.queue.proofs.Laws.{change-queued, pop-other, pop-front, front-queued
 use Rattle.intervals.specs.Table.{places, freeAt, valueAt}
 use Rattle.simulation.specs.State.{State, Model, cardIn, keyOf}
 use Rattle.simulation.specs.Turn.{putOffCard, holdCard, postponed, retired, turnAs}
-use Rattle.simulation.specs.Rules.{costs, limits}
+use Rattle.simulation.specs.Rules.{Rules, costs}
 use Rattle.simulation.proofs.Views.{difficultyIn, dayIn, newIn, keyIn, view, columns}
 
--- of the configuration and the number of cards, by the entry's refusals
-pub record Fine (g : SimulatorConfig) (cards : ℕ) : Type 0 where
-  pub some : 0 < g .«learn_span»
-  pub most : g .«learn_span» ≤ 36500
+-- of the span and the number of cards, by the entry's refusals
+pub record Fine (span cards : ℕ) : Type 0 where
+  pub some : 0 < span
+  pub most : span ≤ 36500
   pub few : cards ≤ 65536
 
 -- of the state: lists long enough, each queued card with its key, days that fit an i32, used intervals of 1 to 36,500; no more
@@ -128,7 +127,7 @@ or-left : (a b : Bool) → (a || b) ≡ false → a ≡ false
 or-left true b e = e
 or-left false b e = refl
 
-module _ (g : SimulatorConfig) (m : Model) (cards : ℕ) (fine : Fine g cards) (ts : List (Turn Float)) (s : State) (good : Good cards (g .«learn_span») s) (some : 0 < s .queue .len) where
+module _ (R : Rules) (cards : ℕ) (fine : Fine (R .span) cards) (ts : List (Turn Float)) (s : State) (good : Good cards (R .span) s) (some : 0 < s .queue .len) where
   abbrev c : ℕ
   c = front (s .queue)
 
@@ -142,7 +141,7 @@ module _ (g : SimulatorConfig) (m : Model) (cards : ℕ) (fine : Fine g cards) (
   d = dayOf (k .due)
 
   abbrev StepTo : Kind Float → State → Type 0
-  StepTo kind s′ = Step view columns costs (limits g) cards (g .«learn_span») ts s (turnAs c d kind) s′
+  StepTo kind s′ = Step view columns costs (R .limits) cards (R .span) ts s (turnAs c d kind) s′
 
   pub is-card : c < cards
   is-card = good .keyed .named 0 some
@@ -158,9 +157,9 @@ module _ (g : SimulatorConfig) (m : Model) (cards : ℕ) (fine : Fine g cards) (
       queued-card : (x : ℕ) → queued (s .queue) x ≡ true → x < cards
       queued-card = queued-named cards (keyIn fs) (s .queue) (good .keyed)
 
-  pub in-span : retires g k ≡ false → d < g .«learn_span»
+  pub in-span : retires (R .span) (R .lapse-limit) k ≡ false → d < R .span
   unfolding retires
-  in-span e = day-in-span (g .«learn_span») (k .due) (fine .some) (fine .most) (or-left (le (ofInt binary32 (pos (g .«learn_span»))) (k .due)) (leb (g .«suspend_after_lapses») (k .lapses)) e)
+  in-span e = day-in-span (R .span) (k .due) (fine .some) (fine .most) (or-left (le (ofInt binary32 (pos (R .span))) (k .due)) (leb (R .lapse-limit) (k .lapses)) e)
 
   -- ---- PUTTING OFF
   abbrev k′ : Card
@@ -184,10 +183,10 @@ module _ (g : SimulatorConfig) (m : Model) (cards : ℕ) (fine : Fine g cards) (
       at (yes e) = rw e put-own-new
       at (no e) = else-new fs c k′ x e
 
-  pub step-put : retires g k ≡ false → StepTo putOff (postponed g m s c k d)
+  pub step-put : retires (R .span) (R .lapse-limit) k ≡ false → StepTo putOff (postponed R s c k d)
   unfolding postponed cardAt
   step-put e =
-      let h : d < g .«learn_span» = in-span e in
+      let h : d < R .span = in-span e in
       record {
         moves = record {
           is-card = is-card;
@@ -201,7 +200,7 @@ module _ (g : SimulatorConfig) (m : Model) (cards : ℕ) (fine : Fine g cards) (
         tests = tt;
       }
 
-  pub good-put : retires g k ≡ false → Good cards (g .«learn_span») (postponed g m s c k d)
+  pub good-put : retires (R .span) (R .lapse-limit) k ≡ false → Good cards (R .span) (postponed R s c k d)
   unfolding postponed cardAt
   good-put e = record {
     cards-long = omega (arith, good .cards-long, write-long fs c k′);
@@ -220,7 +219,7 @@ module _ (g : SimulatorConfig) (m : Model) (cards : ℕ) (fine : Fine g cards) (
       later : d < dayIn fs′ c
       later = rw put-own-day (day-later d (ofBits binary32 0x3F80_0000) (omega (arith, in-span e, fine .most)) (one-fair .least))
 
-      few : (x : ℕ) → x < cards → Dec (x ≡ c) → columns .lapses s x ≤ 4000000000 + min (dayIn fs′ x) (g .«learn_span»)
+      few : (x : ℕ) → x < cards → Dec (x ≡ c) → columns .lapses s x ≤ 4000000000 + min (dayIn fs′ x) (R .span)
       few x l (yes q) = omega (arith, good .lapses x l, later, ap (dayIn fs) q, ap (dayIn fs′) q)
       few x l (no q) = omega (arith, good .lapses x l, else-day fs c k′ x q)
 
@@ -229,7 +228,7 @@ module _ (g : SimulatorConfig) (m : Model) (cards : ℕ) (fine : Fine g cards) (
       at x l (no q) = omega (arith, else-day fs c k′ x q, good .near x l)
 
   -- ---- RETIRING
-  pub step-retire : StepTo retire (retired g m s k)
+  pub step-retire : StepTo retire (retired R s k)
   unfolding retired cardAt
   step-retire = record {
     moves = record {
@@ -240,17 +239,17 @@ module _ (g : SimulatorConfig) (m : Model) (cards : ℕ) (fine : Fine g cards) (
       others = λ x ne. record { same-day = refl; same-new = refl; same-queued = pop-other (s .queue) (good .keyed .sound) x ne };
     };
     least = first-is;
-    writes = record { learns = λ i l. omega arith; reviews = λ i l. omega arith; corrects = λ i l. omega arith; introduces = λ i l. omega arith; lapse = omega arith; other-lapses = λ x ne. refl; pays = λ i l. hold-card-cost m (s .sums) k (g .«learn_span») i };
+    writes = record { learns = λ i l. omega arith; reviews = λ i l. omega arith; corrects = λ i l. omega arith; introduces = λ i l. omega arith; lapse = omega arith; other-lapses = λ x ne. refl; pays = λ i l. hold-card-cost (R .model) (s .sums) k (R .span) i };
     tests = tt;
   }
 
-  pub good-retire : Good cards (g .«learn_span») (retired g m s k)
+  pub good-retire : Good cards (R .span) (retired R s k)
   unfolding retired
   good-retire = record {
     cards-long = good .cards-long;
     counts-long = good .counts-long;
     days-long = good .days-long;
-    sums-long = omega (arith, good .sums-long, hold-card-long m (s .sums) k (g .«learn_span»));
+    sums-long = omega (arith, good .sums-long, hold-card-long (R .model) (s .sums) k (R .span));
     keyed = unqueue cards (keyIn fs) (s .queue) (good .keyed);
     near = good .near;
     held = good .held;

@@ -17,7 +17,6 @@ use Rattle.turns.specs.Sums.{bit, sumTo}
 use Rattle.turns.specs.Turns.{Turn, learn, review}
 use Rattle.turns.proofs.Sums.{sum-same, sum-at, sum-le, lt-step, and-le, bit-le}
 use Rattle.turns.proofs.Demand.{Step}
-use Rattle.cards.specs.declared.SimulatorConfig.{SimulatorConfig}
 use Rattle.cards.specs.declared.Card.{Card}
 use Rattle.cards.specs.Day.{dayOf, newOf}
 use Rattle.cards.specs.Cards.{cardAt, noCounts, writeFloats, writeCounts, countsOf}
@@ -35,9 +34,9 @@ use Rattle.intervals.specs.declared.Slot.the-variants as slot
 use Rattle.intervals.specs.Table.{Table, places, freeAt, valueAt}
 use Rattle.intervals.specs.Schedule.{intervalOf, entered}
 use Rattle.intervals.proofs.Change.{enter-places, value-same, value-other, free-other}
-use Rattle.simulation.specs.State.{State, Model, cardIn, keyOf}
+use Rattle.simulation.specs.State.{State, cardIn, keyOf}
 use Rattle.simulation.specs.Turn.{eventCard, holdCard, handled, turnAs}
-use Rattle.simulation.specs.Rules.{costs, limits}
+use Rattle.simulation.specs.Rules.{Rules, costs}
 use Rattle.simulation.proofs.Views.{dayIn, newIn, keyIn, lapsesIn, view, columns}
 use Rattle.simulation.proofs.Good.{Fine, Good, write-long, else-key, else-day, else-new, own-day, own-new, own-key, hold-card-long, hold-card-cost, is-card, has-row, first-is}
 
@@ -80,8 +79,8 @@ fair-entered t (slot.Enter q a b v) f h p l e = go (ℕ-discrete p q)
     go (yes x) = rw x (rw (value-same t q a b v (omega (arith, within, x))) f)
     go (no x) = rw (value-other t q a b v p x) (h p within (sym (free-other t q a b v p x) ∙ e))
 
-module _ (g : SimulatorConfig) (m : Model) (cards : ℕ) (fine : Fine g cards) (ts : List (Turn Float)) (s : State) (good : Good cards (g .«learn_span») s) (some : 0 < s .queue .len)
-    (new : Bool) (x : Memory) (t : Slot) (fair : Fair (intervalOf t)) (h : dayOf (cardIn s (front (s .queue)) .due) < g .«learn_span») where
+module _ (R : Rules) (cards : ℕ) (fine : Fine (R .span) cards) (ts : List (Turn Float)) (s : State) (good : Good cards (R .span) s) (some : 0 < s .queue .len)
+    (new : Bool) (x : Memory) (t : Slot) (fair : Fair (intervalOf t)) (h : dayOf (cardIn s (front (s .queue)) .due) < R .span) where
   abbrev c : ℕ
   c = front (s .queue)
 
@@ -104,10 +103,10 @@ module _ (g : SimulatorConfig) (m : Model) (cards : ℕ) (fine : Fine g cards) (
   fs′ = writeFloats fs c k′
 
   mine : c < cards
-  mine = is-card g m cards fine ts s good some
+  mine = is-card R cards fine ts s good some
 
   row : c < length fs
-  row = has-row g m cards fine ts s good some
+  row = has-row R cards fine ts s good some
 
   due-day : dayIn fs′ c ≡ dayOf (add binary32 (ofInt binary32 (pos d)) (intervalOf t))
   unfolding eventCard
@@ -131,13 +130,13 @@ module _ (g : SimulatorConfig) (m : Model) (cards : ℕ) (fine : Fine g cards) (
       at (no q) = omega (arith, else-day fs c k′ i q, good .near i l)
 
   abbrev sums′ : List (List Float)
-  sums′ = holdCard m (payOn (s .sums) d (x .cost)) k d
+  sums′ = holdCard (R .model) (payOn (s .sums) d (x .cost)) k d
 
-  pays : (i : ℕ) → i < g .«learn_span» → costAt sums′ i ≡ cond (eqb d i) (add binary32 (costAt (s .sums) i) (x .cost)) (costAt (s .sums) i)
-  pays i l = hold-card-cost m (payOn (s .sums) d (x .cost)) k d i ∙ pay-cost (s .sums) d i (x .cost) (omega (arith, h, good .sums-long))
+  pays : (i : ℕ) → i < R .span → costAt sums′ i ≡ cond (eqb d i) (add binary32 (costAt (s .sums) i) (x .cost)) (costAt (s .sums) i)
+  pays i l = hold-card-cost (R .model) (payOn (s .sums) d (x .cost)) k d i ∙ pay-cost (s .sums) d i (x .cost) (omega (arith, h, good .sums-long))
 
   sums-kept : length sums′ ≡ length (s .sums)
-  sums-kept = hold-card-long m (payOn (s .sums) d (x .cost)) k d ∙ pay-long (s .sums) d (x .cost)
+  sums-kept = hold-card-long (R .model) (payOn (s .sums) d (x .cost)) k d ∙ pay-long (s .sums) d (x .cost)
 
   lapses-now : lapsesIn (writeCounts (s .counts) c k′) c ≡ k′ .lapses
   lapses-now = own-lapses (s .counts) c k′ (omega (arith, mine, good .counts-long))
@@ -147,7 +146,7 @@ module _ (g : SimulatorConfig) (m : Model) (cards : ℕ) (fine : Fine g cards) (
   lapses-then = ap (λ (l : List ℕ). getD l 1 0) (getD-any (s .counts) c noCounts [] (omega (arith, mine, good .counts-long)))
 
   -- a day's events are no more than the cards: each has put its card to a later day
-  few-events : (i : ℕ) → i < g .«learn_span» → learnedAt rows i + reviewedAt rows i ≤ 65536
+  few-events : (i : ℕ) → i < R .span → learnedAt rows i + reviewedAt rows i ≤ 65536
   few-events i l = omega (arith, good .events i l, sum-le cards 1 (λ j. bit (ltb i (dayIn fs j))) (λ j u. bit-le (ltb i (dayIn fs j))), fine .few)
 
   later-cards : (i : ℕ) → sumTo cards (λ j. bit (ltb i (dayIn fs j))) + bit (eqb d i) ≤ sumTo cards (λ j. bit (ltb i (dayIn fs′ j)))
@@ -160,39 +159,39 @@ module _ (g : SimulatorConfig) (m : Model) (cards : ℕ) (fine : Fine g cards) (
   lapses-then-few = omega (arith, good .lapses c mine, lapses-then)
 
   lapses-few : (n : ℕ) → n ≤ 1 → lapsesIn (writeCounts (s .counts) c k′) c ≡ lapsesIn (s .counts) c + n
-      → (i : ℕ) → i < cards → lapsesIn (writeCounts (s .counts) c k′) i ≤ 4000000000 + min (dayIn fs′ i) (g .«learn_span»)
+      → (i : ℕ) → i < cards → lapsesIn (writeCounts (s .counts) c k′) i ≤ 4000000000 + min (dayIn fs′ i) (R .span)
   unfolding cardAt
   lapses-few n few e i l = at (ℕ-discrete i c)
     where
-      at : Dec (i ≡ c) → lapsesIn (writeCounts (s .counts) c k′) i ≤ 4000000000 + min (dayIn fs′ i) (g .«learn_span»)
+      at : Dec (i ≡ c) → lapsesIn (writeCounts (s .counts) c k′) i ≤ 4000000000 + min (dayIn fs′ i) (R .span)
       at (yes q) = rw q (omega (arith, e, few, good .lapses c mine, onward, h))
       at (no q) = omega (arith, good .lapses i l, else-lapses (s .counts) c k′ i q, else-day fs c k′ i q)
 
   -- ---- A LEARNING
-  module _ (en : newIn fs c ≡ true) (is : new ≡ true) (l-ok : learnedAt rows d < g .«learn_limit») (b-ok : not (g .«new_cards_ignore_review_limit») ≡ true → learnedAt rows d + reviewedAt rows d < g .«review_limit»)
-      (c-ok : lt (g .«max_cost_perday») (costAt (s .sums) d) ≡ false) where
+  module _ (en : newIn fs c ≡ true) (is : new ≡ true) (l-ok : learnedAt rows d < R .limits .learns d) (b-ok : R .limits .counted d ≡ true → learnedAt rows d + reviewedAt rows d < R .limits .reviews d)
+      (c-ok : R .limits .over d (costAt (s .sums) d) ≡ false) where
     abbrev rows′ : List (List ℕ)
-    rows′ = introduceFrom (learnOn rows d) (g .«learn_span» - d) d
+    rows′ = introduceFrom (learnOn rows d) (R .span - d) d
 
     learn-row : (i : ℕ) → learnedAt rows′ i ≡ learnedAt rows i + bit (eqb d i)
-    learn-row i = from-learned (learnOn rows d) (g .«learn_span» - d) d i ∙ learn-learned rows d i (omega (arith, h, good .days-long)) (omega (arith, few-events d h))
+    learn-row i = from-learned (learnOn rows d) (R .span - d) d i ∙ learn-learned rows d i (omega (arith, h, good .days-long)) (omega (arith, few-events d h))
 
     review-row : (i : ℕ) → reviewedAt rows′ i ≡ reviewedAt rows i
-    review-row i = from-reviewed (learnOn rows d) (g .«learn_span» - d) d i ∙ learn-reviewed rows d i
+    review-row i = from-reviewed (learnOn rows d) (R .span - d) d i ∙ learn-reviewed rows d i
 
     correct-row : (i : ℕ) → correctAt rows′ i ≡ correctAt rows i
-    correct-row i = from-correct (learnOn rows d) (g .«learn_span» - d) d i ∙ learn-correct rows d i
+    correct-row i = from-correct (learnOn rows d) (R .span - d) d i ∙ learn-correct rows d i
 
-    introduced-row : (i : ℕ) → i < g .«learn_span» → introducedAt rows′ i ≡ introducedAt rows i + bit (ltb d (suc i))
+    introduced-row : (i : ℕ) → i < R .span → introducedAt rows′ i ≡ introducedAt rows i + bit (ltb d (suc i))
     introduced-row i l =
-        from-introduced (g .«learn_span» - d) d (learnOn rows d) (λ j u v. omega (arith, learn-introduced rows d j, good .intro j (omega (arith, h)), fine .few)) (omega (arith, learn-long rows d, h, good .days-long)) i (omega (arith, h))
+        from-introduced (R .span - d) d (learnOn rows d) (λ j u v. omega (arith, learn-introduced rows d j, good .intro j (omega (arith, h)), fine .few)) (omega (arith, learn-long rows d, h, good .days-long)) i (omega (arith, h))
         ∙ ap (λ (n : ℕ). n + bit (ltb d (suc i))) (learn-introduced rows d i)
 
     same-lapses : lapsesIn (writeCounts (s .counts) c k′) c ≡ lapsesIn (s .counts) c
     unfolding eventCard
     same-lapses = lapses-now ∙ rw is lapses-then
 
-    pub step-learn : Step view columns costs (limits g) cards (g .«learn_span») ts s (turnAs c d (learn (x .cost))) (handled g m s c k true d x t)
+    pub step-learn : Step view columns costs (R .limits) cards (R .span) ts s (turnAs c d (learn (x .cost))) (handled R s c k true d x t)
     unfolding handled countEvent cardAt
     step-learn = rw (← is) (record {
       moves = record {
@@ -202,7 +201,7 @@ module _ (g : SimulatorConfig) (m : Model) (cards : ℕ) (fine : Fine g cards) (
         does = (en, dated, (h, onward));
         others = λ i ne. record { same-day = else-day fs c k′ i ne; same-new = else-new fs c k′ i ne; same-queued = change-queued (s .queue) (keyOf k′) (good .keyed .sound) i };
       };
-      least = first-is g m cards fine ts s good some;
+      least = first-is R cards fine ts s good some;
       writes = record {
         learns = λ i l. learn-row i;
         reviews = λ i l. omega (arith, review-row i);
@@ -218,12 +217,12 @@ module _ (g : SimulatorConfig) (m : Model) (cards : ℕ) (fine : Fine g cards) (
     fewer : sumTo cards (λ i. bit (newIn fs′ i)) + 1 ≡ sumTo cards (λ i. bit (newIn fs i))
     fewer = omega (arith, sum-at cards c (λ i. bit (newIn fs i)) (λ i. bit (newIn fs′ i)) mine (λ i ne. ap bit (else-new fs c k′ i ne)), ap bit en, ap bit dated)
 
-    pub good-learn : Good cards (g .«learn_span») (handled g m s c k true d x t)
+    pub good-learn : Good cards (R .span) (handled R s c k true d x t)
     unfolding handled countEvent
     good-learn = rw (← is) (record {
       cards-long = omega (arith, good .cards-long, write-long fs c k′);
       counts-long = omega (arith, good .counts-long, counts-long (s .counts) c k′);
-      days-long = omega (arith, good .days-long, from-long (learnOn rows d) (g .«learn_span» - d) d, learn-long rows d);
+      days-long = omega (arith, good .days-long, from-long (learnOn rows d) (R .span - d) d, learn-long rows d);
       sums-long = omega (arith, good .sums-long, sums-kept);
       keyed = keyed′;
       near = near′;
@@ -235,7 +234,7 @@ module _ (g : SimulatorConfig) (m : Model) (cards : ℕ) (fine : Fine g cards) (
     })
 
   -- ---- A REVIEW
-  module _ (en : newIn fs c ≡ false) (is : new ≡ false) (r-ok : reviewedAt rows d < g .«review_limit») (c-ok : lt (g .«max_cost_perday») (costAt (s .sums) d) ≡ false) where
+  module _ (en : newIn fs c ≡ false) (is : new ≡ false) (r-ok : reviewedAt rows d < R .limits .reviews d) (c-ok : R .limits .over d (costAt (s .sums) d) ≡ false) where
     abbrev rows″ : List (List ℕ)
     rows″ = reviewOn rows d (x .recalled)
 
@@ -256,7 +255,7 @@ module _ (g : SimulatorConfig) (m : Model) (cards : ℕ) (fine : Fine g cards) (
     unfolding eventCard
     more-lapses = lapses-now ∙ rw is (lapsed (x .recalled) (k .lapses) (omega (arith, lapses-then-few, h, fine .most)) ∙ ap (λ (n : ℕ). n + bit (not (x .recalled))) lapses-then)
 
-    pub step-review : Step view columns costs (limits g) cards (g .«learn_span») ts s (turnAs c d (review (x .recalled) (x .cost))) (handled g m s c k false d x t)
+    pub step-review : Step view columns costs (R .limits) cards (R .span) ts s (turnAs c d (review (x .recalled) (x .cost))) (handled R s c k false d x t)
     unfolding handled countEvent cardAt
     step-review = rw (← is) (record {
       moves = record {
@@ -266,7 +265,7 @@ module _ (g : SimulatorConfig) (m : Model) (cards : ℕ) (fine : Fine g cards) (
         does = (en, dated, (h, onward));
         others = λ i ne. record { same-day = else-day fs c k′ i ne; same-new = else-new fs c k′ i ne; same-queued = change-queued (s .queue) (keyOf k′) (good .keyed .sound) i };
       };
-      least = first-is g m cards fine ts s good some;
+      least = first-is R cards fine ts s good some;
       writes = record {
         learns = λ i l. omega (arith, review-learned rows d (x .recalled) i);
         reviews = λ i l. reviewed-row i;
@@ -286,7 +285,7 @@ module _ (g : SimulatorConfig) (m : Model) (cards : ℕ) (fine : Fine g cards) (
         at (yes q) = rw q (dated ∙ sym en)
         at (no q) = else-new fs c k′ i q
 
-    pub good-review : Good cards (g .«learn_span») (handled g m s c k false d x t)
+    pub good-review : Good cards (R .span) (handled R s c k false d x t)
     unfolding handled countEvent
     good-review = rw (← is) (record {
       cards-long = omega (arith, good .cards-long, write-long fs c k′);

@@ -9,7 +9,6 @@ use lib.Ieee.{Float}
 use Rattle.turns.specs.Turns.{Turn, putOff}
 use Rattle.turns.specs.Run.{Next, takes, stops, run}
 use Rattle.turns.proofs.Loop.{Follows, Same, run-follows}
-use Rattle.cards.specs.declared.SimulatorConfig.{SimulatorConfig}
 use Rattle.cards.specs.declared.Card.{Card}
 use Rattle.cards.specs.declared.Choice.{Choice}
 use Rattle.cards.specs.declared.Choice.the-variants as choice
@@ -33,7 +32,8 @@ use Rattle.intervals.proofs.Schedule.{twin-slot}
 use Rattle.simulation.specs.declared.Refusal.the-variants as refusal
 use Rattle.simulation.specs.declared.Stop.{Stop}
 use Rattle.simulation.specs.declared.Stop.the-variants as stop
-use Rattle.simulation.specs.State.{State, Model, cardIn, withTable}
+use Rattle.simulation.specs.State.{State, cardIn, withTable}
+use Rattle.simulation.specs.Rules.{Rules}
 use Rattle.simulation.specs.Turn.{refuses, turnAs, kindAs, retired, postponed, handled, slotFor, handleAs, eventAs, handle, orElse, act, turnOf, next}
 
 -- the same state but for the table, which holds the same and is as long or longer
@@ -44,7 +44,7 @@ pub record Alike (s s′ : State) : Type 0 where
 abbrev pub IsEnd : Stop → Type 0
 IsEnd x = x ≡ stop.Ended
 
-module _ (g : SimulatorConfig) (m : Model) (fresh-law : (x y : Float) → Fair (m .fresh x y)) where
+module _ (R : Rules) (fresh-law : (x y : Float) → Fair (R .model .fresh x y)) where
   abbrev Follow : Next (Turn Float) State Stop → Next (Turn Float) State Stop → Type 0
   Follow = Follows Alike IsEnd
 
@@ -52,19 +52,19 @@ module _ (g : SimulatorConfig) (m : Model) (fresh-law : (x y : Float) → Fair (
     abbrev s′ : State
     s′ = withTable s t
 
-    handle-some : (r : State) (c : ℕ) (k : Card) (new : Bool) (d : ℕ) (y : Memory) (x : Slot) → isFull x ≡ false → handleAs g m r c k new d y x ≡ takes (turnAs c d (kindAs new y)) (handled g m r c k new d y x)
+    handle-some : (r : State) (c : ℕ) (k : Card) (new : Bool) (d : ℕ) (y : Memory) (x : Slot) → isFull x ≡ false → handleAs R r c k new d y x ≡ takes (turnAs c d (kindAs new y)) (handled R r c k new d y x)
     handle-some r c k new d y (slot.Keep v) e = refl
     handle-some r c k new d y (slot.Enter p a b v) e = refl
     handle-some r c k new d y slot.Full e = absurd (true≢false e)
 
     -- the same interval from two slots, one for each table
-    handled-alike : (c : ℕ) (k : Card) (new : Bool) (d : ℕ) (y : Memory) (x x′ : Slot) → intervalOf x ≡ intervalOf x′ → Twin (entered (s .table) x) (entered t x′) → Alike (handled g m s c k new d y x) (handled g m s′ c k new d y x′)
+    handled-alike : (c : ℕ) (k : Card) (new : Bool) (d : ℕ) (y : Memory) (x x′ : Slot) → intervalOf x ≡ intervalOf x′ → Twin (entered (s .table) x) (entered t x′) → Alike (handled R s c k new d y x) (handled R s′ c k new d y x′)
     unfolding handled
     handled-alike c k new d y x x′ q tw = record { same = rw q; twin = tw }
 
     slots-follow : (c : ℕ) (k : Card) (new : Bool) (d : ℕ) (y : Memory) (x x′ : Slot) (b : Bool) → isFull x ≡ b
         → (isFull x ≡ false → (intervalOf x ≡ intervalOf x′) × (isFull x′ ≡ false) × Twin (entered (s .table) x) (entered t x′))
-        → Follow (handleAs g m s c k new d y x) (handleAs g m s′ c k new d y x′)
+        → Follow (handleAs R s c k new d y x) (handleAs R s′ c k new d y x′)
     slots-follow c k new d y slot.Full x′ true e h = λ z. let o : _≡_ {A = ℕ} 0 1 = cc in absurd (none o)
       where
         none : _≡_ {A = ℕ} 0 1 → ⊥
@@ -75,29 +75,29 @@ module _ (g : SimulatorConfig) (m : Model) (fresh-law : (x y : Float) → Fair (
     slots-follow c k new d y (slot.Keep v) x′ true e h = absurd (false≢true e)
     slots-follow c k new d y (slot.Enter p a b v) x′ true e h = absurd (false≢true e)
 
-    event-follows : (c : ℕ) (k : Card) (new : Bool) (d : ℕ) → Follow (handle g m s c k new d) (handle g m s′ c k new d)
+    event-follows : (c : ℕ) (k : Card) (new : Bool) (d : ℕ) → Follow (handle R s c k new d) (handle R s′ c k new d)
     unfolding handle
-    event-follows c k new d = go (m .event k new d (s .draws))
+    event-follows c k new d = go (R .model .event (R .draw) k new d (s .draws))
       where
-        go : (e : Event) → Follow (eventAs g m s c k new d e) (eventAs g m s′ c k new d e)
+        go : (e : Event) → Follow (eventAs R s c k new d e) (eventAs R s′ c k new d e)
         go event.Chance = λ z. refl
         go (event.Happened y) =
             let r = k .«desired_retention» in
-            slots-follow c k new d y (slotFor g m (s .table) (y .stability) r) (slotFor g m t (y .stability) r) (isFull (slotFor g m (s .table) (y .stability) r)) refl
-            (twin-slot (s .table) t w (stabilityBucket (y .stability)) (retentionBucket r) (m .certified (y .stability) r) (m .fresh (y .stability) r) (fair-used (m .fresh (y .stability) r) (fresh-law (y .stability) r)))
+            slots-follow c k new d y (slotFor (R .model) (s .table) (y .stability) r) (slotFor (R .model) t (y .stability) r) (isFull (slotFor (R .model) (s .table) (y .stability) r)) refl
+            (twin-slot (s .table) t w (stabilityBucket (y .stability)) (retentionBucket r) (R .model .certified (y .stability) r) (R .model .fresh (y .stability) r) (fair-used (R .model .fresh (y .stability) r) (fresh-law (y .stability) r)))
 
-    act-follows : (c : ℕ) (k : Card) (d : ℕ) (x : Choice) → Follow (act g m s c k d x) (act g m s′ c k d x)
+    act-follows : (c : ℕ) (k : Card) (d : ℕ) (x : Choice) → Follow (act R s c k d x) (act R s′ c k d x)
     unfolding retired postponed
     act-follows c k d choice.Retire = (refl, record { same = refl; twin = w })
     act-follows c k d choice.PutOff = go (noneDue (s .due) (newOf (k .«last_date»)) d)
       where
-        go : (b : Bool) → Follow (orElse g m b (refuses (refusal.DueCount c)) (takes (turnAs c d putOff) (postponed g m s c k d))) (orElse g m b (refuses (refusal.DueCount c)) (takes (turnAs c d putOff) (postponed g m s′ c k d)))
+        go : (b : Bool) → Follow (orElse b (refuses (refusal.DueCount c)) (takes (turnAs c d putOff) (postponed R s c k d))) (orElse b (refuses (refusal.DueCount c)) (takes (turnAs c d putOff) (postponed R s′ c k d)))
         go true = λ z. refl
         go false = (refl, record { same = refl; twin = w })
     act-follows c k d choice.Learn = event-follows c k true d
     act-follows c k d choice.Review = event-follows c k false d
 
-    turn-follows : Follow (next g m s) (next g m s′)
+    turn-follows : Follow (next R s) (next R s′)
     unfolding next
     turn-follows = go (eqb (s .queue .len) 0)
       where
@@ -110,13 +110,13 @@ module _ (g : SimulatorConfig) (m : Model) (fresh-law : (x y : Float) → Fair (
         d : ℕ
         d = dayOf (k .due)
 
-        go : (b : Bool) → Follow (orElse g m b (stops stop.Ended) (turnOf g m s c k d)) (orElse g m b (stops stop.Ended) (turnOf g m s′ c k d))
+        go : (b : Bool) → Follow (orElse b (stops stop.Ended) (turnOf R s c k d)) (orElse b (stops stop.Ended) (turnOf R s′ c k d))
         go true = λ z. refl
-        go false = act-follows c k d (choiceOf g k (learnedAt (s .days) d) (reviewedAt (s .days) d) (costAt (s .sums) d))
+        go false = act-follows c k d (choiceOf (R .span) (R .lapse-limit) (R .limits) d k (learnedAt (s .days) d) (reviewedAt (s .days) d) (costAt (s .sums) d))
 
-  follows : (s s′ : State) → Alike s s′ → Follow (next g m s) (next g m s′)
+  follows : (s s′ : State) → Alike s s′ → Follow (next R s) (next R s′)
   follows s s′ a = rw (a .same) (turn-follows s (s′ .table) (a .twin))
 
   -- THE LONGER TABLE: the same turns, and states that differ in the table alone
-  pub run-longer : (n : ℕ) (s s′ : State) → Alike s s′ → next g m ((run (next g m) n [] s) .state) ≡ stops stop.Ended → Same Alike (next g m) (run (next g m) n [] s) (run (next g m) n [] s′) stop.Ended
-  run-longer n s s′ a e = run-follows Alike IsEnd (next g m) follows n [] [] refl s s′ a stop.Ended refl e
+  pub run-longer : (n : ℕ) (s s′ : State) → Alike s s′ → next R ((run (next R) n [] s) .state) ≡ stops stop.Ended → Same Alike (next R) (run (next R) n [] s) (run (next R) n [] s′) stop.Ended
+  run-longer n s s′ a e = run-follows Alike IsEnd (next R) follows n [] [] refl s s′ a stop.Ended refl e

@@ -21,8 +21,8 @@ use Rattle.simulation.specs.declared.Check.{Check}
 use Rattle.simulation.specs.declared.Check.the-variants as check
 use Rattle.simulation.specs.declared.Reach.{Reach}
 use Rattle.simulation.specs.declared.Stop.the-variants as stop
-use Rattle.simulation.specs.State.{State, Model, state}
-use Rattle.simulation.specs.Turn.{next}
+use Rattle.simulation.specs.State.{State, state}
+use Rattle.simulation.specs.Rules.{Rules}
 use Rattle.simulation.specs.Steps.{Ran, Done}
 use Rattle.simulation.specs.Entry.{Inputs, inputs, firstWhere, notFinite, failIf, checkParameters, checked}
 use Rattle.simulation.specs.SetUp.{Deck, deck, filled, joined, retain, known, create, newCards, emptied, dealt, firstSums, setUp}
@@ -105,18 +105,15 @@ module _ (i : Inputs) (s : State) {s₁ : State} (up : s₁ ≡ setUp i s) where
       let l : s₁ .queue .len ≡ setUp i s .queue .len = ap (λ (z : State). z .queue .len) up in
       (omega (arith, few, l, ok .deck-most), ok .span-most)
 
-  pub done-is : (m : Model) {b : ℕ} {x : Reach} {c′ : List (List Float)} {n′ r′ d′ : List (List ℕ)} {u′ : List (List Float)} {v′ : List ℕ} {k′ : List (List ℕ)} {t′ : List Float}
-      → b ≡ bound (i .config) s₁
-      → Ran (i .config) m s₁ b x c′ n′ r′ d′ u′ v′ k′ t′
-      → Done (finished m i (setUp i s)) (answerOf (x .stop) (progress (x .turns) (s₁ .queue .len) (x .draws))) c′ n′ r′ d′ u′ v′ k′ t′
+  pub done-is : (R : Rules) {b : ℕ} {x : Reach} {c′ : List (List Float)} {n′ r′ d′ : List (List ℕ)} {u′ : List (List Float)} {v′ : List ℕ} {k′ : List (List ℕ)} {t′ : List Float}
+      → b ≡ bound R s₁
+      → Ran R s₁ b x c′ n′ r′ d′ u′ v′ k′ t′
+      → Done (finished R (setUp i s)) (answerOf (x .stop) (progress (x .turns) (s₁ .queue .len) (x .draws))) c′ n′ r′ d′ u′ v′ k′ t′
   unfolding finished ran
-  done-is m {b = b} {x = x} {c′ = c′} {n′ = n′} {r′ = r′} {d′ = d′} {u′ = u′} {v′ = v′} {k′ = k′} {t′ = t′} eb r =
-      subst (λ (z : State). Done (finished m i z) (answerOf (x .stop) (progress (x .turns) (s₁ .queue .len) (x .draws))) c′ n′ r′ d′ u′ v′ k′ t′) up (go (subst (λ (z : ℕ). Ran g m s₁ z x c′ n′ r′ d′ u′ v′ k′ t′) eb r))
+  done-is R {b = b} {x = x} {c′ = c′} {n′ = n′} {r′ = r′} {d′ = d′} {u′ = u′} {v′ = v′} {k′ = k′} {t′ = t′} eb r =
+      subst (λ (z : State). Done (finished R z) (answerOf (x .stop) (progress (x .turns) (s₁ .queue .len) (x .draws))) c′ n′ r′ d′ u′ v′ k′ t′) up (go (subst (λ (z : ℕ). Ran R s₁ z x c′ n′ r′ d′ u′ v′ k′ t′) eb r))
     where
-      g : SimulatorConfig
-      g = i .config
-
-      go : Ran g m s₁ (bound g s₁) x c′ n′ r′ d′ u′ v′ k′ t′ → Done (finished m i s₁) (answerOf (x .stop) (progress (x .turns) (s₁ .queue .len) (x .draws))) c′ n′ r′ d′ u′ v′ k′ t′
+      go : Ran R s₁ (bound R s₁) x c′ n′ r′ d′ u′ v′ k′ t′ → Done (finished R s₁) (answerOf (x .stop) (progress (x .turns) (s₁ .queue .len) (x .draws))) c′ n′ r′ d′ u′ v′ k′ t′
       go r₁ = record { answer = rw (r₁ .stop-is, r₁ .turns, r₁ .draws); lists = r₁ .lists }
 
 pub bound-fits : (len span : ℕ) → len ≤ 65536 → span ≤ 36500 → len * (span + 1) ≤ 2392129536

@@ -8,7 +8,6 @@ use lib.Ieee.{Float}
 use Rattle.turns.specs.Turns.{Turn, putOff}
 use Rattle.turns.specs.Run.{Next, takes, stops, run}
 use Rattle.turns.proofs.Loop.{run-takes, run-stops}
-use Rattle.cards.specs.declared.SimulatorConfig.{SimulatorConfig}
 use Rattle.cards.specs.declared.Card.{Card}
 use Rattle.cards.specs.declared.Choice.{Choice}
 use Rattle.cards.specs.declared.Choice.the-variants as choice
@@ -31,45 +30,46 @@ use Rattle.intervals.proofs.Schedule.{slot-sound}
 use Rattle.simulation.specs.declared.Refusal.the-variants as refusal
 use Rattle.simulation.specs.declared.Stop.{Stop}
 use Rattle.simulation.specs.declared.Stop.the-variants as stop
-use Rattle.simulation.specs.State.{State, Model, cardIn}
+use Rattle.simulation.specs.State.{State, cardIn}
+use Rattle.simulation.specs.Rules.{Rules}
 use Rattle.simulation.specs.Turn.{refuses, turnAs, postponed, retired, handled, slotFor, handleAs, eventAs, handle, orElse, act, turnOf, next}
 
-module _ (g : SimulatorConfig) (m : Model) (fresh-law : (x y : Float) → Fair (m .fresh x y)) where
+module _ (R : Rules) (fresh-law : (x y : Float) → Fair (R .model .fresh x y)) where
   -- what a turn leaves of the table
   abbrev After : Next (Turn Float) State Stop → Type 0
   After (takes t s) = Sound (s .table)
   After (stops x) = Unit {0}
 
   module _ (s : State) (ok : Sound (s .table)) where
-    given : (c : ℕ) (k : Card) (new : Bool) (d : ℕ) (y : Memory) (x : Slot) → Sound (entered (s .table) x) → After (handleAs g m s c k new d y x)
+    given : (c : ℕ) (k : Card) (new : Bool) (d : ℕ) (y : Memory) (x : Slot) → Sound (entered (s .table) x) → After (handleAs R s c k new d y x)
     unfolding handled
     given c k new d y slot.Full h = tt
     given c k new d y (slot.Keep v) h = h
     given c k new d y (slot.Enter p a b v) h = h
 
-    event-after : (c : ℕ) (k : Card) (new : Bool) (d : ℕ) → After (handle g m s c k new d)
+    event-after : (c : ℕ) (k : Card) (new : Bool) (d : ℕ) → After (handle R s c k new d)
     unfolding handle
-    event-after c k new d = go (m .event k new d (s .draws))
+    event-after c k new d = go (R .model .event (R .draw) k new d (s .draws))
       where
-        go : (e : Event) → After (eventAs g m s c k new d e)
+        go : (e : Event) → After (eventAs R s c k new d e)
         go event.Chance = tt
         go (event.Happened y) =
             let r = k .«desired_retention» in
-            given c k new d y (slotFor g m (s .table) (y .stability) r)
-            (slot-sound (s .table) (stabilityBucket (y .stability)) (retentionBucket r) (m .certified (y .stability) r) (m .fresh (y .stability) r) (fair-used (m .fresh (y .stability) r) (fresh-law (y .stability) r)) ok)
+            given c k new d y (slotFor (R .model) (s .table) (y .stability) r)
+            (slot-sound (s .table) (stabilityBucket (y .stability)) (retentionBucket r) (R .model .certified (y .stability) r) (R .model .fresh (y .stability) r) (fair-used (R .model .fresh (y .stability) r) (fresh-law (y .stability) r)) ok)
 
-    act-after : (c : ℕ) (k : Card) (d : ℕ) (x : Choice) → After (act g m s c k d x)
+    act-after : (c : ℕ) (k : Card) (d : ℕ) (x : Choice) → After (act R s c k d x)
     unfolding retired postponed
     act-after c k d choice.Retire = ok
     act-after c k d choice.PutOff = go (noneDue (s .due) (newOf (k .«last_date»)) d)
       where
-        go : (b : Bool) → After (orElse g m b (refuses (refusal.DueCount c)) (takes (turnAs c d putOff) (postponed g m s c k d)))
+        go : (b : Bool) → After (orElse b (refuses (refusal.DueCount c)) (takes (turnAs c d putOff) (postponed R s c k d)))
         go true = tt
         go false = ok
     act-after c k d choice.Learn = event-after c k true d
     act-after c k d choice.Review = event-after c k false d
 
-    turn-after : After (next g m s)
+    turn-after : After (next R s)
     unfolding next
     turn-after = go (eqb (s .queue .len) 0)
       where
@@ -82,16 +82,16 @@ module _ (g : SimulatorConfig) (m : Model) (fresh-law : (x y : Float) → Fair (
         d : ℕ
         d = dayOf (k .due)
 
-        go : (b : Bool) → After (orElse g m b (stops stop.Ended) (turnOf g m s c k d))
+        go : (b : Bool) → After (orElse b (stops stop.Ended) (turnOf R s c k d))
         go true = tt
-        go false = act-after c k d (choiceOf g k (learnedAt (s .days) d) (reviewedAt (s .days) d) (costAt (s .sums) d))
+        go false = act-after c k d (choiceOf (R .span) (R .lapse-limit) (R .limits) d k (learnedAt (s .days) d) (reviewedAt (s .days) d) (costAt (s .sums) d))
 
   -- after any number of turns
-  pub run-sound : (n : ℕ) (ts : List (Turn Float)) (s : State) → Sound (s .table) → Sound ((run (next g m) n ts s) .state .table)
+  pub run-sound : (n : ℕ) (ts : List (Turn Float)) (s : State) → Sound (s .table) → Sound ((run (next R) n ts s) .state .table)
   run-sound zero ts s ok = ok
-  run-sound (suc n) ts s ok = go (next g m s) refl (turn-after s ok) (λ t s′ h. run-sound n (t ∷ ts) s′ h)
+  run-sound (suc n) ts s ok = go (next R s) refl (turn-after s ok) (λ t s′ h. run-sound n (t ∷ ts) s′ h)
     where
-      go : (x : Next (Turn Float) State Stop) → next g m s ≡ x → After (next g m s) → ((t : Turn Float) (s′ : State) → Sound (s′ .table) → Sound ((run (next g m) n (t ∷ ts) s′) .state .table))
-          → Sound ((run (next g m) (suc n) ts s) .state .table)
-      go (takes t s′) e h ih = rw (run-takes (next g m) n ts s t s′ e) (ih t s′ (rw e at h))
-      go (stops x) e h ih = rw (run-stops (next g m) n ts s x e) ok
+      go : (x : Next (Turn Float) State Stop) → next R s ≡ x → After (next R s) → ((t : Turn Float) (s′ : State) → Sound (s′ .table) → Sound ((run (next R) n (t ∷ ts) s′) .state .table))
+          → Sound ((run (next R) (suc n) ts s) .state .table)
+      go (takes t s′) e h ih = rw (run-takes (next R) n ts s t s′ e) (ih t s′ (rw e at h))
+      go (stops x) e h ih = rw (run-stops (next R) n ts s x e) ok

@@ -11,13 +11,13 @@ use Rattle.turns.specs.Turns.{Turn}
 use Rattle.turns.specs.Run.{Next, takes, stops, Reached, run, stopOf}
 use Rattle.turns.proofs.Loop.{run-one-more, run-enough, stop-takes, stop-stops}
 use Rattle.simulation.proofs.Outcome as outcome-type
-use Rattle.cards.specs.declared.SimulatorConfig.{SimulatorConfig}
 use Rattle.simulation.specs.declared.Outcome.{Outcome}
 use Rattle.simulation.specs.declared.Outcome.the-variants as outcome
 use Rattle.simulation.specs.declared.Refusal.the-variants as refusal
 use Rattle.simulation.specs.declared.Stop.{Stop}
 use Rattle.simulation.specs.declared.Stop.the-variants as stop
-use Rattle.simulation.specs.State.{State, Model, Lists, state}
+use Rattle.simulation.specs.State.{State, Lists, state}
+use Rattle.simulation.specs.Rules.{Rules}
 use Rattle.simulation.specs.Turn.{next}
 use Rattle.simulation.specs.Steps.{stopIn, Turned, Ran}
 
@@ -43,52 +43,52 @@ took-tag (outcome.Stopped x) n r t e = stop-took x n r e
 took-both : (a b n r : ℕ) → outcome.Took n r ≡ outcome.Took a b → (n ≡ a) × (r ≡ b)
 took-both a b n r e = (cc, cc)
 
-module _ (g : SimulatorConfig) (m : Model) (s₀ : State) (bound : ℕ) where
+module _ (R : Rules) (s₀ : State) (bound : ℕ) where
   abbrev after : ℕ → Reached (Turn Float) State
-  after k = run (next g m) k [] s₀
+  after k = run (next R) k [] s₀
 
   -- after k turns
   pub record Going (s : State) (k : ℕ) : Type 0 where
     pub at : s ≡ (after k) .state
     pub many : length ((after k) .turns) ≡ k
     pub within : k ≤ bound
-    pub left : stopOf (next g m) stop.Ended (bound - k) s ≡ stopOf (next g m) stop.Ended bound s₀
+    pub left : stopOf (next R) stop.Ended (bound - k) s ≡ stopOf (next R) stop.Ended bound s₀
 
   module _ {st : State} {k : ℕ} (i : Going st k) {o : Outcome}
       {cards′ : List (List Float)} {counts′ rows′ days′ : List (List ℕ)} {sums′ : List (List Float)} {due′ : List ℕ} {keys′ : List (List ℕ)} {intervals′ : List Float}
-      (p : Turned (next g m st) st o cards′ counts′ rows′ days′ sums′ due′ keys′ intervals′) (l : k < bound) where
+      (p : Turned (next R st) st o cards′ counts′ rows′ days′ sums′ due′ keys′ intervals′) (l : k < bound) where
     one-left : bound - k ≡ suc (bound - (k + 1))
     one-left = omega arith
 
     pub going-on : (n′ r : ℕ) → o ≡ outcome.Took n′ r → Going (state cards′ counts′ rows′ days′ sums′ due′ keys′ intervals′ n′ r) (k + 1)
-    going-on n′ r e = go (next g m st) refl p
+    going-on n′ r e = go (next R st) refl p
       where
-        go : (x : Next (Turn Float) State Stop) → next g m st ≡ x → Turned x st o cards′ counts′ rows′ days′ sums′ due′ keys′ intervals′ → Going (state cards′ counts′ rows′ days′ sums′ due′ keys′ intervals′ n′ r) (k + 1)
+        go : (x : Next (Turn Float) State Stop) → next R st ≡ x → Turned x st o cards′ counts′ rows′ days′ sums′ due′ keys′ intervals′ → Going (state cards′ counts′ rows′ days′ sums′ due′ keys′ intervals′ n′ r) (k + 1)
         go (stops x) q h = absurd (stop-took x n′ r (sym (h .outcome) ∙ e))
         go (takes t s′) q h =
             let u = took-both (s′ .queue .len) (s′ .draws) n′ r (sym e ∙ h .outcome) in
-            let q′ : next g m ((after k) .state) ≡ takes t s′ = rw (← i .at) q in
-            let one : after (k + 1) ≡ record { turns = t ∷ (after k) .turns; state = s′ } = run-one-more (next g m) k [] s₀ t s′ q′ in
+            let q′ : next R ((after k) .state) ≡ takes t s′ = rw (← i .at) q in
+            let one : after (k + 1) ≡ record { turns = t ∷ (after k) .turns; state = s′ } = run-one-more (next R) k [] s₀ t s′ q′ in
             let now : state cards′ counts′ rows′ days′ sums′ due′ keys′ intervals′ n′ r ≡ s′ = state-is s′ cards′ counts′ rows′ days′ sums′ due′ keys′ intervals′ n′ r (h .lists) (u .0) (u .1) in
             record {
               at = now ∙ sym (ap (λ (z : Reached (Turn Float) State). z .state) one);
               many = ap (λ (z : Reached (Turn Float) State). length (z .turns)) one ∙ omega (arith, i .many);
               within = omega arith;
-              left = ap (λ (z : State). stopOf (next g m) stop.Ended (bound - (k + 1)) z) now ∙ sym (stop-takes (next g m) stop.Ended (bound - (k + 1)) st t s′ q) ∙ sym (ap (λ (z : ℕ). stopOf (next g m) stop.Ended z st) one-left) ∙ i .left;
+              left = ap (λ (z : State). stopOf (next R) stop.Ended (bound - (k + 1)) z) now ∙ sym (stop-takes (next R) stop.Ended (bound - (k + 1)) st t s′ q) ∙ sym (ap (λ (z : ℕ). stopOf (next R) stop.Ended z st) one-left) ∙ i .left;
             }
 
     pub going-stops : OneOf (1 ∷ []) (tagOf outcome-type.the-type o) → (z : Stop) → z ≡ stopIn o
-        → Ran g m s₀ bound (record { stop = z; turns = k; draws = st .draws }) cards′ counts′ rows′ days′ sums′ due′ keys′ intervals′
-    going-stops t z ez = go (next g m st) refl p
+        → Ran R s₀ bound (record { stop = z; turns = k; draws = st .draws }) cards′ counts′ rows′ days′ sums′ due′ keys′ intervals′
+    going-stops t z ez = go (next R st) refl p
       where
-        go : (x : Next (Turn Float) State Stop) → next g m st ≡ x → Turned x st o cards′ counts′ rows′ days′ sums′ due′ keys′ intervals′
-            → Ran g m s₀ bound (record { stop = z; turns = k; draws = st .draws }) cards′ counts′ rows′ days′ sums′ due′ keys′ intervals′
+        go : (x : Next (Turn Float) State Stop) → next R st ≡ x → Turned x st o cards′ counts′ rows′ days′ sums′ due′ keys′ intervals′
+            → Ran R s₀ bound (record { stop = z; turns = k; draws = st .draws }) cards′ counts′ rows′ days′ sums′ due′ keys′ intervals′
         go (takes u s′) q h = absurd (took-tag o (s′ .queue .len) (s′ .draws) t (h .outcome))
         go (stops x) q h =
-            let q′ : next g m ((after k) .state) ≡ stops x = rw (← i .at) q in
-            let one : after bound ≡ after k = run-enough (next g m) k bound [] s₀ x (i .within) q′ in
+            let q′ : next R ((after k) .state) ≡ stops x = rw (← i .at) q in
+            let one : after bound ≡ after k = run-enough (next R) k bound [] s₀ x (i .within) q′ in
             let s : st ≡ (after bound) .state = i .at ∙ sym (ap (λ (z : Reached (Turn Float) State). z .state) one) in
-            let y : stopOf (next g m) stop.Ended bound s₀ ≡ x = sym (i .left) ∙ ap (λ (z : ℕ). stopOf (next g m) stop.Ended z st) one-left ∙ stop-stops (next g m) stop.Ended (bound - (k + 1)) st x q in
+            let y : stopOf (next R) stop.Ended bound s₀ ≡ x = sym (i .left) ∙ ap (λ (z : ℕ). stopOf (next R) stop.Ended z st) one-left ∙ stop-stops (next R) stop.Ended (bound - (k + 1)) st x q in
             record {
               stop-is = ez ∙ ap stopIn (h .outcome) ∙ sym y;
               turns = sym (ap (λ (z : Reached (Turn Float) State). length (z .turns)) one ∙ i .many);
@@ -97,23 +97,23 @@ module _ (g : SimulatorConfig) (m : Model) (s₀ : State) (bound : ℕ) where
             }
 
   pub going-spent : {cards : List (List Float)} {counts rows days : List (List ℕ)} {sums : List (List Float)} {due : List ℕ} {keys : List (List ℕ)} {intervals : List Float} {n draws k : ℕ} → Going (state cards counts rows days sums due keys intervals n draws) k → bound ≤ k
-      → Ran g m s₀ bound (record { stop = stop.Ended; turns = k; draws = draws }) cards counts rows days sums due keys intervals
+      → Ran R s₀ bound (record { stop = stop.Ended; turns = k; draws = draws }) cards counts rows days sums due keys intervals
   going-spent {cards} {counts} {rows} {days} {sums} {due} {keys} {intervals} {n} {draws} {k} i l =
       let e : k ≡ bound = omega (arith, i .within) in
       let none : bound - k ≡ 0 = omega arith in
       let st : State = state cards counts rows days sums due keys intervals n draws in
       let s : st ≡ (after bound) .state = i .at ∙ ap (λ (z : ℕ). (after z) .state) e in
       record {
-        stop-is = sym (ap (λ (z : ℕ). stopOf (next g m) stop.Ended z st) none) ∙ i .left;
+        stop-is = sym (ap (λ (z : ℕ). stopOf (next R) stop.Ended z st) none) ∙ i .left;
         turns = sym (i .many) ∙ ap (λ (z : ℕ). length ((after z) .turns)) e;
         draws = ap (λ (z : State). z .draws) s;
         lists = lists-of ((after bound) .state) cards counts rows days sums due keys intervals n draws s;
       }
 
-pub going-start : (g : SimulatorConfig) (m : Model) (bound : ℕ) (s : State) → Going g m s bound s 0
-going-start g m bound s =
+pub going-start : (R : Rules) (bound : ℕ) (s : State) → Going R s bound s 0
+going-start R bound s =
     let e : bound - 0 ≡ bound = omega arith in
-    record { at = refl; many = refl; within = omega arith; left = ap (λ (z : ℕ). stopOf (next g m) stop.Ended z s) e }
+    record { at = refl; many = refl; within = omega arith; left = ap (λ (z : ℕ). stopOf (next R) stop.Ended z s) e }
 
 -- the lists keep their lengths
 pub record Long (cards : List (List Float)) (counts rows days : List (List ℕ)) (sums : List (List Float)) (due : List ℕ) (keys : List (List ℕ)) (intervals : List Float) (cards′ : List (List Float)) (counts′ rows′ days′ : List (List ℕ)) (sums′ : List (List Float)) (due′ : List ℕ) (keys′ : List (List ℕ)) (intervals′ : List Float) : Type 0 where

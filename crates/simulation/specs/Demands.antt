@@ -7,13 +7,11 @@ use lib.Ieee.{Float}
 use Rattle.turns.specs.Sums.{sumTo}
 use Rattle.turns.specs.Turns.{Turn, Demand, Rows}
 use Rattle.days.specs.Counts.{learnedAt, reviewedAt, correctAt, introducedAt}
-use Rattle.events.specs.Scalars.{plain}
 use Rattle.simulation.specs.declared.Progress.{Progress}
 use Rattle.simulation.specs.declared.Answer.{Answer}
 use Rattle.simulation.specs.declared.Answer.the-variants as answer
-use Rattle.simulation.specs.State.{State, Model, withTable}
-use Rattle.simulation.specs.Model.{modelOf}
-use Rattle.simulation.specs.Rules.{costs, limits}
+use Rattle.simulation.specs.State.{State, withTable}
+use Rattle.simulation.specs.Rules.{Rules, costs}
 use Rattle.simulation.specs.Entry.{Inputs}
 use Rattle.simulation.specs.SetUp.{known, setUp}
 use Rattle.simulation.specs.Simulate.{Result, ran}
@@ -22,27 +20,24 @@ use Rattle.simulation.specs.Simulate.{Result, ran}
 abbrev pub Finished : Answer → Type 0
 Finished r = (p : Progress) × (r ≡ answer.Finished p)
 
--- the model of a run's inputs: FSRS-7 by their parameters
-abbrev pub modelFor : Inputs → Model
-modelFor i = modelOf (i .config) (plain (i .parameters))
-
 -- a run's cards, and its turns, latest first
 abbrev pub cardsOf : Inputs → State → ℕ
 cardsOf i s = setUp i s .queue .len
 
-abbrev pub turnsOf : Inputs → State → List (Turn Float)
-turnsOf i s = (ran (modelFor i) i (setUp i s)) .turns
+abbrev pub turnsOf : Rules → Inputs → State → List (Turn Float)
+turnsOf R i s = (ran R (setUp i s)) .turns
 
 -- the lapses of card c
 abbrev pub lapsesAt : List (List ℕ) → ℕ → ℕ
 lapsesAt counts c = getD (getD counts c []) 1 0
 
-pub record DemandThree (i : Inputs) (s : State) (counts days : List (List ℕ)) : Type 0 where
-  pub demand : Demand (cardsOf i s) (i .config .«learn_span») costs (limits (i .config)) (turnsOf i s)
+-- of a run by any rules
+pub record DemandThree (R : Rules) (i : Inputs) (s : State) (counts days : List (List ℕ)) : Type 0 where
+  pub demand : Demand (cardsOf i s) (R .span) costs (R .limits) (turnsOf R i s)
   pub rows :
-      Rows (i .config .«learn_span») (known (i .existing) (i .existing-counts) (length (i .existing)))
+      Rows (R .span) (known (i .existing) (i .existing-counts) (length (i .existing)))
       (sumTo (cardsOf i s) (lapsesAt (setUp i s .counts))) (sumTo (cardsOf i s) (lapsesAt counts))
-      (learnedAt days) (reviewedAt days) (correctAt days) (introducedAt days) (turnsOf i s)
+      (learnedAt days) (reviewedAt days) (correctAt days) (introducedAt days) (turnsOf R i s)
 
 -- A second run's lists: those of the first, but for an interval table that is longer in both its columns
 pub record LongerTable (s s′ : State) : Type 0 where

@@ -13,7 +13,7 @@ use Rattle.simulation.specs.State.{Model}
 abbrev pub modelOf : SimulatorConfig → Scalars → Model
 modelOf g x = record {
   chance = x .chance;
-  event = eventOf g x;
+  event = λ w. eventOf w g x;
   fresh = λ s r. x .interval s r (g .«max_ivl»);
   certified = λ s r v. certifies (λ t. x .chance t s) s r v (g .«max_ivl»);
 }

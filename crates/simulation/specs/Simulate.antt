@@ -5,7 +5,7 @@ use lib.ListN.{length}
 use lib.Ieee.{Float}
 use Rattle.turns.specs.Turns.{Turn}
 use Rattle.turns.specs.Run.{Reached, run, stopOf}
-use Rattle.cards.specs.declared.SimulatorConfig.{SimulatorConfig}
+use Rattle.events.specs.Scalars.{plain}
 use Rattle.simulation.specs.declared.Stop.{Stop}
 use Rattle.simulation.specs.declared.Stop.the-variants as stop
 use Rattle.simulation.specs.declared.Check.{Check}
@@ -13,7 +13,8 @@ use Rattle.simulation.specs.declared.Check.the-variants as check
 use Rattle.simulation.specs.declared.Progress.{Progress}
 use Rattle.simulation.specs.declared.Answer.{Answer}
 use Rattle.simulation.specs.declared.Answer.the-variants as answer
-use Rattle.simulation.specs.State.{State, Model}
+use Rattle.simulation.specs.State.{State}
+use Rattle.simulation.specs.Rules.{Rules, rulesOf}
 use Rattle.simulation.specs.Turn.{next}
 use Rattle.simulation.specs.Entry.{Inputs, checked}
 use Rattle.simulation.specs.SetUp.{setUp}
@@ -30,24 +31,33 @@ abbrev pub answerOf : Stop → Progress → Answer
 answerOf stop.Ended p = answer.Finished p
 answerOf (stop.Refused r) p = answer.Refused r p
 
--- one turn more than is ever taken (`ends`)
-abbrev pub bound : SimulatorConfig → State → ℕ
-bound g s = suc (s .queue .len * suc (g .«learn_span»))
+-- the rules of a run's inputs: FSRS-7 by their parameters, and SplitMix64
+abbrev pub rulesFor : Inputs → Rules
+rulesFor i = rulesOf (i .config) (plain (i .parameters))
 
-module _ (m : Model) (i : Inputs) where
+module _ (R : Rules) where
+  -- one turn more than is ever taken (`ends`)
+  abbrev pub bound : State → ℕ
+  bound s = suc (s .queue .len * suc (R .span))
+
   -- the turns, latest first, and the state that they lead to
   unfoldable pub ran : State → Reached (Turn Float) State
-  ran s = run (next (i .config) m) (bound (i .config) s) [] s
+  ran s = run (next R) (bound s) [] s
 
   unfoldable pub finished : State → Result
   finished s =
       let r = ran s in
-      record { answer = answerOf (stopOf (next (i .config) m) stop.Ended (bound (i .config) s) s) (progress (length (r .turns)) (s .queue .len) (r .state .draws)); state = r .state }
+      record { answer = answerOf (stopOf (next R) stop.Ended (bound s) s) (progress (length (r .turns)) (s .queue .len) (r .state .draws)); state = r .state }
 
   -- an entry refusal leaves the lists as they are
-  abbrev pub afterCheck : Check → State → Result
-  afterCheck check.Passed s = finished (setUp i s)
-  afterCheck (check.Failed r) s = record { answer = answer.Refused r (progress 0 0 (i .seed)); state = s }
+  abbrev pub afterCheck : Inputs → Check → State → Result
+  afterCheck i check.Passed s = finished (setUp i s)
+  afterCheck i (check.Failed r) s = record { answer = answer.Refused r (progress 0 0 (i .seed)); state = s }
 
-  unfoldable pub simulated : State → Result
-  simulated s = afterCheck (checked i s) s
+  -- a run by any rules, from inputs and lent lists
+  unfoldable pub simulatedBy : Inputs → State → Result
+  simulatedBy i s = afterCheck i (checked i s) s
+
+-- and by the rules of the inputs
+abbrev pub simulated : Inputs → State → Result
+simulated i = simulatedBy (rulesFor i) i

@@ -4,6 +4,7 @@ use mathlib.Core.Bool.{Bool}
 use mathlib.Core.List.{List}
 use mathlib.Core.Path.{_≡_}
 use lib.Ieee.{Float}
+use Rattle.draws.specs.Draws.{DrawRule}
 use Rattle.cards.specs.declared.Card.{Card}
 use Rattle.cards.specs.Day.{dayOf, newOf}
 use Rattle.cards.specs.Cards.{cardAt}
@@ -30,10 +31,10 @@ abbrev pub keyOf : Card → ℕ
 keyOf k = cardPriority (dayOf (k .due)) (newOf (k .«last_date»)) (k .difficulty)
 
 -- What the turn rule asks of a memory model: the chance to recall after so many days at a stability; what an event does to a card, new or
--- not, on a day, from a state of the draws; the interval for a stability and a retention, and whether a held one may stand for it.
+-- not, on a day, by a way to draw and from a state of the draws; the interval for a stability and a retention, and whether a held one may stand for it.
 pub record Model : Type 0 where
   pub chance : Float → Float → Float
-  pub event : Card → Bool → ℕ → ℕ → Event
+  pub event : DrawRule → Card → Bool → ℕ → ℕ → Event
   pub fresh : Float → Float → Float
   pub certified : Float → Float → Float → Bool
 

@@ -7,7 +7,6 @@ use lib.ListN.{length}
 use lib.Ieee.{Float}
 use Rattle.turns.specs.Turns.{Turn}
 use Rattle.turns.specs.Run.{Next, takes, stops, run, stopOf}
-use Rattle.cards.specs.declared.SimulatorConfig.{SimulatorConfig}
 use Rattle.cards.specs.declared.Card.{Card}
 use Rattle.cards.specs.Day.{newOf}
 use Rattle.cards.specs.Cards.{writeFloats, writeCounts}
@@ -23,7 +22,8 @@ use Rattle.simulation.specs.declared.Stop.the-variants as stop
 use Rattle.simulation.specs.declared.Refusal.the-variants as refusal
 use Rattle.simulation.specs.declared.Answer.{Answer}
 use Rattle.simulation.specs.declared.Outcome.the-variants as outcome
-use Rattle.simulation.specs.State.{State, Model, Lists, keyOf}
+use Rattle.simulation.specs.State.{State, Lists, keyOf}
+use Rattle.simulation.specs.Rules.{Rules}
 use Rattle.simulation.specs.Simulate.{Result}
 use Rattle.simulation.specs.Turn.{putOffCard, holdCard, next}
 
@@ -61,14 +61,14 @@ pub record PutOffStep (span c : ℕ) (k : Card) (d len draws : ℕ) (cards : Lis
   pub refused : noneDue due (newOf (k .«last_date»)) d ≡ true → (r ≡ outcome.Stopped (stop.Refused (refusal.DueCount c))) × Untouched cards rows due cards′ rows′ due′
   pub done : noneDue due (newOf (k .«last_date»)) d ≡ false → (r ≡ outcome.Took len draws) × PutOff span c k d len cards rows due cards′ rows′ due′
 
-pub record RetireStep (g : SimulatorConfig) (m : Model) (k : Card) (len draws : ℕ) (sums : List (List Float)) (rows : List (List ℕ)) (r : Outcome) (sums′ : List (List Float)) (rows′ : List (List ℕ)) : Type 0 where
+pub record RetireStep (R : Rules) (k : Card) (len draws : ℕ) (sums : List (List Float)) (rows : List (List ℕ)) (r : Outcome) (sums′ : List (List Float)) (rows′ : List (List ℕ)) : Type 0 where
   pub outcome : r ≡ outcome.Took (popped (queue rows len) .len) draws
-  pub sums-are : sums′ ≡ holdCard m sums k (g .«learn_span»)
+  pub sums-are : sums′ ≡ holdCard (R .model) sums k (R .span)
   pub rows-are : rows′ ≡ popped (queue rows len) .rows
 
-pub record DaysWritten (g : SimulatorConfig) (m : Model) (k : Card) (new : Bool) (d : ℕ) (x : Memory) (days : List (List ℕ)) (sums : List (List Float)) (days′ : List (List ℕ)) (sums′ : List (List Float)) : Type 0 where
-  pub days-are : days′ ≡ countEvent (g .«learn_span») days new d (x .recalled)
-  pub sums-are : sums′ ≡ holdCard m (payOn sums d (x .cost)) k d
+pub record DaysWritten (R : Rules) (k : Card) (new : Bool) (d : ℕ) (x : Memory) (days : List (List ℕ)) (sums : List (List Float)) (days′ : List (List ℕ)) (sums′ : List (List Float)) : Type 0 where
+  pub days-are : days′ ≡ countEvent (R .span) days new d (x .recalled)
+  pub sums-are : sums′ ≡ holdCard (R .model) (payOn sums d (x .cost)) k d
 
 pub record CardWritten (c : ℕ) (k : Card) (len : ℕ) (cards : List (List Float)) (counts rows : List (List ℕ)) (cards′ : List (List Float)) (counts′ rows′ : List (List ℕ)) : Type 0 where
   pub cards-are : cards′ ≡ writeFloats cards c k
@@ -76,11 +76,11 @@ pub record CardWritten (c : ℕ) (k : Card) (len : ℕ) (cards : List (List Floa
   pub queue-is : queue rows′ len ≡ frontChanged (queue rows len) (keyOf k)
 
 -- what the loop over turns leaves, from a state and for at most n turns
-pub record Ran (g : SimulatorConfig) (m : Model) (s : State) (n : ℕ) (r : Reach) (cards : List (List Float)) (counts rows days : List (List ℕ)) (sums : List (List Float)) (due : List ℕ) (keys : List (List ℕ)) (intervals : List Float) : Type 0 where
-  pub stop-is : r .stop ≡ stopOf (next g m) stop.Ended n s
-  pub turns : r .turns ≡ length ((run (next g m) n [] s) .turns)
-  pub draws : r .draws ≡ (run (next g m) n [] s) .state .draws
-  pub lists : Lists ((run (next g m) n [] s) .state) cards counts rows days sums due keys intervals
+pub record Ran (R : Rules) (s : State) (n : ℕ) (r : Reach) (cards : List (List Float)) (counts rows days : List (List ℕ)) (sums : List (List Float)) (due : List ℕ) (keys : List (List ℕ)) (intervals : List Float) : Type 0 where
+  pub stop-is : r .stop ≡ stopOf (next R) stop.Ended n s
+  pub turns : r .turns ≡ length ((run (next R) n [] s) .turns)
+  pub draws : r .draws ≡ (run (next R) n [] s) .state .draws
+  pub lists : Lists ((run (next R) n [] s) .state) cards counts rows days sums due keys intervals
 
 -- ---- set-up
 pub record Joined (k : Card) (len : ℕ) (cards : List (List Float)) (counts rows : List (List ℕ)) (r : ℕ) (cards′ : List (List Float)) (counts′ rows′ : List (List ℕ)) : Type 0 where

@@ -1,4 +1,4 @@
--- THE TURN RULE of document 01, as one definition, `next`, over any memory model. Definitions only.
+-- THE TURN RULE of document 01, as one definition, `next`, over any rules of a run. Definitions only.
 use Prim.Native.Nat.{ℕ, _-_}
 use mathlib.Core.Bool.{Bool, true, false, cond}
 use mathlib.Core.List.{List}
@@ -7,7 +7,6 @@ use lib.IntN.{pos}
 use lib.Ieee.{Float, ofBits, binary32, add, ofInt, toUnsigned}
 use Rattle.turns.specs.Turns.{Kind, learn, review, putOff, retire, Turn}
 use Rattle.turns.specs.Run.{Next, takes, stops}
-use Rattle.cards.specs.declared.SimulatorConfig.{SimulatorConfig}
 use Rattle.cards.specs.declared.Card.{Card}
 use Rattle.cards.specs.declared.Choice.{Choice}
 use Rattle.cards.specs.declared.Choice.the-variants as choice
@@ -31,6 +30,7 @@ use Rattle.simulation.specs.declared.Refusal.the-variants as refusal
 use Rattle.simulation.specs.declared.Stop.{Stop}
 use Rattle.simulation.specs.declared.Stop.the-variants as stop
 use Rattle.simulation.specs.State.{State, Model, cardIn, keyOf, withCards, withQueue, withSums, withDue}
+use Rattle.simulation.specs.Rules.{Rules}
 
 -- a turn that is refused
 abbrev pub refuses : Refusal → Next (Turn Float) State Stop
@@ -76,10 +76,18 @@ holdCard m sums k e =
     cond (newOf (k .«last_date»)) sums
     (let from = toUnsigned 32 (k .«last_date») in holdFrom (λ t. m .chance t (k .stability)) sums (e - from) from (k .«last_date»))
 
-module _ (g : SimulatorConfig) (m : Model) where
+-- the interval of a stability and a retention: held and certified, or new and to be entered; or refusal 8
+abbrev pub slotFor : Model → Table → Float → Float → Slot
+slotFor m t s r = slotIn (m .certified s r) (m .fresh s r) t (stabilityBucket s) (retentionBucket r)
+
+abbrev pub orElse : Bool → Next (Turn Float) State Stop → Next (Turn Float) State Stop → Next (Turn Float) State Stop
+orElse true a b = a
+orElse false a b = b
+
+module _ (R : Rules) where
   -- the first card leaves the queue, held to the span's end
   unfoldable pub retired : State → Card → State
-  retired s k = withQueue (popped (s .queue)) (withSums (holdCard m (s .sums) k (g .«learn_span»)) s)
+  retired s k = withQueue (popped (s .queue)) (withSums (holdCard (R .model) (s .sums) k (R .span)) s)
 
   -- the first card, c, goes from day d to the next
   unfoldable pub postponed : State → ℕ → Card → ℕ → State
@@ -87,7 +95,7 @@ module _ (g : SimulatorConfig) (m : Model) where
       let later = putOffCard k d in
       withCards (writeFloats (s .cards) c later)
       (withQueue (frontChanged (s .queue) (keyOf later))
-      (withDue (moveDue (g .«learn_span») (s .due) (newOf (k .«last_date»)) d) s))
+      (withDue (moveDue (R .span) (s .due) (newOf (k .«last_date»)) d) s))
 
   -- the first card, c, has an event on day d, which leaves the memory x and the interval of t
   unfoldable pub handled : State → ℕ → Card → Bool → ℕ → Memory → Slot → State
@@ -97,16 +105,12 @@ module _ (g : SimulatorConfig) (m : Model) where
         cards = writeFloats (s .cards) c k′;
         counts = writeCounts (s .counts) c k′;
         queue = frontChanged (s .queue) (keyOf k′);
-        days = countEvent (g .«learn_span») (s .days) new d (x .recalled);
-        sums = holdCard m (payOn (s .sums) d (x .cost)) k d;
-        due = addDue (g .«learn_span») (s .due) (dayOf (k′ .due));
+        days = countEvent (R .span) (s .days) new d (x .recalled);
+        sums = holdCard (R .model) (payOn (s .sums) d (x .cost)) k d;
+        due = addDue (R .span) (s .due) (dayOf (k′ .due));
         table = entered (s .table) t;
         draws = x .draws;
       }
-
-  -- the interval of a stability and a retention: held and certified, or new and to be entered; or refusal 8
-  abbrev pub slotFor : Table → Float → Float → Slot
-  slotFor t s r = slotIn (m .certified s r) (m .fresh s r) t (stabilityBucket s) (retentionBucket r)
 
   abbrev pub handleAs : State → ℕ → Card → Bool → ℕ → Memory → Slot → Next (Turn Float) State Stop
   handleAs s c k new d x (slot.Keep v) = takes (turnAs c d (kindAs new x)) (handled s c k new d x (slot.Keep v))
@@ -114,15 +118,11 @@ module _ (g : SimulatorConfig) (m : Model) where
   handleAs s c k new d x slot.Full = refuses (refusal.TableFull c)
 
   abbrev pub eventAs : State → ℕ → Card → Bool → ℕ → Event → Next (Turn Float) State Stop
-  eventAs s c k new d (event.Happened x) = handleAs s c k new d x (slotFor (s .table) (x .stability) (k .«desired_retention»))
+  eventAs s c k new d (event.Happened x) = handleAs s c k new d x (slotFor (R .model) (s .table) (x .stability) (k .«desired_retention»))
   eventAs s c k new d event.Chance = refuses (refusal.Chance c)
 
   unfoldable pub handle : State → ℕ → Card → Bool → ℕ → Next (Turn Float) State Stop
-  handle s c k new d = eventAs s c k new d (m .event k new d (s .draws))
-
-  abbrev pub orElse : Bool → Next (Turn Float) State Stop → Next (Turn Float) State Stop → Next (Turn Float) State Stop
-  orElse true a b = a
-  orElse false a b = b
+  handle s c k new d = eventAs s c k new d (R .model .event (R .draw) k new d (s .draws))
 
   abbrev pub act : State → ℕ → Card → ℕ → Choice → Next (Turn Float) State Stop
   act s c k d choice.Retire = takes (turnAs c d retire) (retired s k)
@@ -132,7 +132,7 @@ module _ (g : SimulatorConfig) (m : Model) where
 
   -- the turn of card c, which is k and of day d
   abbrev pub turnOf : State → ℕ → Card → ℕ → Next (Turn Float) State Stop
-  turnOf s c k d = act s c k d (choiceOf g k (learnedAt (s .days) d) (reviewedAt (s .days) d) (costAt (s .sums) d))
+  turnOf s c k d = act s c k d (choiceOf (R .span) (R .lapse-limit) (R .limits) d k (learnedAt (s .days) d) (reviewedAt (s .days) d) (costAt (s .sums) d))
 
   -- a turn looks at the queue's first card; the run ends when the queue is empty
   unfoldable pub next : State → Next (Turn Float) State Stop

@@ -2,7 +2,7 @@
 use cards::SimulatorConfig;
 ghost use Rattle.events.specs.Scalars.{plain};
 ghost use Rattle.simulation.specs.State.{state};
-ghost use Rattle.simulation.specs.Model.{modelOf};
+ghost use Rattle.simulation.specs.Rules.{rulesOf};
 ghost use Rattle.simulation.specs.Steps.{Done};
 ghost use Rattle.simulation.specs.Entry.{inputs};
 ghost use Rattle.simulation.specs.Simulate.{simulated};
@@ -83,12 +83,12 @@ pub fn simulate(
     seed: u64,
 ) -> Answer
     ensures { λ r. ⌜ Done
-        (simulated (modelOf config (plain (now (parameters .entry))))
+        (simulated
         (inputs config (now (parameters .entry)) retention seed (now (existing .entry)) (now («existing_counts» .entry)))
         (state (now (cards .entry)) (now (counts .entry)) (now (rows .entry)) (now (days .entry)) (now (sums .entry)) (now (due .entry)) (now (keys .entry)) (now (intervals .entry)) 0 seed))
         r
         (now (cards .exit)) (now (counts .exit)) (now (rows .exit)) (now (days .exit)) (now (sums .exit)) (now (due .exit)) (now (keys .exit)) (now (intervals .exit)) ⌝ }
-    ensures { λ r. ⌜ (Finished r → DemandThree
+    ensures { λ r. ⌜ (Finished r → DemandThree (rulesOf config (plain (now (parameters .entry))))
         (inputs config (now (parameters .entry)) retention seed (now (existing .entry)) (now («existing_counts» .entry)))
         (state (now (cards .entry)) (now (counts .entry)) (now (rows .entry)) (now (days .entry)) (now (sums .entry)) (now (due .entry)) (now (keys .entry)) (now (intervals .entry)) 0 seed)
         (now (counts .exit)) (now (days .exit))) ⌝ }

@@ -12,11 +12,13 @@ use model::Fsrs7;
 use queue::CardPriorityQueue;
 ghost use mathlib.Core.Path.{_≡_};
 ghost use mathlib.Core.Bool.{cond};
+ghost use Rattle.draws.specs.Draws.{splitMix};
 ghost use Rattle.days.specs.Counts.{raised};
 ghost use Rattle.events.specs.Scalars.{kept};
 ghost use Rattle.events.specs.Events.{eventOf};
 ghost use Rattle.simulation.specs.State.{keyOf, state};
 ghost use Rattle.simulation.specs.Model.{modelOf, curveFor};
+ghost use Rattle.simulation.specs.Rules.{rulesOf};
 ghost use Rattle.simulation.specs.Turn.{putOffCard, eventCard, holdCard, handle, next};
 ghost use Rattle.simulation.specs.Steps.{Turned, PutOff, PutOffStep, RetireStep, DaysWritten, CardWritten};
 
@@ -166,7 +168,7 @@ fn retire_step(
     len: u32,
     draws: u64,
 ) -> Outcome
-    ensures { λ r. ⌜ RetireStep config (modelOf config (kept m)) card len draws
+    ensures { λ r. ⌜ RetireStep (rulesOf config (kept m)) card len draws
         (now (sums .entry)) (now (rows .entry))
         r (now (sums .exit)) (now (rows .exit)) ⌝ }
 {
@@ -190,7 +192,7 @@ fn write_days(
     x: Memory,
 )
     requires { ⌜ curve ≡ curveFor m card ⌝ }
-    ensures { λ _. ⌜ DaysWritten config (modelOf config (kept m)) card new d x
+    ensures { λ _. ⌜ DaysWritten (rulesOf config (kept m)) card new d x
         (now (days .entry)) (now (sums .entry)) (now (days .exit)) (now (sums .exit)) ⌝ }
 {
     days::count_event(days, config.learn_span, new, d, x.recalled);
@@ -227,7 +229,7 @@ fn event_of(
     draws: u64,
 ) -> Event
     requires { ⌜ curve ≡ curveFor m card ⌝ }
-    ensures { λ r. ⌜ r ≡ eventOf config (kept m) card new d draws ⌝ }
+    ensures { λ r. ⌜ r ≡ eventOf splitMix config (kept m) card new d draws ⌝ }
 {
     let chance = curve.retention(float32::from_u32(d) - card.last_date);
     events::event_at(config, m, card, new, chance, draws)
@@ -252,7 +254,7 @@ fn event_step(
     draws: u64,
 ) -> Outcome
     ensures { λ r. ⌜ Turned
-        (handle config (modelOf config (kept m))
+        (handle (rulesOf config (kept m))
         (state (now (cards .entry)) (now (counts .entry)) (now (rows .entry)) (now (days .entry)) (now (sums .entry)) (now (due .entry)) (now (keys .entry)) (now (intervals .entry)) len draws)
         c card new d)
         (state (now (cards .entry)) (now (counts .entry)) (now (rows .entry)) (now (days .entry)) (now (sums .entry)) (now (due .entry)) (now (keys .entry)) (now (intervals .entry)) len draws)
@@ -299,7 +301,7 @@ pub(crate) fn turn(
 ) -> Outcome
     ensures { λ r. ⌜ (
         let before = state (now (cards .entry)) (now (counts .entry)) (now (rows .entry)) (now (days .entry)) (now (sums .entry)) (now (due .entry)) (now (keys .entry)) (now (intervals .entry)) len draws in
-        Turned (next config (modelOf config (kept m)) before) before r
+        Turned (next (rulesOf config (kept m)) before) before r
         (now (cards .exit)) (now (counts .exit)) (now (rows .exit)) (now (days .exit)) (now (sums .exit)) (now (due .exit)) (now (keys .exit)) (now (intervals .exit))) ⌝ }
 {
     if len == 0 {

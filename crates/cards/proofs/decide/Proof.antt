@@ -8,7 +8,7 @@ is-retired-requires c κs = tt
 
 returns : tie.Need-returns
 unfolding choiceOf
-returns c = rw (← c .before .is-retired .ensures, c .if1 .taken)
+returns c = λ d. rw (← c .before .is-retired .ensures, c .if1 .taken)
 
 is-new-requires : tie.Need-is-new-requires
 is-new-requires c κs = tt
@@ -18,15 +18,15 @@ is-blocked-requires c κs = tt
 
 returns-2 : tie.Need-returns-2
 unfolding choiceOf
-returns-2 c = rw (← c .before .before .before .before .is-retired .ensures, c .before .before .before .if1 .left, ← c .before .before .is-new .ensures, ← c .before .is-blocked .ensures, c .if2 .taken)
+returns-2 c = λ d. rw (← c .before .before .before .before .is-retired .ensures, c .before .before .before .if1 .left, ← c .before .before .is-new .ensures, ← c .before .is-blocked .ensures d, c .if2 .taken)
 
 returns-3 : tie.Need-returns-3
 unfolding choiceOf
-returns-3 c = rw (← c .before .before .before .before .before .is-retired .ensures, c .before .before .before .before .if1 .left, ← c .before .before .before .is-new .ensures, ← c .before .before .is-blocked .ensures, c .before .if2 .left, c .if3 .taken)
+returns-3 c = λ d. rw (← c .before .before .before .before .before .is-retired .ensures, c .before .before .before .before .if1 .left, ← c .before .before .before .is-new .ensures, ← c .before .before .is-blocked .ensures d, c .before .if2 .left, c .if3 .taken)
 
 returns-4 : tie.Need-returns-4
 unfolding choiceOf
-returns-4 c = rw (← c .before .before .before .before .before .is-retired .ensures, c .before .before .before .before .if1 .left, ← c .before .before .before .is-new .ensures, ← c .before .before .is-blocked .ensures, c .before .if2 .left, c .if3 .left)
+returns-4 c = λ d. rw (← c .before .before .before .before .before .is-retired .ensures, c .before .before .before .before .if1 .left, ← c .before .before .before .is-new .ensures, ← c .before .before .is-blocked .ensures d, c .before .if2 .left, c .if3 .left)
 
 pub decide-spec : {M : Type 1} → statement M
 decide-spec =

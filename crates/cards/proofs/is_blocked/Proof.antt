@@ -7,15 +7,15 @@ use Rattle.cards.proofs.is_blocked.Tie as tie
 
 returns : tie.Need-returns
 unfolding blocked
-returns c = rw (c .if1 .taken)
+returns c = λ d. rw (c .if1 .taken)
 
 returns-2 : tie.Need-returns-2
 unfolding blocked
-returns-2 c = rw (c .before .before .before .if1 .left, c .before .before .if2 .taken, le-leb _ _ (c .if3 .taken))
+returns-2 c = λ d. rw (c .before .before .before .if1 .left, c .before .before .if2 .taken, le-leb _ _ (c .if3 .taken))
 
 returns-3 : tie.Need-returns-3
 unfolding blocked
-returns-3 c = rw (c .before .before .before .before .if1 .left, c .before .before .before .if2 .taken, lt-leb _ _ (c .before .if3 .left), c .if4 .taken)
+returns-3 c = λ d. rw (c .before .before .before .before .if1 .left, c .before .before .before .if2 .taken, lt-leb _ _ (c .before .if3 .left), c .if4 .taken)
 
 add-result : tie.Need-add-result
 add-result c = search needs
@@ -25,11 +25,11 @@ cast-result c = search needs
 
 returns-4 : tie.Need-returns-4
 unfolding blocked
-returns-4 c = rw (c .before .before .before .before .before .if1 .left, c .before .before .before .before .if2 .taken, lt-leb _ _ (c .before .before .if3 .left), c .before .if4 .left)
+returns-4 c = λ d. rw (c .before .before .before .before .before .if1 .left, c .before .before .before .before .if2 .taken, lt-leb _ _ (c .before .before .if3 .left), c .before .if4 .left)
 
 returns-5 : tie.Need-returns-5
 unfolding blocked
-returns-5 c = rw (c .before .before .if1 .left, c .before .if2 .left)
+returns-5 c = λ d. rw (c .before .before .if1 .left, c .before .if2 .left)
 
 pub is-blocked-spec : {M : Type 1} → statement M
 is-blocked-spec =

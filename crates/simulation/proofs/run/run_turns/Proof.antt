@@ -4,7 +4,7 @@ use Prim.Native.Nat.{_-_}
 use native.Mathlib.Omega.{arith}
 use mathlib.Core.Path.{refl, _∙_}
 use Rattle.events.specs.Scalars.{kept}
-use Rattle.simulation.specs.Model.{modelOf}
+use Rattle.simulation.specs.Rules.{rulesOf}
 use Rattle.simulation.specs.State.{state}
 use Rattle.simulation.proofs.Turning.{Going, going-start, going-on, going-stops, going-spent, Long}
 use Rattle.simulation.proofs.run.run_turns.Statement.{statement}
@@ -12,13 +12,13 @@ use Rattle.simulation.proofs.run.run_turns.Tie as tie
 use borrow.Author.Needs.{needs}
 
 abbrev Inv-loop : tie.InvT-loop
-Inv-loop cards₀ counts₀ rows₀ days₀ sums₀ due₀ keys₀ intervals₀ config m len seed bound n₀ draws₀ turns₀ cards counts rows days sums due keys intervals n draws turns = Going config (modelOf config (kept m)) (state cards₀ counts₀ rows₀ days₀ sums₀ due₀ keys₀ intervals₀ len seed) bound (state cards counts rows days sums due keys intervals n draws) turns × Long cards₀ counts₀ rows₀ days₀ sums₀ due₀ keys₀ intervals₀ cards counts rows days sums due keys intervals
+Inv-loop cards₀ counts₀ rows₀ days₀ sums₀ due₀ keys₀ intervals₀ config m len seed bound n₀ draws₀ turns₀ cards counts rows days sums due keys intervals n draws turns = Going (rulesOf config (kept m)) (state cards₀ counts₀ rows₀ days₀ sums₀ due₀ keys₀ intervals₀ len seed) bound (state cards counts rows days sums due keys intervals n draws) turns × Long cards₀ counts₀ rows₀ days₀ sums₀ due₀ keys₀ intervals₀ cards counts rows days sums due keys intervals
 
 abbrev μ-loop : tie.MeasureT-loop
 μ-loop cards₀ counts₀ rows₀ days₀ sums₀ due₀ keys₀ intervals₀ config m len seed bound n₀ draws₀ turns₀ cards counts rows days sums due keys intervals n draws turns = bound - turns
 
 loop-holds : tie.Need-loop-holds Inv-loop μ-loop
-loop-holds c = (going-start (c .before .before .args .config) (modelOf (c .before .before .args .config) (kept (c .before .before .args .m))) (c .before .before .args .bound) _, record { k0 = refl; k1 = refl; k2 = refl; k3 = refl; k4 = refl; k5 = refl; k6 = refl; k7 = refl })
+loop-holds c = (going-start (rulesOf (c .before .before .args .config) (kept (c .before .before .args .m))) (c .before .before .args .bound) _, record { k0 = refl; k1 = refl; k2 = refl; k3 = refl; k4 = refl; k5 = refl; k6 = refl; k7 = refl })
 
 turn-requires : tie.Need-turn-requires Inv-loop μ-loop
 turn-requires c κs = tt
@@ -87,7 +87,7 @@ returns c =
     let at-loop-test = at-turn .before .before .before .before .before .before .before .before .before in
     let at-loop = at-loop-test .before in
     let start = at-loop .before .before .before in
-    going-stops (start .args .config) (modelOf (start .args .config) (kept (start .args .m)))
+    going-stops (rulesOf (start .args .config) (kept (start .args .m)))
     (state (start .args .cards .now) (start .args .counts .now) (start .args .rows .now) (start .args .days .now) (start .args .sums .now) (start .args .due .now) (start .args .keys .now) (start .args .intervals .now) (start .args .len) (start .args .seed))
     (start .args .bound) (at-loop .loop .inv .0) (at-turn .turn .ensures) (at-loop-test .loop-test .taken)
     (at-match .match .keys2) (c .stop-in .result) (c .stop-in .ensures)
@@ -107,7 +107,7 @@ loop-again c =
     let at-loop-test = at-turn .before .before .before .before .before .before .before .before .before in
     let at-loop = at-loop-test .before in
     let start = at-loop .before .before .before in
-    (going-on (start .args .config) (modelOf (start .args .config) (kept (start .args .m))) (state (start .args .cards .now) (start .args .counts .now) (start .args .rows .now) (start .args .days .now) (start .args .sums .now) (start .args .due .now) (start .args .keys .now) (start .args .intervals .now) (start .args .len) (start .args .seed)) (start .args .bound) (at-loop .loop .inv .0) (at-turn .turn .ensures) (at-loop-test .loop-test .taken) _ _ (c .before .o .given .1), record { k0 = at-turn .turn .kept .0 ∙ at-loop .loop .inv .1 .k0; k1 = at-turn .turn .kept .1 .0 ∙ at-loop .loop .inv .1 .k1; k2 = at-turn .turn .kept .1 .1 .0 ∙ at-loop .loop .inv .1 .k2; k3 = at-turn .turn .kept .1 .1 .1 .0 ∙ at-loop .loop .inv .1 .k3; k4 = at-turn .turn .kept .1 .1 .1 .1 .0 ∙ at-loop .loop .inv .1 .k4; k5 = at-turn .turn .kept .1 .1 .1 .1 .1 .0 ∙ at-loop .loop .inv .1 .k5; k6 = at-turn .turn .kept .1 .1 .1 .1 .1 .1 .0 ∙ at-loop .loop .inv .1 .k6; k7 = at-turn .turn .kept .1 .1 .1 .1 .1 .1 .1 .0 ∙ at-loop .loop .inv .1 .k7 })
+    (going-on (rulesOf (start .args .config) (kept (start .args .m))) (state (start .args .cards .now) (start .args .counts .now) (start .args .rows .now) (start .args .days .now) (start .args .sums .now) (start .args .due .now) (start .args .keys .now) (start .args .intervals .now) (start .args .len) (start .args .seed)) (start .args .bound) (at-loop .loop .inv .0) (at-turn .turn .ensures) (at-loop-test .loop-test .taken) _ _ (c .before .o .given .1), record { k0 = at-turn .turn .kept .0 ∙ at-loop .loop .inv .1 .k0; k1 = at-turn .turn .kept .1 .0 ∙ at-loop .loop .inv .1 .k1; k2 = at-turn .turn .kept .1 .1 .0 ∙ at-loop .loop .inv .1 .k2; k3 = at-turn .turn .kept .1 .1 .1 .0 ∙ at-loop .loop .inv .1 .k3; k4 = at-turn .turn .kept .1 .1 .1 .1 .0 ∙ at-loop .loop .inv .1 .k4; k5 = at-turn .turn .kept .1 .1 .1 .1 .1 .0 ∙ at-loop .loop .inv .1 .k5; k6 = at-turn .turn .kept .1 .1 .1 .1 .1 .1 .0 ∙ at-loop .loop .inv .1 .k6; k7 = at-turn .turn .kept .1 .1 .1 .1 .1 .1 .1 .0 ∙ at-loop .loop .inv .1 .k7 })
 
 same-length-9 : tie.Need-same-length-9 Inv-loop μ-loop
 same-length-9 c = c .before .loop .inv .1 .k0
@@ -136,7 +136,7 @@ same-length-16 c = c .before .loop .inv .1 .k7
 returns-2 : tie.Need-returns-2 Inv-loop μ-loop
 returns-2 c =
     let start = c .before .before .before .before in
-    going-spent (start .args .config) (modelOf (start .args .config) (kept (start .args .m)))
+    going-spent (rulesOf (start .args .config) (kept (start .args .m)))
     (state (start .args .cards .now) (start .args .counts .now) (start .args .rows .now) (start .args .days .now) (start .args .sums .now) (start .args .due .now) (start .args .keys .now) (start .args .intervals .now) (start .args .len) (start .args .seed))
     (start .args .bound) (c .before .loop .inv .0) (c .loop-test .left)
 

@@ -3,7 +3,7 @@ use native.Mathlib.Omega.{arith}
 use mathlib.Core.Path.{_∙_}
 use Rattle.events.specs.Scalars.{kept}
 use Rattle.simulation.specs.State.{state}
-use Rattle.simulation.specs.Model.{modelOf}
+use Rattle.simulation.specs.Rules.{rulesOf}
 use Rattle.simulation.specs.Entry.{inputs}
 use Rattle.simulation.proofs.Accepted.{accepted}
 use Rattle.simulation.proofs.Starting.{few-cards, done-is}
@@ -92,7 +92,7 @@ returns c =
     (inputs (a .config) (a .parameters .now) (a .retention) (a .seed) (a .existing .now) (a .existing-counts .now))
     (state (a .cards .now) (a .counts .now) (a .rows .now) (a .days .now) (a .sums .now) (a .due .now) (a .keys .now) (a .intervals .now) 0 (a .seed))
     (at-set-up .set-up .ensures (a .parameters .now) (a .seed) (a .keys .now))
-    (modelOf (a .config) (kept (at-new .new .result))) (at-bound-of .bound-of .ensures) (at-run-turns .run-turns .ensures))
+    (rulesOf (a .config) (kept (at-new .new .result))) (at-bound-of .bound-of .ensures) (at-run-turns .run-turns .ensures))
 
 pub start-spec : {M : Type 1} → statement M
 start-spec =

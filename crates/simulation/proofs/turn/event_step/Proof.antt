@@ -1,6 +1,6 @@
 -- `simulation::turn::event_step` meets its contract.
 use Rattle.events.specs.Scalars.{kept}
-use Rattle.simulation.specs.Model.{modelOf}
+use Rattle.simulation.specs.Rules.{rulesOf}
 use Rattle.intervals.specs.Schedule.{slotOf}
 use Rattle.simulation.proofs.Glue.{not-happened, chance-is, full-is, handled-is}
 use borrow.Author.Needs.{needs}
@@ -22,7 +22,7 @@ enum-told c = search needs
 returns : tie.Need-returns
 returns c =
     let start = c .before .before .before .before .before .before in
-    chance-is (start .args .config) (modelOf (start .args .config) (kept (start .args .m))) (start .args .cards .now) (start .args .counts .now)
+    chance-is (rulesOf (start .args .config) (kept (start .args .m))) (start .args .cards .now) (start .args .counts .now)
     (start .args .rows .now) (start .args .days .now) (start .args .sums .now) (start .args .due .now) (start .args .keys .now)
     (start .args .intervals .now) (start .args .len) (start .args .draws) (start .args .c) (start .args .card) (start .args .new) (start .args .d) _
     (c .before .before .event-of .ensures) (not-happened _ (c .before .match .keys2))
@@ -45,7 +45,7 @@ returns-2 c =
     let at-drawn = c .before .before .before .before .before .before in
     let at-event-of = at-drawn .before .before in
     let start = at-event-of .before .before .before .before in
-    full-is (start .args .config) (modelOf (start .args .config) (kept (start .args .m))) (start .args .cards .now) (start .args .counts .now)
+    full-is (rulesOf (start .args .config) (kept (start .args .m))) (start .args .cards .now) (start .args .counts .now)
     (start .args .rows .now) (start .args .days .now) (start .args .sums .now) (start .args .due .now) (start .args .keys .now)
     (start .args .intervals .now) (start .args .len) (start .args .draws) (start .args .c) (start .args .card) (start .args .new) (start .args .d) _ _
     (at-event-of .event-of .ensures) (at-drawn .drawn .given .1) _ (c .before .before .scheduled-interval .ensures) _ (c .before .is-full .ensures)
@@ -112,7 +112,7 @@ returns-3 c =
     let at-drawn = at-scheduled-interval .before .before .before .before in
     let at-event-of = at-drawn .before .before in
     let start = at-event-of .before .before .before .before in
-    handled-is (start .args .config) (modelOf (start .args .config) (kept (start .args .m))) (start .args .cards .now) (start .args .counts .now)
+    handled-is (rulesOf (start .args .config) (kept (start .args .m))) (start .args .cards .now) (start .args .counts .now)
     (start .args .rows .now) (start .args .days .now) (start .args .sums .now) (start .args .due .now) (start .args .keys .now)
     (start .args .intervals .now) (start .args .len) (start .args .draws) (start .args .c) (start .args .card) (start .args .new) (start .args .d) _ _
     (at-event-of .event-of .ensures) (at-drawn .drawn .given .1) _ (at-scheduled-interval .scheduled-interval .ensures) _ (at-is-full .is-full .ensures)
