@@ -35,12 +35,12 @@ unfoldable pub consecutiveAfter : ℕ → ℕ → ℕ
 consecutiveAfter n rating = cond (ltb 2 rating) (n + 1) (cond (eqb rating 1) 0 n)
 
 module _ (w : DrawRule) (x : Scalars) (transitions costs : List Float) where
-  -- a short-term step: a rating drawn by the row of the last one, and what it does at a chance to recall of 1
+  -- a short-term step: a rating drawn by the row of the last one, and what it does
   unfoldable pub shortStep : ShortTerm → ShortTerm
   shortStep t =
       let r = ratingOf (rating (rowOf transitions (t .rating - 1)) (w .word (t .draws))) in
       record {
-        stability = x .next-stability (t .stability) (t .difficulty) (ofBits binary32 0x3F80_0000) r;
+        stability = x .short-term (t .stability) (t .difficulty) r;
         difficulty = x .next-difficulty (t .difficulty) r;
         cost = t .cost +ᶠ ofRating costs r;
         rating = r;
@@ -104,7 +104,7 @@ module _ (w : DrawRule) (g : SimulatorConfig) (x : Scalars) where
       let r = recalledRatingOf (rating (g .«review_rating_prob») (w .word state)) in
       record {
         difficulty = x .next-difficulty (k .difficulty) r;
-        stability = x .next-stability (k .stability) (k .difficulty) chance r;
+        stability = x .after-success (k .stability) (k .difficulty) chance r;
         cost = ofRating (rowOf (g .«state_rating_costs») 1) r;
         recalled = true;
         draws = w .after state;
@@ -114,7 +114,7 @@ module _ (w : DrawRule) (g : SimulatorConfig) (x : Scalars) where
   unfoldable pub lapse : Card → Float → ℕ → Memory
   lapse k chance state =
       let first : ShortTerm = record {
-        stability = x .next-stability (k .stability) (k .difficulty) chance 1;
+        stability = x .after-failure (k .stability) (k .difficulty) chance;
         difficulty = x .next-difficulty (k .difficulty) 1;
         cost = ofBits binary32 0;
         rating = 1;

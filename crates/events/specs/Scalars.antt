@@ -13,8 +13,11 @@ pub record Scalars : Type 0 where
   pub init-difficulty : ℕ → Float
   -- difficulty after a rating
   pub next-difficulty : Float → ℕ → Float
-  -- stability after a rating: stability, difficulty, the chance that there was to recall
-  pub next-stability : Float → Float → Float → ℕ → Float
+  -- stability after a rating of a short-term step, from stability and difficulty
+  pub short-term : Float → Float → ℕ → Float
+  -- after a review's rating of 2 to 4, and after a rating of 1: from stability, difficulty and the chance that there was to recall
+  pub after-success : Float → Float → Float → ℕ → Float
+  pub after-failure : Float → Float → Float → Float
   -- the chance to recall after so many days, at a stability
   pub chance : Float → Float → Float
   -- the interval in whole days for a stability and a retention, up to the longest
@@ -29,7 +32,9 @@ plain w = record {
   init-stability = λ rating. Model.initStability w rating;
   init-difficulty = λ rating. Model.initDifficulty w rating;
   next-difficulty = λ d rating. Model.nextDifficulty w d rating one;
-  next-stability = λ s d r rating. Model.stabilityForSet w s d r rating 7;
+  short-term = λ s d rating. Model.stabilityForSet w s d one rating 7;
+  after-success = λ s d r rating. Model.stabilityForSet w s d r rating 7;
+  after-failure = λ s d r. Model.stabilityForSet w s d r 1 7;
   chance = λ t s. Model.forgettingCurve w t s;
   interval = λ s r longest. Model.scheduled w s r longest;
 }
@@ -40,7 +45,9 @@ kept m = record {
   init-stability = λ rating. Kept.initStability m rating;
   init-difficulty = λ rating. Kept.initDifficulty m rating;
   next-difficulty = λ d rating. Kept.nextDifficulty m d rating one;
-  next-stability = λ s d r rating. Kept.stabilityForSet m s d r rating;
+  short-term = λ s d rating. Kept.stabilityForSet m s d one rating;
+  after-success = λ s d r rating. Kept.stabilityForSet m s d r rating;
+  after-failure = λ s d r. Kept.stabilityForSet m s d r 1;
   chance = λ t s. Kept.retention (Kept.curveOf (m .curve) (Model.ofStability s)) t;
   interval = λ s r longest. Kept.scheduled m s r longest;
 }

@@ -36,6 +36,7 @@ use Rattle.simulation.specs.SetUp.{known, setUp}
 use Rattle.simulation.specs.Simulate.{progress, rulesFor, bound, ran, finished, simulatedBy, simulated}
 use Rattle.simulation.specs.Demands.{Finished, cardsOf, turnsOf, DemandThree}
 use Rattle.simulation.specs.Steps.{Done}
+use Rattle.simulation.proofs.Slots.{Slots, table-slots}
 use Rattle.simulation.proofs.Views.{columns}
 use Rattle.simulation.proofs.Good.{Fine, Good}
 use Rattle.simulation.proofs.Accepted.{Accepted, accepted, both}
@@ -86,14 +87,14 @@ interval-ok g e =
     let f = both (costsOk (g .«state_rating_costs»)) last (d .1) in
     both (not (isNan (g .«max_cost_perday»))) (intervalOk (g .«max_ivl»)) (f .1) .1
 
--- what demand 3 asks of a run's rules: the span of the inputs, and new intervals of 1 to 36,500; nothing of limits or draws
+-- what demand 3 asks of a run's rules: the span of the inputs, and a model with lawful slots; nothing of limits or draws
 pub record Suits (R : Rules) (i : Inputs) : Type 0 where
   pub span-is : i .config .«learn_span» ≡ R .span
-  pub fresh-fair : (x y : Float) → Fair (R .model .fresh x y)
+  pub slots : Slots (R .model)
 
 -- so WHATEVER IS DRAWN
 pub suits : (w : DrawRule) (i : Inputs) (s : State) → Accepted i s → Suits (rulesWith w (i .config) (plain (i .parameters))) i
-suits w i s ok = record { span-is = refl; fresh-fair = λ x y. scheduled-fair (i .parameters) x y (i .config .«max_ivl») (interval-ok (i .config) (ok .config-ok)) }
+suits w i s ok = record { span-is = refl; slots = table-slots (i .config) (plain (i .parameters)) (λ x y. scheduled-fair (i .parameters) x y (i .config .«max_ivl») (interval-ok (i .config) (ok .config-ok))) }
 
 module _ (R : Rules) (i : Inputs) (s : State) (ok : Accepted i s) (fit : Suits R i) where
   fine : Fine (R .span) (cardsOf i s)
@@ -108,17 +109,17 @@ module _ (R : Rules) (i : Inputs) (s : State) (ok : Accepted i s) (fit : Suits R
   -- the bound on turns never shows: the run has stopped
   pub has-stopped : (y : Stop) × (next R ((ran R (setUp i s)) .state) ≡ stops y)
   unfolding ran
-  has-stopped = ends R (cardsOf i s) fine (fit .fresh-fair) (setUp i s) good
+  has-stopped = ends R (cardsOf i s) fine (fit .slots) (setUp i s) good
 
   pub few-turns : length (turnsOf R i s) ≤ cardsOf i s * suc (R .span)
   unfolding ran
-  few-turns = turns-demand R (cardsOf i s) fine (fit .fresh-fair) _ (setUp i s) begins good (bound R (setUp i s)) .few
+  few-turns = turns-demand R (cardsOf i s) fine (fit .slots) _ (setUp i s) begins good (bound R (setUp i s)) .few
 
   pub demand-three : (counts days : List (List ℕ)) → counts ≡ (ran R (setUp i s)) .state .counts → days ≡ (ran R (setUp i s)) .state .days → DemandThree R i s counts days
   unfolding ran
   demand-three counts days ec ed = record {
-    demand = turns-demand R (cardsOf i s) fine (fit .fresh-fair) _ (setUp i s) begins good (bound R (setUp i s));
-    rows = rw (ec, ed) (turns-rows R (cardsOf i s) fine (fit .fresh-fair) _ (setUp i s) begins good (bound R (setUp i s)));
+    demand = turns-demand R (cardsOf i s) fine (fit .slots) _ (setUp i s) begins good (bound R (setUp i s));
+    rows = rw (ec, ed) (turns-rows R (cardsOf i s) fine (fit .slots) _ (setUp i s) begins good (bound R (setUp i s)));
   }
 
 -- ---- the entry point

@@ -12,6 +12,8 @@ use lib.Ieee.{Float}
 use Rattle.turns.specs.Turns.{Turn}
 use Rattle.turns.specs.Run.{stops, Reached, run, stopOf}
 use Rattle.turns.proofs.Loop.{stop-is}
+use Rattle.draws.specs.Draws.{DrawRule}
+use Rattle.events.specs.Scalars.{plain}
 use Rattle.intervals.specs.Bucket.{stabilityBucket, retentionBucket}
 use Rattle.intervals.specs.Table.{Table, places, heldIn, countIn, clearIn}
 use Rattle.intervals.specs.Schedule.{isFull}
@@ -24,14 +26,14 @@ use Rattle.simulation.specs.declared.Answer.the-variants as answer
 use Rattle.simulation.specs.declared.Stop.{Stop}
 use Rattle.simulation.specs.declared.Stop.the-variants as stop
 use Rattle.simulation.specs.State.{State, withTable}
-use Rattle.simulation.specs.Rules.{Rules}
-use Rattle.simulation.specs.Turn.{slotFor, next}
+use Rattle.simulation.specs.Rules.{Rules, rulesWith}
+use Rattle.simulation.specs.Turn.{next}
 use Rattle.simulation.specs.Entry.{Inputs, checked}
 use Rattle.simulation.specs.SetUp.{emptied, setUp}
 use Rattle.simulation.specs.Simulate.{Result, progress, answerOf, bound, ran, finished, simulatedBy}
 use Rattle.simulation.specs.Demands.{Finished, cardsOf, turnsOf, LongerTable, SameRun}
 use Rattle.simulation.proofs.Accepted.{Accepted, accepted}
-use Rattle.simulation.proofs.Claims.{Suits, has-stopped, few-turns}
+use Rattle.simulation.proofs.Claims.{Suits, suits, has-stopped, few-turns}
 use Rattle.simulation.proofs.Tables.{run-sound}
 use Rattle.simulation.proofs.Longer.{Alike, run-longer}
 
@@ -46,11 +48,13 @@ unfolding simulatedBy finished
 run-leaves R i s e = rw e
 
 -- refusal 8 exactly when the key is new and as many keys are held as the table is long, after any number of turns of an accepted call
-pub table-full : (R : Rules) (i : Inputs) (s : State) → Suits R i → checked i s ≡ check.Passed → (n : ℕ) (x y : Float)
-    → (let t = (run (next R) n [] (setUp i s)) .state .table in (isFull (slotFor (R .model) t x y) ≡ true) ↔ ((heldIn t (stabilityBucket x) (retentionBucket y) ≡ none) × (countIn t ≡ places t)))
-table-full R i s fit e n x y =
-    slot-full-iff ((run (next R) n [] (setUp i s)) .state .table) (stabilityBucket x) (retentionBucket y) (R .model .certified x y) (R .model .fresh x y)
-    (run-sound R (fit .fresh-fair) n [] (setUp i s) (empty i s))
+pub table-full : (w : DrawRule) (i : Inputs) (s : State) → checked i s ≡ check.Passed → (n : ℕ) (x y : Float)
+    → (let R = rulesWith w (i .config) (plain (i .parameters)) in let t = (run (next R) n [] (setUp i s)) .state .table in
+    (isFull (R .model .slot t x y) ≡ true) ↔ ((heldIn t (stabilityBucket x) (retentionBucket y) ≡ none) × (countIn t ≡ places t)))
+table-full w i s e n x y =
+    let R = rulesWith w (i .config) (plain (i .parameters)) in
+    slot-full-iff ((run (next R) n [] (setUp i s)) .state .table) (stabilityBucket x) (retentionBucket y) _ _
+    (run-sound R (suits w i s (accepted i s e) .slots) n [] (setUp i s) (empty i s))
   where
     empty : (i : Inputs) (s : State) → Sound (setUp i s .table)
     empty i s = unfold setUp in clear-sound (s .table)
@@ -121,7 +125,7 @@ module _ (R : Rules) (i : Inputs) (s s′ : State) (fit : Suits R i) (e : checke
   longer-table f =
       let q = ok-ends R i s fit e f in
       let b : bound R (setUp i s′) ≡ bound R (setUp i s) = ap (λ (z : ℕ). suc (z * suc (R .span))) same-length in
-      let r = run-longer R (fit .fresh-fair) (bound R (setUp i s)) (setUp i s) (setUp i s′) alike q in
+      let r = run-longer R (fit .slots) (bound R (setUp i s)) (setUp i s) (setUp i s′) alike q in
       let r′ : run (next R) (bound R (setUp i s′)) [] (setUp i s′) ≡ run (next R) (bound R (setUp i s)) [] (setUp i s′) = ap (λ (z : ℕ). run (next R) z [] (setUp i s′)) b in
       let st : (ran R (setUp i s′)) .state ≡ (run (next R) (bound R (setUp i s)) [] (setUp i s′)) .state = ap (λ (z : Reached (Turn Float) State). z .state) r′ in
       let one : stopOf (next R) stop.Ended (bound R (setUp i s)) (setUp i s) ≡ stop.Ended = stops-so R i s fit e stop.Ended q in

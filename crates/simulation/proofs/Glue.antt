@@ -35,7 +35,7 @@ use Rattle.simulation.specs.declared.Refusal.the-variants as refusal
 use Rattle.simulation.specs.declared.Stop.the-variants as stop
 use Rattle.simulation.specs.State.{State, Lists, state, keyOf}
 use Rattle.simulation.specs.Rules.{Rules}
-use Rattle.simulation.specs.Turn.{refuses, turnAs, kindAs, eventCard, retired, postponed, handled, slotFor, handleAs, handle, orElse, act, next}
+use Rattle.simulation.specs.Turn.{refuses, turnAs, kindAs, eventCard, retired, postponed, handled, handleAs, handle, orElse, act, next}
 use Rattle.simulation.specs.Steps.{Turned, PutOff, PutOffStep, RetireStep, DaysWritten, CardWritten}
 
 -- neither variant but the second
@@ -84,7 +84,7 @@ module _ (R : Rules) (cards : List (List Float)) (counts rows days : List (List 
         let x : R .model .event (R .draw) k new d draws ≡ event.Chance = sym p ∙ q in
         rw x (record { outcome = refl; lists = same })
 
-    module _ (e : Event) (x : Memory) (p : e ≡ R .model .event (R .draw) k new d draws) (q : e ≡ event.Happened x) (t : Slot) (z : t ≡ slotFor (R .model) (table keys intervals) (x .stability) (k .«desired_retention»)) where
+    module _ (e : Event) (x : Memory) (p : e ≡ R .model .event (R .draw) k new d draws) (q : e ≡ event.Happened x) (t : Slot) (z : t ≡ R .model .slot (table keys intervals) (x .stability) (k .«desired_retention»)) where
       handles : handle R st c k new d ≡ handleAs R st c k new d x t
       unfolding handle
       handles =

@@ -29,8 +29,9 @@ use Rattle.queue.specs.Sound.{queued, Keyed}
 use Rattle.queue.proofs.Keys.{packed-day, priority-in}
 use Rattle.queue.proofs.Laws.{change-queued, pop-other, pop-front, front-queued, keyed-least, queued-named, requeue, unqueue}
 use Rattle.intervals.specs.Table.{places, freeAt, valueAt}
-use Rattle.simulation.specs.State.{State, Model, cardIn, keyOf}
+use Rattle.simulation.specs.State.{State, cardIn, keyOf}
 use Rattle.simulation.specs.Turn.{putOffCard, holdCard, postponed, retired, turnAs}
+use Rattle.simulation.specs.Model.{Model}
 use Rattle.simulation.specs.Rules.{Rules, costs}
 use Rattle.simulation.proofs.Views.{difficultyIn, dayIn, newIn, keyIn, view, columns}
 

@@ -1,5 +1,5 @@
 -- Every turn of `next` is a step of the theory and keeps the state good; so demand 3 holds of the whole list of turns of a run, and the run comes to
--- its end or to a refusal within cards × (span + 1) turns. Of the model one law is asked: a new interval is 1 to 36,500.
+-- its end or to a refusal within cards × (span + 1) turns. Of the model one law is asked: an interval is 1 to 36,500.
 use mathlib.Core.Path.{_≡_, refl, sym}
 use mathlib.Core.Bool.{Bool, true, false, not, _&&_, _||_, false≢true}
 use mathlib.Core.List.{List, []}
@@ -30,16 +30,15 @@ use Rattle.events.specs.declared.Event.the-variants as event
 use Rattle.queue.specs.Queue.{front}
 use Rattle.intervals.specs.declared.Slot.{Slot}
 use Rattle.intervals.specs.declared.Slot.the-variants as slot
-use Rattle.intervals.specs.Bucket.{stabilityBucket, retentionBucket}
 use Rattle.intervals.specs.Schedule.{isFull, intervalOf}
-use Rattle.intervals.proofs.Schedule.{interval-all}
 use Rattle.simulation.specs.declared.Refusal.the-variants as refusal
 use Rattle.simulation.specs.declared.Stop.{Stop}
 use Rattle.simulation.specs.declared.Stop.the-variants as stop
 use Rattle.simulation.specs.State.{State, cardIn}
-use Rattle.simulation.specs.Turn.{refuses, turnAs, kindAs, postponed, handled, slotFor, handleAs, eventAs, handle, orElse, act, turnOf, next}
+use Rattle.simulation.specs.Turn.{refuses, turnAs, kindAs, postponed, handled, handleAs, eventAs, handle, orElse, act, turnOf, next}
 use Rattle.simulation.specs.Rules.{Rules, costs}
 use Rattle.simulation.proofs.Views.{view, columns}
+use Rattle.simulation.proofs.Slots.{Slots}
 use Rattle.simulation.proofs.Good.{Fine, Good, in-span, step-put, good-put, step-retire, good-retire}
 use Rattle.simulation.proofs.Handled.{step-learn, good-learn, step-review, good-review}
 
@@ -55,7 +54,7 @@ and-right : (a b : Bool) → a ≡ true → (a && b) ≡ false → b ≡ false
 and-right true b e h = h
 and-right false b e h = absurd (false≢true e)
 
-module _ (R : Rules) (cards : ℕ) (fine : Fine (R .span) cards) (fresh-law : (x y : Float) → Fair (R .model .fresh x y)) where
+module _ (R : Rules) (cards : ℕ) (fine : Fine (R .span) cards) (laws : Slots (R .model)) where
   abbrev Steps : List (Turn Float) → State → Turn Float → State → Type 0
   Steps = Step view columns costs (R .limits) cards (R .span)
 
@@ -98,9 +97,7 @@ module _ (R : Rules) (cards : ℕ) (fine : Fine (R .span) cards) (fresh-law : (x
         go event.Chance = tt
         go (event.Happened y) =
             let r = k .«desired_retention» in
-            law-slot new y (slotFor (R .model) (s .table) (y .stability) r)
-            (interval-all (s .table) (stabilityBucket (y .stability)) (retentionBucket r) (R .model .certified (y .stability) r) (R .model .fresh (y .stability) r) Fair (good .held) (fresh-law (y .stability) r))
-            (h y (slotFor (R .model) (s .table) (y .stability) r))
+            law-slot new y (R .model .slot (s .table) (y .stability) r) (laws .fair (s .table) (good .held) (y .stability) r) (h y (R .model .slot (s .table) (y .stability) r))
 
     law-learn : retires (R .span) (R .lapse-limit) k ≡ false → blocked (R .limits) d true l r x ≡ false → newOf (k .«last_date») ≡ true → Lawful Steps Fit ts s (handle R s c k true d)
     unfolding blocked cardAt

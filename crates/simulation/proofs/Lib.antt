@@ -1,4 +1,5 @@
 pub mod Views
+pub mod Slots
 pub mod Good
 pub mod Handled
 pub mod Lawful

@@ -17,24 +17,22 @@ use Rattle.cards.specs.Choices.{choiceOf}
 use Rattle.days.specs.Counts.{learnedAt, reviewedAt}
 use Rattle.days.specs.Sums.{costAt}
 use Rattle.days.specs.Due.{noneDue}
-use Rattle.cards.proofs.Later.{Fair, fair-used}
 use Rattle.events.specs.declared.Memory.{Memory}
 use Rattle.events.specs.declared.Event.{Event}
 use Rattle.events.specs.declared.Event.the-variants as event
 use Rattle.queue.specs.Queue.{front}
 use Rattle.intervals.specs.declared.Slot.{Slot}
 use Rattle.intervals.specs.declared.Slot.the-variants as slot
-use Rattle.intervals.specs.Bucket.{stabilityBucket, retentionBucket}
 use Rattle.intervals.specs.Table.{Table}
 use Rattle.intervals.specs.Schedule.{isFull, intervalOf, entered}
 use Rattle.intervals.proofs.Laws.{Twin}
-use Rattle.intervals.proofs.Schedule.{twin-slot}
 use Rattle.simulation.specs.declared.Refusal.the-variants as refusal
 use Rattle.simulation.specs.declared.Stop.{Stop}
 use Rattle.simulation.specs.declared.Stop.the-variants as stop
 use Rattle.simulation.specs.State.{State, cardIn, withTable}
 use Rattle.simulation.specs.Rules.{Rules}
-use Rattle.simulation.specs.Turn.{refuses, turnAs, kindAs, retired, postponed, handled, slotFor, handleAs, eventAs, handle, orElse, act, turnOf, next}
+use Rattle.simulation.specs.Turn.{refuses, turnAs, kindAs, retired, postponed, handled, handleAs, eventAs, handle, orElse, act, turnOf, next}
+use Rattle.simulation.proofs.Slots.{Slots}
 
 -- the same state but for the table, which holds the same and is as long or longer
 pub record Alike (s s′ : State) : Type 0 where
@@ -44,7 +42,7 @@ pub record Alike (s s′ : State) : Type 0 where
 abbrev pub IsEnd : Stop → Type 0
 IsEnd x = x ≡ stop.Ended
 
-module _ (R : Rules) (fresh-law : (x y : Float) → Fair (R .model .fresh x y)) where
+module _ (R : Rules) (laws : Slots (R .model)) where
   abbrev Follow : Next (Turn Float) State Stop → Next (Turn Float) State Stop → Type 0
   Follow = Follows Alike IsEnd
 
@@ -83,8 +81,7 @@ module _ (R : Rules) (fresh-law : (x y : Float) → Fair (R .model .fresh x y)) 
         go event.Chance = λ z. refl
         go (event.Happened y) =
             let r = k .«desired_retention» in
-            slots-follow c k new d y (slotFor (R .model) (s .table) (y .stability) r) (slotFor (R .model) t (y .stability) r) (isFull (slotFor (R .model) (s .table) (y .stability) r)) refl
-            (twin-slot (s .table) t w (stabilityBucket (y .stability)) (retentionBucket r) (R .model .certified (y .stability) r) (R .model .fresh (y .stability) r) (fair-used (R .model .fresh (y .stability) r) (fresh-law (y .stability) r)))
+            slots-follow c k new d y (R .model .slot (s .table) (y .stability) r) (R .model .slot t (y .stability) r) (isFull (R .model .slot (s .table) (y .stability) r)) refl (laws .twins (s .table) t w (y .stability) r)
 
     act-follows : (c : ℕ) (k : Card) (d : ℕ) (x : Choice) → Follow (act R s c k d x) (act R s′ c k d x)
     unfolding retired postponed

@@ -13,7 +13,6 @@ use Rattle.cards.specs.declared.Choice.{Choice}
 use Rattle.cards.specs.declared.Choice.the-variants as choice
 use Rattle.cards.specs.Day.{dayOf, newOf}
 use Rattle.cards.specs.Choices.{choiceOf}
-use Rattle.cards.proofs.Later.{Fair, fair-used}
 use Rattle.days.specs.Counts.{learnedAt, reviewedAt}
 use Rattle.days.specs.Sums.{costAt}
 use Rattle.days.specs.Due.{noneDue}
@@ -23,18 +22,17 @@ use Rattle.events.specs.declared.Event.the-variants as event
 use Rattle.queue.specs.Queue.{front}
 use Rattle.intervals.specs.declared.Slot.{Slot}
 use Rattle.intervals.specs.declared.Slot.the-variants as slot
-use Rattle.intervals.specs.Bucket.{stabilityBucket, retentionBucket}
 use Rattle.intervals.specs.Schedule.{entered}
 use Rattle.intervals.proofs.Laws.{Sound}
-use Rattle.intervals.proofs.Schedule.{slot-sound}
 use Rattle.simulation.specs.declared.Refusal.the-variants as refusal
 use Rattle.simulation.specs.declared.Stop.{Stop}
 use Rattle.simulation.specs.declared.Stop.the-variants as stop
 use Rattle.simulation.specs.State.{State, cardIn}
 use Rattle.simulation.specs.Rules.{Rules}
-use Rattle.simulation.specs.Turn.{refuses, turnAs, postponed, retired, handled, slotFor, handleAs, eventAs, handle, orElse, act, turnOf, next}
+use Rattle.simulation.specs.Turn.{refuses, turnAs, postponed, retired, handled, handleAs, eventAs, handle, orElse, act, turnOf, next}
+use Rattle.simulation.proofs.Slots.{Slots}
 
-module _ (R : Rules) (fresh-law : (x y : Float) → Fair (R .model .fresh x y)) where
+module _ (R : Rules) (laws : Slots (R .model)) where
   -- what a turn leaves of the table
   abbrev After : Next (Turn Float) State Stop → Type 0
   After (takes t s) = Sound (s .table)
@@ -55,8 +53,7 @@ module _ (R : Rules) (fresh-law : (x y : Float) → Fair (R .model .fresh x y)) 
         go event.Chance = tt
         go (event.Happened y) =
             let r = k .«desired_retention» in
-            given c k new d y (slotFor (R .model) (s .table) (y .stability) r)
-            (slot-sound (s .table) (stabilityBucket (y .stability)) (retentionBucket r) (R .model .certified (y .stability) r) (R .model .fresh (y .stability) r) (fair-used (R .model .fresh (y .stability) r) (fresh-law (y .stability) r)) ok)
+            given c k new d y (R .model .slot (s .table) (y .stability) r) (laws .sound (s .table) ok (y .stability) r)
 
     act-after : (c : ℕ) (k : Card) (d : ℕ) (x : Choice) → After (act R s c k d x)
     unfolding retired postponed

@@ -1,7 +1,7 @@
 pub mod State
-pub mod Turn
 pub mod Model
 pub mod Rules
+pub mod Turn
 pub mod Refusals
 pub mod Entry
 pub mod SetUp

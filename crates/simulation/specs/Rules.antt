@@ -6,8 +6,7 @@ use Rattle.turns.specs.Turns.{Kind, learn, review, putOff, retire, CostRule, Li
 use Rattle.cards.specs.declared.SimulatorConfig.{SimulatorConfig}
 use Rattle.cards.specs.Choices.{limits}
 use Rattle.events.specs.Scalars.{Scalars}
-use Rattle.simulation.specs.State.{Model}
-use Rattle.simulation.specs.Model.{modelOf}
+use Rattle.simulation.specs.Model.{Model, modelOf}
 
 -- the days of a run, the limits of each day, how many lapses retire a card, how is drawn, and the memory model
 pub record Rules : Type 0 where

@@ -1,14 +1,11 @@
 -- The state of a run: the lent lists, the queue's length and the state of the draws. Definitions only.
 use Prim.Native.Nat.{ℕ}
-use mathlib.Core.Bool.{Bool}
 use mathlib.Core.List.{List}
 use mathlib.Core.Path.{_≡_}
 use lib.Ieee.{Float}
-use Rattle.draws.specs.Draws.{DrawRule}
 use Rattle.cards.specs.declared.Card.{Card}
 use Rattle.cards.specs.Day.{dayOf, newOf}
 use Rattle.cards.specs.Cards.{cardAt}
-use Rattle.events.specs.declared.Event.{Event}
 use Rattle.queue.specs.Key.{cardPriority}
 use Rattle.queue.specs.Queue.{Queue, queue}
 use Rattle.intervals.specs.Table.{Table, table}
@@ -29,14 +26,6 @@ cardIn s c = cardAt (s .cards) (s .counts) c
 -- a card's order key in the queue: its day, reviews before new, its difficulty
 abbrev pub keyOf : Card → ℕ
 keyOf k = cardPriority (dayOf (k .due)) (newOf (k .«last_date»)) (k .difficulty)
-
--- What the turn rule asks of a memory model: the chance to recall after so many days at a stability; what an event does to a card, new or
--- not, on a day, by a way to draw and from a state of the draws; the interval for a stability and a retention, and whether a held one may stand for it.
-pub record Model : Type 0 where
-  pub chance : Float → Float → Float
-  pub event : DrawRule → Card → Bool → ℕ → ℕ → Event
-  pub fresh : Float → Float → Float
-  pub certified : Float → Float → Float → Bool
 
 -- the state of lists, of a queue's length and of the draws
 abbrev pub state : List (List Float) → List (List ℕ) → List (List ℕ) → List (List ℕ) → List (List Float) → List ℕ → List (List ℕ) → List Float → ℕ → ℕ → State

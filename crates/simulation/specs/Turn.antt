@@ -22,14 +22,13 @@ use Rattle.events.specs.declared.Event.the-variants as event
 use Rattle.queue.specs.Queue.{front, frontChanged, popped}
 use Rattle.intervals.specs.declared.Slot.{Slot}
 use Rattle.intervals.specs.declared.Slot.the-variants as slot
-use Rattle.intervals.specs.Bucket.{stabilityBucket, retentionBucket}
-use Rattle.intervals.specs.Table.{Table}
-use Rattle.intervals.specs.Schedule.{slotIn, intervalOf, entered}
+use Rattle.intervals.specs.Schedule.{intervalOf, entered}
 use Rattle.simulation.specs.declared.Refusal.{Refusal}
 use Rattle.simulation.specs.declared.Refusal.the-variants as refusal
 use Rattle.simulation.specs.declared.Stop.{Stop}
 use Rattle.simulation.specs.declared.Stop.the-variants as stop
-use Rattle.simulation.specs.State.{State, Model, cardIn, keyOf, withCards, withQueue, withSums, withDue}
+use Rattle.simulation.specs.State.{State, cardIn, keyOf, withCards, withQueue, withSums, withDue}
+use Rattle.simulation.specs.Model.{Model}
 use Rattle.simulation.specs.Rules.{Rules}
 
 -- a turn that is refused
@@ -76,10 +75,6 @@ holdCard m sums k e =
     cond (newOf (k .«last_date»)) sums
     (let from = toUnsigned 32 (k .«last_date») in holdFrom (λ t. m .chance t (k .stability)) sums (e - from) from (k .«last_date»))
 
--- the interval of a stability and a retention: held and certified, or new and to be entered; or refusal 8
-abbrev pub slotFor : Model → Table → Float → Float → Slot
-slotFor m t s r = slotIn (m .certified s r) (m .fresh s r) t (stabilityBucket s) (retentionBucket r)
-
 abbrev pub orElse : Bool → Next (Turn Float) State Stop → Next (Turn Float) State Stop → Next (Turn Float) State Stop
 orElse true a b = a
 orElse false a b = b
@@ -118,7 +113,7 @@ module _ (R : Rules) where
   handleAs s c k new d x slot.Full = refuses (refusal.TableFull c)
 
   abbrev pub eventAs : State → ℕ → Card → Bool → ℕ → Event → Next (Turn Float) State Stop
-  eventAs s c k new d (event.Happened x) = handleAs s c k new d x (slotFor (R .model) (s .table) (x .stability) (k .«desired_retention»))
+  eventAs s c k new d (event.Happened x) = handleAs s c k new d x (R .model .slot (s .table) (x .stability) (k .«desired_retention»))
   eventAs s c k new d event.Chance = refuses (refusal.Chance c)
 
   unfoldable pub handle : State → ℕ → Card → Bool → ℕ → Next (Turn Float) State Stop
