@@ -1,20 +1,19 @@
 -- What the writes of an event leave in each row: one more where it counts, and nothing else changed.
 use mathlib.Core.Path.{_≡_, refl, sym, ap, _∙_}
 use mathlib.Core.Bool.{Bool, true, false, cond, _&&_}
-use mathlib.Core.List.{List, [], _∷_}
+use mathlib.Core.List.{List, [], _∷_, map}
 use mathlib.Core.Logic.{_≢_}
 use Prim.Native.Nat.{ℕ, zero, suc, _+_, _-_, _≤_, _<_}
 use native.Mathlib.Decide.{ℕ-discrete, decLt}
 use native.Mathlib.Omega.{arith}
 use borrow.Author.Tests.{lt-ltb, le-ltb, eq-eqb, ne-eqb}
 use lib.Dec.{ltb, eqb}
-use lib.ListN.{getD, set, length, length-set}
-use lib.Seq.{getD-set-same, getD-set-other, set-out}
-use lib.IntN.{pos}
-use lib.Ieee.{Float, nan, binary32, add, sub, ofInt}
+use lib.ListN.{getD, set, length, length-set, length-map}
+use lib.Seq.{getD-set-same, getD-set-other, set-out, map-set-same}
+use lib.Ieee.{Float, nan, binary32, add}
 use Rattle.turns.specs.Sums.{bit}
 use Rattle.days.specs.Counts.{raised, learnedAt, reviewedAt, correctAt, introducedAt, learnOn, reviewOn, introduceOn, introduceFrom}
-use Rattle.days.specs.Sums.{costAt, heldAt, payOn, holdOn, holdFrom}
+use Rattle.days.specs.Sums.{Summed, costColumn, heldColumn, costAt, payOn, holdOn}
 
 pub raised-is : (n : ℕ) → n < 4294967295 → raised n ≡ n + 1
 unfolding raised
@@ -156,31 +155,59 @@ review-correct rows d true i h u = raised-column rows d i 2 _ h u refl
 review-correct rows d false i h u = let e = same-column rows d i 2 (learnedAt rows d ∷ raised (reviewedAt rows d) ∷ correctAt rows d ∷ introducedAt rows d ∷ []) 0 refl in omega (arith, e)
 
 -- ---- sums
-pub pay-long : (rows : List (List Float)) (d : ℕ) (x : Float) → length (payOn rows d x) ≡ length rows
+pub pay-long : (plus : Float → Float → Float) (costs : List Float) (d : ℕ) (x : Float) → length (payOn plus costs d x) ≡ length costs
 unfolding payOn
-pay-long rows d x = length-set rows d _
+pay-long plus costs d x = length-set costs d _
 
-pub pay-cost : (rows : List (List Float)) (d i : ℕ) (x : Float) → d < length rows
-    → costAt (payOn rows d x) i ≡ cond (eqb d i) (add binary32 (costAt rows i) x) (costAt rows i)
+pub pay-cost : (plus : Float → Float → Float) (costs : List Float) (d i : ℕ) (x : Float) → d < length costs
+    → costAt (payOn plus costs d x) i ≡ cond (eqb d i) (plus (costAt costs i) x) (costAt costs i)
 unfolding payOn
-pay-cost rows d i x h = go (ℕ-discrete i d)
+pay-cost plus costs d i x h = go (ℕ-discrete i d)
   where
-    row : List Float
-    row = add binary32 (costAt rows d) x ∷ heldAt rows d ∷ []
+    go : Dec (i ≡ d) → costAt (set costs d (plus (costAt costs d) x)) i ≡ cond (eqb d i) (plus (costAt costs i) x) (costAt costs i)
+    go (yes e) = rw (e, eq-eqb d d refl) (getD-set-same costs d (plus (costAt costs d) x) nan h)
+    go (no e) = rw (ne-eqb d i (omega (arith, e))) (getD-set-other costs d i (plus (costAt costs d) x) nan e)
 
-    go : Dec (i ≡ d) → costAt (set rows d row) i ≡ cond (eqb d i) (add binary32 (costAt rows i) x) (costAt rows i)
-    go (yes e) = rw (e, eq-eqb d d refl) (ap (λ (l : List Float). getD l 0 nan) (getD-set-same rows d row [] h))
-    go (no e) = rw (ne-eqb d i (omega (arith, e))) (ap (λ (l : List Float). getD l 0 nan) (getD-set-other rows d i row [] e))
+-- ---- columns of rows
+module _ {A B : Type 0} (f : A → B) where
+  pub map-set : (l : List A) (i : ℕ) (y : A) → map f (set l i y) ≡ set (map f l) i (f y)
+  map-set [] i y = refl
+  map-set (x ∷ xs) zero y = refl
+  map-set (x ∷ xs) (suc i) y = ap (λ (zs : List B). f x ∷ zs) (map-set xs i y)
 
--- what is held changes no cost
-pub hold-long : (chance : Float → Float) (rows : List (List Float)) (m d : ℕ) (last : Float) → length (holdFrom chance rows m d last) ≡ length rows
-unfolding holdFrom holdOn
-hold-long chance rows zero d last = refl
-hold-long chance rows (suc m) d last = hold-long chance (holdOn rows d (chance (sub binary32 (ofInt binary32 (pos d)) last))) m (d + 1) last ∙ length-set rows d _
+  pub map-at : (l : List A) (i : ℕ) (d : A) → getD (map f l) i (f d) ≡ f (getD l i d)
+  map-at [] i d = refl
+  map-at (x ∷ xs) zero d = refl
+  map-at (x ∷ xs) (suc i) d = map-at xs i d
 
-pub hold-cost : (chance : Float → Float) (rows : List (List Float)) (m d : ℕ) (last : Float) (i : ℕ) → costAt (holdFrom chance rows m d last) i ≡ costAt rows i
-unfolding holdFrom holdOn
-hold-cost chance rows zero d last i = refl
-hold-cost chance rows (suc m) d last i =
-    let x : Float = chance (sub binary32 (ofInt binary32 (pos d)) last) in
-    hold-cost chance (holdOn rows d x) m (d + 1) last i ∙ same-column rows d i 0 (costAt rows d ∷ add binary32 (heldAt rows d) x ∷ []) nan refl
+abbrev of0 : List Float → Float
+of0 row = getD row 0 nan
+
+abbrev of1 : List Float → Float
+of1 row = getD row 1 nan
+
+module _ (rows : List (List Float)) (d : ℕ) (x : Float) where
+  pub cost-is : costAt (costColumn rows) d ≡ getD (getD rows d []) 0 nan
+  cost-is = map-at of0 rows d []
+
+  pub pay-row : Summed (payOn (λ x y. add binary32 x y) (costColumn rows) d x) (heldColumn rows) (set rows d (add binary32 (getD (getD rows d []) 0 nan) x ∷ getD (getD rows d []) 1 nan ∷ []))
+  unfolding payOn
+  pay-row = record {
+    costs-are = map-set of0 rows d _ ∙ ap (λ (z : Float). set (costColumn rows) d (add binary32 z x)) (sym cost-is);
+    held-are = map-set-same of1 rows d _ [] refl;
+  }
+
+  pub hold-row : Summed (costColumn rows) (holdOn (heldColumn rows) d x) (set rows d (getD (getD rows d []) 0 nan ∷ add binary32 (getD (getD rows d []) 1 nan) x ∷ []))
+  unfolding holdOn
+  hold-row = record {
+    costs-are = map-set-same of0 rows d _ [] refl;
+    held-are = map-set of1 rows d _ ∙ ap (λ (z : Float). set (heldColumn rows) d (add binary32 z x)) (sym (map-at of1 rows d []));
+  }
+
+  pub pay-out : length rows ≤ d → Summed (payOn (λ x y. add binary32 x y) (costColumn rows) d x) (heldColumn rows) rows
+  unfolding payOn
+  pay-out h = record { costs-are = sym (set-out (costColumn rows) d _ (omega (arith, h, length-map rows of0))); held-are = refl }
+
+  pub hold-out : length rows ≤ d → Summed (costColumn rows) (holdOn (heldColumn rows) d x) rows
+  unfolding holdOn
+  hold-out h = record { costs-are = refl; held-are = sym (set-out (heldColumn rows) d _ (omega (arith, h, length-map rows of1))) }

@@ -30,7 +30,7 @@ introduce-end l l₀ d to from e h =
 
 -- what is left to hold equals the whole
 module _ (chance : Float → Float) (last : Float) where
-  pub hold-turn : (l l′ l₀ : List (List Float)) (d to from : ℕ) (t x : Float)
+  pub hold-turn : (l l′ l₀ : List Float) (d to from : ℕ) (t x : Float)
       → holdFrom chance l (to - d) d last ≡ holdFrom chance l₀ (to - from) from last
       → d < to
       → t ≡ ofInt binary32 (pos d)
@@ -42,7 +42,7 @@ module _ (chance : Float → Float) (last : Float) where
       let n : to - d ≡ suc (to - (d + 1)) = omega arith in
       rw (el, ex, et) (sym (ap (λ (m : ℕ). holdFrom chance l m d last) n) ∙ e)
 
-  pub hold-end : (l l₀ : List (List Float)) (d to from : ℕ)
+  pub hold-end : (l l₀ : List Float) (d to from : ℕ)
       → holdFrom chance l (to - d) d last ≡ holdFrom chance l₀ (to - from) from last
       → to ≤ d
       → l ≡ holdFrom chance l₀ (to - from) from last

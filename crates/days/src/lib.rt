@@ -4,9 +4,10 @@ ghost use mathlib.Core.Path.{_≡_};
 ghost use mathlib.Core.Bool.{cond};
 ghost use Prim.Native.Nat.{_+_, _-_, _/_};
 ghost use lib.ListN.{getD, set};
+ghost use lib.Ieee.{binary32, add};
 ghost use Rattle.days.specs.Counts.{raised, learnedAt, reviewedAt, learnOn, reviewOn, introduceOn, introduceFrom, countEvent};
 ghost use Rattle.model.specs.Kept.{retention};
-ghost use Rattle.days.specs.Sums.{costAt, payOn, holdOn, holdFrom};
+ghost use Rattle.days.specs.Sums.{Summed, costColumn, heldColumn, costAt, payOn, holdOn, holdFrom};
 ghost use Rattle.days.specs.Due.{raiseAt, addDue, moveDue, noneDue};
 
 pub fn raise(n: u32) -> u32
@@ -98,7 +99,7 @@ pub fn count_event(rows: &mut [[u32; 4]], span: u32, new: bool, d: u32, recalled
 }
 
 pub fn cost_at(rows: &[[f32; 2]], d: u32) -> f32
-    ensures { λ r. ⌜ r ≡ costAt (now (rows .entry)) d ⌝ }
+    ensures { λ r. ⌜ r ≡ costAt (costColumn (now (rows .entry))) d ⌝ }
 {
     let i = d as usize;
     if i < rows.len() {
@@ -109,7 +110,7 @@ pub fn cost_at(rows: &[[f32; 2]], d: u32) -> f32
 }
 
 pub fn pay_on(rows: &mut [[f32; 2]], d: u32, cost: f32)
-    ensures { λ _. ⌜ now (rows .exit) ≡ payOn (now (rows .entry)) d cost ⌝ }
+    ensures { λ _. ⌜ Summed (payOn (λ x y. add binary32 x y) (costColumn (now (rows .entry))) d cost) (heldColumn (now (rows .entry))) (now (rows .exit)) ⌝ }
 {
     let i = d as usize;
     if i < rows.len() {
@@ -119,7 +120,7 @@ pub fn pay_on(rows: &mut [[f32; 2]], d: u32, cost: f32)
 }
 
 fn hold_on(rows: &mut [[f32; 2]], d: u32, chance: f32)
-    ensures { λ _. ⌜ now (rows .exit) ≡ holdOn (now (rows .entry)) d chance ⌝ }
+    ensures { λ _. ⌜ Summed (costColumn (now (rows .entry))) (holdOn (heldColumn (now (rows .entry))) d chance) (now (rows .exit)) ⌝ }
 {
     let i = d as usize;
     if i < rows.len() {
@@ -130,7 +131,7 @@ fn hold_on(rows: &mut [[f32; 2]], d: u32, chance: f32)
 
 // A card's chance on each day from `from` up to `to`, that day left out.
 pub fn hold_from(rows: &mut [[f32; 2]], curve: Curve, from: u32, to: u32, last: f32)
-    ensures { λ _. ⌜ now (rows .exit) ≡ holdFrom (λ t. retention curve t) (now (rows .entry)) (to - from) from last ⌝ }
+    ensures { λ _. ⌜ Summed (costColumn (now (rows .entry))) (holdFrom (λ t. retention curve t) (heldColumn (now (rows .entry))) (to - from) from last) (now (rows .exit)) ⌝ }
 {
     let mut d = from;
     while d < to {

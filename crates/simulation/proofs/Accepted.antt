@@ -31,7 +31,7 @@ pub record Accepted (i : Inputs) (s : State) : Type 0 where
   pub counts-long : i .config .«deck_size» ≤ length (s .counts)
   pub queue-long : i .config .«deck_size» ≤ length (s .queue .rows)
   pub days-long : i .config .«learn_span» ≤ length (s .days)
-  pub sums-long : i .config .«learn_span» ≤ length (s .sums)
+  pub costs-long : i .config .«learn_span» ≤ length (s .costs)
   pub due-long : dueDays (i .config .«learn_span») ≤ length (s .due)
   pub existing-few : length (i .existing) ≤ i .config .«deck_size»
   pub cards-ok : (j : ℕ) → j < length (i .existing) → isKept (cardAt (i .existing) (i .existing-counts) j) ≡ true → cardOk (cardAt (i .existing) (i .existing-counts) j) ≡ true
@@ -67,7 +67,7 @@ accepted i s e =
     let p₃ = passes (eqb (g .«deck_size») 0 || ltb 65536 (g .«deck_size»)) _ _ (p₂ .1) in
     let p₄ = passes (eqb (g .«learn_span») 0 || ltb 36500 (g .«learn_span»)) _ _ (p₃ .1) in
     let p₅ = passes (not (configOk g && isFinite (i .retention))) _ _ (p₄ .1) in
-    let p₆ = passes (not (eqb n (length (i .existing-counts)) && (eqb (length (s .table .keys)) (length (s .table .intervals)) && (leb (g .«deck_size») (length (s .cards)) && (leb (g .«deck_size») (length (s .counts)) && (leb (g .«deck_size») (length (s .queue .rows)) && (leb (g .«learn_span») (length (s .days)) && (leb (g .«learn_span») (length (s .sums)) && leb (dueDays (g .«learn_span»)) (length (s .due)))))))))) _ _ (p₅ .1) in
+    let p₆ = passes (not (eqb n (length (i .existing-counts)) && (eqb (length (s .table .keys)) (length (s .table .intervals)) && (leb (g .«deck_size») (length (s .cards)) && (leb (g .«deck_size») (length (s .counts)) && (leb (g .«deck_size») (length (s .queue .rows)) && (leb (g .«learn_span») (length (s .days)) && (leb (g .«learn_span») (length (s .costs)) && leb (dueDays (g .«learn_span»)) (length (s .due)))))))))) _ _ (p₅ .1) in
     let p₇ = passes (ltb (g .«deck_size») n) _ _ (p₆ .1) in
     let p₈ = passes (ltb (firstWhere (notOk (i .existing) (i .existing-counts)) n 0) n) _ _ (p₇ .1) in
     let d = neither (eqb (g .«deck_size») 0) (ltb 65536 (g .«deck_size»)) (p₃ .0) in
@@ -79,7 +79,7 @@ accepted i s e =
     let l₄ = both (leb (g .«deck_size») (length (s .counts))) _ (l₃ .1) in
     let l₅ = both (leb (g .«deck_size») (length (s .queue .rows))) _ (l₄ .1) in
     let l₆ = both (leb (g .«learn_span») (length (s .days))) _ (l₅ .1) in
-    let l₇ = both (leb (g .«learn_span») (length (s .sums))) _ (l₆ .1) in
+    let l₇ = both (leb (g .«learn_span») (length (s .costs))) _ (l₆ .1) in
     let nd = eqb-false (g .«deck_size») 0 (d .0) in
     let nt = eqb-false (g .«learn_span») 0 (t .0) in
     record {
@@ -96,7 +96,7 @@ accepted i s e =
       counts-long = leb-true (g .«deck_size») (length (s .counts)) (l₄ .0);
       queue-long = leb-true (g .«deck_size») (length (s .queue .rows)) (l₅ .0);
       days-long = leb-true (g .«learn_span») (length (s .days)) (l₆ .0);
-      sums-long = leb-true (g .«learn_span») (length (s .sums)) (l₇ .0);
+      costs-long = leb-true (g .«learn_span») (length (s .costs)) (l₇ .0);
       due-long = leb-true (dueDays (g .«learn_span»)) (length (s .due)) (l₇ .1);
       existing-few = ltb-false (g .«deck_size») n (p₇ .0);
       cards-ok = λ j l k. kept-ok (isKept (cardAt (i .existing) (i .existing-counts) j)) (cardOk (cardAt (i .existing) (i .existing-counts) j))

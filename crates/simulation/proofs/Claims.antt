@@ -28,7 +28,7 @@ use Rattle.simulation.specs.declared.Progress.{Progress}
 use Rattle.simulation.specs.declared.Answer.{Answer}
 use Rattle.simulation.specs.declared.Answer.the-variants as answer
 use Rattle.simulation.specs.declared.Stop.{Stop}
-use Rattle.simulation.specs.State.{State, state}
+use Rattle.simulation.specs.State.{State, Lists, withDraws}
 use Rattle.simulation.specs.Rules.{Rules, rulesWith, rulesOf, costs}
 use Rattle.simulation.specs.Turn.{next}
 use Rattle.simulation.specs.Entry.{Inputs, inputs, checked}
@@ -128,16 +128,15 @@ not-finished r p f = let e = f .1 in let z : _≡_ {A = ℕ} 0 1 = cc in omega a
 
 module _ (i : Inputs) (s : State) where
   -- the entry's tests look neither at the seed nor at the draws
-  pub same-check : {c : Check}
-      → c ≡ checked (inputs (i .config) (i .parameters) (i .retention) 0 (i .existing) (i .existing-counts)) (state (s .cards) (s .counts) (s .queue .rows) (s .days) (s .sums) (s .due) (s .table .keys) (s .table .intervals) 0 0)
-      → c ≡ checked i s
+  pub same-check : {c : Check} → c ≡ checked (inputs (i .config) (i .parameters) (i .retention) 0 (i .existing) (i .existing-counts)) (withDraws 0 s) → c ≡ checked i s
   unfolding checked
   same-check e = e
 
   pub refused-is : (r : Refusal) → checked i s ≡ check.Failed r
-      → Done (simulated i s) (answer.Refused r (progress 0 0 (i .seed))) (s .cards) (s .counts) (s .queue .rows) (s .days) (s .sums) (s .due) (s .table .keys) (s .table .intervals)
+      → {c′ : List (List Float)} {n′ r′ d′ : List (List ℕ)} {u′ : List (List Float)} {v′ : List ℕ} {k′ : List (List ℕ)} {t′ : List Float} → Lists s c′ n′ r′ d′ u′ v′ k′ t′
+      → Done (simulated i s) (answer.Refused r (progress 0 0 (i .seed))) c′ n′ r′ d′ u′ v′ k′ t′
   unfolding simulatedBy
-  refused-is r e = rw e (record { answer = refl; lists = record { cards-are = refl; counts-are = refl; rows-are = refl; days-are = refl; sums-are = refl; due-are = refl; table-is = refl } })
+  refused-is r e l = rw e (record { answer = refl; lists = l })
 
   module _ (e : checked i s ≡ check.Passed) {r : Answer} {c′ : List (List Float)} {n′ r′ d′ : List (List ℕ)} {u′ : List (List Float)} {v′ : List ℕ} {k′ : List (List ℕ)} {t′ : List Float}
       (d : Done (finished (rulesOf (i .config) (kept (Kept.newOf (i .parameters)))) (setUp i s)) r c′ n′ r′ d′ u′ v′ k′ t′) where

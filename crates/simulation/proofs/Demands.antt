@@ -140,7 +140,8 @@ module _ (R : Rules) (i : Inputs) (s s′ : State) (fit : Suits R i) (e : checke
         counts-are = ap (λ (z : State). z .counts) all;
         queue-is = ap (λ (z : State). z .queue) all;
         days-are = ap (λ (z : State). z .days) all;
-        sums-are = ap (λ (z : State). z .sums) all;
+        costs-are = ap (λ (z : State). z .costs) all;
+        held-are = ap (λ (z : State). z .held) all;
         due-are = ap (λ (z : State). z .due) all;
         draws-are = draws;
       })

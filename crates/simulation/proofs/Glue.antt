@@ -18,7 +18,7 @@ use Rattle.cards.specs.Day.{dayOf, newOf}
 use Rattle.cards.specs.Cards.{cardAt}
 use Rattle.cards.specs.Choices.{choiceOf}
 use Rattle.days.specs.Counts.{learnedAt, reviewedAt}
-use Rattle.days.specs.Sums.{costAt}
+use Rattle.days.specs.Sums.{costColumn, costAt}
 use Rattle.days.specs.Due.{addDue, noneDue}
 use Rattle.events.proofs.Event as event-type
 use Rattle.events.specs.declared.Memory.{Memory}
@@ -74,7 +74,7 @@ module _ (R : Rules) (cards : List (List Float)) (counts rows days : List (List 
   st = state cards counts rows days sums due keys intervals len draws
 
   same : Lists st cards counts rows days sums due keys intervals
-  same = record { cards-are = refl; counts-are = refl; rows-are = refl; days-are = refl; sums-are = refl; due-are = refl; table-is = refl }
+  same = record { cards-are = refl; counts-are = refl; rows-are = refl; days-are = refl; costs-are = refl; held-are = refl; due-are = refl; table-is = refl }
 
   -- ---- an event
   module _ (c : ℕ) (k : Card) (new : Bool) (d : ℕ) where
@@ -112,7 +112,7 @@ module _ (R : Rules) (cards : List (List Float)) (counts rows days : List (List 
           (rw (kk, q′)
           (record {
             outcome = refl;
-            lists = record { cards-are = cw .cards-are; counts-are = cw .counts-are; rows-are = refl; days-are = dw .days-are; sums-are = dw .sums-are; due-are = du ∙ ap (addDue (R .span) due) ed; table-is = tw };
+            lists = record { cards-are = cw .cards-are; counts-are = cw .counts-are; rows-are = refl; days-are = dw .days-are; costs-are = dw .sums-are .costs-are; held-are = dw .sums-are .held-are; due-are = du ∙ ap (addDue (R .span) due) ed; table-is = tw };
           }))
 
   -- ---- the turn
@@ -121,7 +121,7 @@ module _ (R : Rules) (cards : List (List Float)) (counts rows days : List (List 
   ended-is e = rw (eq-eqb len 0 e) (record { outcome = refl; lists = same })
 
   module _ (ne : len ≢ 0) (c : ℕ) (k : Card) (d l r : ℕ) (x : Float) (ch : Choice) (ec : c ≡ front (queue rows len)) (ek : k ≡ cardAt cards counts c) (ed : d ≡ dayOf (k .due))
-      (el : l ≡ learnedAt days d) (er : r ≡ reviewedAt days d) (ex : x ≡ costAt sums d) (eh : ch ≡ choiceOf (R .span) (R .lapse-limit) (R .limits) d k l r x) where
+      (el : l ≡ learnedAt days d) (er : r ≡ reviewedAt days d) (ex : x ≡ costAt (costColumn sums) d) (eh : ch ≡ choiceOf (R .span) (R .lapse-limit) (R .limits) d k l r x) where
     next-is : next R st ≡ act R st c k d ch
     unfolding next
     next-is = rw (ne-eqb len 0 ne, ← ec, ← ek, ← ed, ← el, ← er, ← ex, ← eh)
@@ -131,7 +131,7 @@ module _ (R : Rules) (cards : List (List Float)) (counts rows days : List (List 
     unfolding retired
     retired-is o sums′ rows′ e p =
         rw (next-is ∙ ap (act R st c k d) e)
-        (record { outcome = p .outcome; lists = record { cards-are = refl; counts-are = refl; rows-are = p .rows-are; days-are = refl; sums-are = p .sums-are; due-are = refl; table-is = refl } })
+        (record { outcome = p .outcome; lists = record { cards-are = refl; counts-are = refl; rows-are = p .rows-are; days-are = refl; costs-are = p .sums-are .costs-are; held-are = p .sums-are .held-are; due-are = refl; table-is = refl } })
 
     pub put-off-is : (o : Outcome) (cards′ : List (List Float)) (rows′ : List (List ℕ)) (due′ : List ℕ) → ch ≡ choice.PutOff → PutOffStep (R .span) c k d len draws cards rows due o cards′ rows′ due′
         → Turned (next R st) st o cards′ counts rows′ days sums due′ keys intervals
@@ -142,11 +142,11 @@ module _ (R : Rules) (cards : List (List Float)) (counts rows days : List (List 
             → Turned (orElse b (refuses (refusal.DueCount c)) (takes (turnAs c d putOff) (postponed R st c k d))) st o cards′ counts rows′ days sums due′ keys intervals
         go true y =
             let h = p .refused y in
-            record { outcome = h .0; lists = record { cards-are = h .1 .cards-are; counts-are = refl; rows-are = h .1 .rows-are; days-are = refl; sums-are = refl; due-are = h .1 .due-are; table-is = refl } }
+            record { outcome = h .0; lists = record { cards-are = h .1 .cards-are; counts-are = refl; rows-are = h .1 .rows-are; days-are = refl; costs-are = refl; held-are = refl; due-are = h .1 .due-are; table-is = refl } }
         go false y =
             let h = p .done y in
             rw (sym (h .1 .queue-is))
-            (record { outcome = h .0; lists = record { cards-are = h .1 .cards-are; counts-are = refl; rows-are = refl; days-are = refl; sums-are = refl; due-are = h .1 .due-are; table-is = refl } })
+            (record { outcome = h .0; lists = record { cards-are = h .1 .cards-are; counts-are = refl; rows-are = refl; days-are = refl; costs-are = refl; held-are = refl; due-are = h .1 .due-are; table-is = refl } })
 
     pub event-is : (new : Bool) (o : Outcome) (cards′ : List (List Float)) (counts′ rows′ days′ : List (List ℕ)) (sums′ : List (List Float)) (due′ : List ℕ) (keys′ : List (List ℕ)) (intervals′ : List Float)
         → act R st c k d ch ≡ handle R st c k new d

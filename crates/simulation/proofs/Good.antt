@@ -20,8 +20,6 @@ use Rattle.cards.specs.Day.{dayOf, newOf, nextDue}
 use Rattle.cards.specs.Cards.{noFloats, cardAt, floatsOf, writeFloats}
 use Rattle.cards.specs.Choices.{retires}
 use Rattle.cards.proofs.Later.{day-later, day-in-span, day-bound, Fair, one-fair}
-use Rattle.days.specs.Sums.{costAt, holdFrom}
-use Rattle.days.proofs.Laws.{hold-long, hold-cost}
 use Rattle.queue.specs.Key as key
 use Rattle.queue.specs.Key.{cardPriority, priorityOf}
 use Rattle.queue.specs.Queue.{front}
@@ -30,8 +28,7 @@ use Rattle.queue.proofs.Keys.{packed-day, priority-in}
 use Rattle.queue.proofs.Laws.{change-queued, pop-other, pop-front, front-queued, keyed-least, queued-named, requeue, unqueue}
 use Rattle.intervals.specs.Table.{places, freeAt, valueAt}
 use Rattle.simulation.specs.State.{State, cardIn, keyOf}
-use Rattle.simulation.specs.Turn.{putOffCard, holdCard, postponed, retired, turnAs}
-use Rattle.simulation.specs.Model.{Model}
+use Rattle.simulation.specs.Turn.{putOffCard, postponed, retired, turnAs}
 use Rattle.simulation.specs.Rules.{Rules, costs}
 use Rattle.simulation.proofs.Views.{difficultyIn, dayIn, newIn, keyIn, view, columns}
 
@@ -47,7 +44,7 @@ pub record Good (cards span : ℕ) (s : State) : Type 0 where
   pub cards-long : cards ≤ length (s .cards)
   pub counts-long : cards ≤ length (s .counts)
   pub days-long : span ≤ length (s .days)
-  pub sums-long : span ≤ length (s .sums)
+  pub costs-long : span ≤ length (s .costs)
   pub keyed : Keyed cards (keyIn (s .cards)) (s .queue)
   pub near : (c : ℕ) → c < cards → dayIn (s .cards) c < 2147483648
   pub held : (p : ℕ) → p < places (s .table) → freeAt (s .table) p ≡ false → Fair (valueAt (s .table) p)
@@ -100,29 +97,6 @@ module _ (cards : List (List Float)) (c : ℕ) (k : Card) where
 
   pub own-key : c < length cards → keyIn (writeFloats cards c k) c ≡ keyOf k
   own-key h = rw (write-own h)
-
--- ---- held sums write no cost
-pub hold-card-long : (m : Model) (rows : List (List Float)) (k : Card) (e : ℕ) → length (holdCard m rows k e) ≡ length rows
-unfolding holdCard
-hold-card-long m rows k e = go (newOf (k .«last_date»))
-  where
-    from : ℕ
-    from = toUnsigned 32 (k .«last_date»)
-
-    go : (b : Bool) → length (cond b rows (holdFrom (λ t. m .chance t (k .stability)) rows (e - from) from (k .«last_date»))) ≡ length rows
-    go true = refl
-    go false = hold-long (λ t. m .chance t (k .stability)) rows (e - from) from (k .«last_date»)
-
-pub hold-card-cost : (m : Model) (rows : List (List Float)) (k : Card) (e i : ℕ) → costAt (holdCard m rows k e) i ≡ costAt rows i
-unfolding holdCard
-hold-card-cost m rows k e i = go (newOf (k .«last_date»))
-  where
-    from : ℕ
-    from = toUnsigned 32 (k .«last_date»)
-
-    go : (b : Bool) → costAt (cond b rows (holdFrom (λ t. m .chance t (k .stability)) rows (e - from) from (k .«last_date»))) i ≡ costAt rows i
-    go true = refl
-    go false = hold-cost (λ t. m .chance t (k .stability)) rows (e - from) from (k .«last_date») i
 
 or-left : (a b : Bool) → (a || b) ≡ false → a ≡ false
 or-left true b e = e
@@ -207,7 +181,7 @@ module _ (R : Rules) (cards : ℕ) (fine : Fine (R .span) cards) (ts : List (Tur
     cards-long = omega (arith, good .cards-long, write-long fs c k′);
     counts-long = good .counts-long;
     days-long = good .days-long;
-    sums-long = good .sums-long;
+    costs-long = good .costs-long;
     keyed = requeue cards (keyIn fs) (s .queue) (good .keyed) (keyIn fs′) (keyOf k′) some (else-key fs c k′) (sym (own-key fs c k′ has-row));
     near = λ x l. at x l (ℕ-discrete x c);
     held = good .held;
@@ -240,7 +214,7 @@ module _ (R : Rules) (cards : ℕ) (fine : Fine (R .span) cards) (ts : List (Tur
       others = λ x ne. record { same-day = refl; same-new = refl; same-queued = pop-other (s .queue) (good .keyed .sound) x ne };
     };
     least = first-is;
-    writes = record { learns = λ i l. omega arith; reviews = λ i l. omega arith; corrects = λ i l. omega arith; introduces = λ i l. omega arith; lapse = omega arith; other-lapses = λ x ne. refl; pays = λ i l. hold-card-cost (R .model) (s .sums) k (R .span) i };
+    writes = record { learns = λ i l. omega arith; reviews = λ i l. omega arith; corrects = λ i l. omega arith; introduces = λ i l. omega arith; lapse = omega arith; other-lapses = λ x ne. refl; pays = λ i l. refl };
     tests = tt;
   }
 
@@ -250,7 +224,7 @@ module _ (R : Rules) (cards : ℕ) (fine : Fine (R .span) cards) (ts : List (Tur
     cards-long = good .cards-long;
     counts-long = good .counts-long;
     days-long = good .days-long;
-    sums-long = omega (arith, good .sums-long, hold-card-long (R .model) (s .sums) k (R .span));
+    costs-long = good .costs-long;
     keyed = unqueue cards (keyIn fs) (s .queue) (good .keyed);
     near = good .near;
     held = good .held;

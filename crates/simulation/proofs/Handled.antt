@@ -35,10 +35,10 @@ use Rattle.intervals.specs.Table.{Table, places, freeAt, valueAt}
 use Rattle.intervals.specs.Schedule.{intervalOf, entered}
 use Rattle.intervals.proofs.Change.{enter-places, value-same, value-other, free-other}
 use Rattle.simulation.specs.State.{State, cardIn, keyOf}
-use Rattle.simulation.specs.Turn.{eventCard, holdCard, handled, turnAs}
+use Rattle.simulation.specs.Turn.{eventCard, handled, turnAs}
 use Rattle.simulation.specs.Rules.{Rules, costs}
 use Rattle.simulation.proofs.Views.{dayIn, newIn, keyIn, lapsesIn, view, columns}
-use Rattle.simulation.proofs.Good.{Fine, Good, write-long, else-key, else-day, else-new, own-day, own-new, own-key, hold-card-long, hold-card-cost, is-card, has-row, first-is}
+use Rattle.simulation.proofs.Good.{Fine, Good, write-long, else-key, else-day, else-new, own-day, own-new, own-key, is-card, has-row, first-is}
 
 -- a whole number is no minus infinity
 new-of : (x : Float) (n : ℕ) → HasValue x false n 1 → newOf x ≡ false
@@ -129,14 +129,8 @@ module _ (R : Rules) (cards : ℕ) (fine : Fine (R .span) cards) (ts : List (Tur
       at (yes q) = let b = day-bound d (intervalOf t) (omega (arith, h, fine .most)) fair in rw q (rw due-day (omega arith))
       at (no q) = omega (arith, else-day fs c k′ i q, good .near i l)
 
-  abbrev sums′ : List (List Float)
-  sums′ = holdCard (R .model) (payOn (s .sums) d (x .cost)) k d
-
-  pays : (i : ℕ) → i < R .span → costAt sums′ i ≡ cond (eqb d i) (add binary32 (costAt (s .sums) i) (x .cost)) (costAt (s .sums) i)
-  pays i l = hold-card-cost (R .model) (payOn (s .sums) d (x .cost)) k d i ∙ pay-cost (s .sums) d i (x .cost) (omega (arith, h, good .sums-long))
-
-  sums-kept : length sums′ ≡ length (s .sums)
-  sums-kept = hold-card-long (R .model) (payOn (s .sums) d (x .cost)) k d ∙ pay-long (s .sums) d (x .cost)
+  pays : (i : ℕ) → i < R .span → costAt (payOn (λ x y. add binary32 x y) (s .costs) d (x .cost)) i ≡ cond (eqb d i) (add binary32 (costAt (s .costs) i) (x .cost)) (costAt (s .costs) i)
+  pays i l = pay-cost (λ x y. add binary32 x y) (s .costs) d i (x .cost) (omega (arith, h, good .costs-long))
 
   lapses-now : lapsesIn (writeCounts (s .counts) c k′) c ≡ k′ .lapses
   lapses-now = own-lapses (s .counts) c k′ (omega (arith, mine, good .counts-long))
@@ -169,7 +163,7 @@ module _ (R : Rules) (cards : ℕ) (fine : Fine (R .span) cards) (ts : List (Tur
 
   -- ---- A LEARNING
   module _ (en : newIn fs c ≡ true) (is : new ≡ true) (l-ok : learnedAt rows d < R .limits .learns d) (b-ok : R .limits .counted d ≡ true → learnedAt rows d + reviewedAt rows d < R .limits .reviews d)
-      (c-ok : R .limits .over d (costAt (s .sums) d) ≡ false) where
+      (c-ok : R .limits .over d (costAt (s .costs) d) ≡ false) where
     abbrev rows′ : List (List ℕ)
     rows′ = introduceFrom (learnOn rows d) (R .span - d) d
 
@@ -223,7 +217,7 @@ module _ (R : Rules) (cards : ℕ) (fine : Fine (R .span) cards) (ts : List (Tur
       cards-long = omega (arith, good .cards-long, write-long fs c k′);
       counts-long = omega (arith, good .counts-long, counts-long (s .counts) c k′);
       days-long = omega (arith, good .days-long, from-long (learnOn rows d) (R .span - d) d, learn-long rows d);
-      sums-long = omega (arith, good .sums-long, sums-kept);
+      costs-long = omega (arith, good .costs-long, pay-long (λ x y. add binary32 x y) (s .costs) d (x .cost));
       keyed = keyed′;
       near = near′;
       held = fair-entered (s .table) t fair (good .held);
@@ -234,7 +228,7 @@ module _ (R : Rules) (cards : ℕ) (fine : Fine (R .span) cards) (ts : List (Tur
     })
 
   -- ---- A REVIEW
-  module _ (en : newIn fs c ≡ false) (is : new ≡ false) (r-ok : reviewedAt rows d < R .limits .reviews d) (c-ok : R .limits .over d (costAt (s .sums) d) ≡ false) where
+  module _ (en : newIn fs c ≡ false) (is : new ≡ false) (r-ok : reviewedAt rows d < R .limits .reviews d) (c-ok : R .limits .over d (costAt (s .costs) d) ≡ false) where
     abbrev rows″ : List (List ℕ)
     rows″ = reviewOn rows d (x .recalled)
 
@@ -291,7 +285,7 @@ module _ (R : Rules) (cards : ℕ) (fine : Fine (R .span) cards) (ts : List (Tur
       cards-long = omega (arith, good .cards-long, write-long fs c k′);
       counts-long = omega (arith, good .counts-long, counts-long (s .counts) c k′);
       days-long = omega (arith, good .days-long, review-long rows d (x .recalled));
-      sums-long = omega (arith, good .sums-long, sums-kept);
+      costs-long = omega (arith, good .costs-long, pay-long (λ x y. add binary32 x y) (s .costs) d (x .cost));
       keyed = keyed′;
       near = near′;
       held = fair-entered (s .table) t fair (good .held);

@@ -31,7 +31,7 @@ use Rattle.queue.proofs.Laws.{Filled, fill-none, fill-same, fill-next}
 use Rattle.intervals.specs.Table.{Table, places, freeAt, clearIn}
 use Rattle.simulation.specs.State.{State}
 use Rattle.simulation.specs.Entry.{Inputs}
-use Rattle.simulation.specs.SetUp.{Deck, filled, newCard, joined, retained, retainCard, retain, known, create, newCards, emptied, dealt, firstCounts, firstSums, setUp}
+use Rattle.simulation.specs.SetUp.{Deck, filled, newCard, joined, retained, retainCard, retain, known, create, newCards, emptied, dealt, firstCounts, setUp}
 use Rattle.simulation.specs.Rules.{costs}
 use Rattle.simulation.proofs.Views.{dayIn, newIn, keyIn, lapsesIn, columns}
 use Rattle.simulation.proofs.Good.{Good, write-long, else-key, else-day, else-new, own-day, own-new, own-key}
@@ -263,8 +263,8 @@ module _ (i : Inputs) (s : State) (ok : Accepted i s) where
   row-at : (d : ℕ) → d < span → getD (filled (firstCounts i) span (s .days)) d [] ≡ firstCounts i
   row-at d h = filled-at (firstCounts i) [] span (s .days) d h (ok .days-long)
 
-  sums-at : (d : ℕ) → d < span → getD (filled firstSums span (s .sums)) d [] ≡ firstSums
-  sums-at d h = filled-at firstSums [] span (s .sums) d h (ok .sums-long)
+  costs-at : (d : ℕ) → d < span → getD (filled (ofBits binary32 0) span (s .costs)) d nan ≡ ofBits binary32 0
+  costs-at d h = filled-at (ofBits binary32 0) nan span (s .costs) d h (ok .costs-long)
 
   -- every place of the emptied table is free
   all-free : (t : Table) (p : ℕ) → p < places (clearIn t) → freeAt (clearIn t) p ≡ true
@@ -285,7 +285,7 @@ module _ (i : Inputs) (s : State) (ok : Accepted i s) where
     reviewed-none = λ d h. ap (λ (l : List ℕ). getD l 1 0) (row-at d h);
     correct-none = λ d h. ap (λ (l : List ℕ). getD l 2 0) (row-at d h);
     introduced-known = λ d h. ap (λ (l : List ℕ). getD l 3 0) (row-at d h);
-    cost-none = λ d h. ap (λ (l : List Float). getD l 0 nan) (sums-at d h);
+    cost-none = costs-at;
   }
 
   pub set-up-good : Good (setUp i s .queue .len) span (setUp i s)
@@ -296,7 +296,7 @@ module _ (i : Inputs) (s : State) (ok : Accepted i s) where
         cards-long = omega (arith, len-is, all-joined .few, j .cards-are, ok .cards-long);
         counts-long = omega (arith, len-is, all-joined .few, j .counts-are, ok .counts-long);
         days-long = omega (arith, ok .days-long, filled-long (firstCounts i) span (s .days));
-        sums-long = omega (arith, ok .sums-long, filled-long firstSums span (s .sums));
+        costs-long = omega (arith, ok .costs-long, filled-long (ofBits binary32 0) span (s .costs));
         keyed = subst (λ (z : ℕ). Keyed z (keyIn (s₁ .cards)) (s₁ .queue)) (sym len-is) (j .fill .keyed);
         near = λ c l. j .near c (omega (arith, l, len-is));
         held = λ p l e. absurd (true≢false (sym (all-free (s .table) p l) ∙ e));

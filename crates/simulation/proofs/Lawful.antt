@@ -78,7 +78,7 @@ module _ (R : Rules) (cards : ℕ) (fine : Fine (R .span) cards) (laws : Slots (
     r = reviewedAt (s .days) d
 
     abbrev x : Float
-    x = costAt (s .sums) d
+    x = costAt (s .costs) d
 
     -- an event that is not refused is a step, where it is one with any interval that is given
     law-slot : (new : Bool) (y : Memory) (t : Slot) → (isFull t ≡ false → Fair (intervalOf t))

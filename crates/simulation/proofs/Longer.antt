@@ -109,7 +109,7 @@ module _ (R : Rules) (laws : Slots (R .model)) where
 
         go : (b : Bool) → Follow (orElse b (stops stop.Ended) (turnOf R s c k d)) (orElse b (stops stop.Ended) (turnOf R s′ c k d))
         go true = λ z. refl
-        go false = act-follows c k d (choiceOf (R .span) (R .lapse-limit) (R .limits) d k (learnedAt (s .days) d) (reviewedAt (s .days) d) (costAt (s .sums) d))
+        go false = act-follows c k d (choiceOf (R .span) (R .lapse-limit) (R .limits) d k (learnedAt (s .days) d) (reviewedAt (s .days) d) (costAt (s .costs) d))
 
   follows : (s s′ : State) → Alike s s′ → Follow (next R s) (next R s′)
   follows s s′ a = rw (a .same) (turn-follows s (s′ .table) (a .twin))

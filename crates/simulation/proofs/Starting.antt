@@ -1,19 +1,20 @@
 -- From the entry to the answer: what the entry's tests, the set-up's calls and the loop leave, put together over plain lists.
 use mathlib.Core.Path.{_≡_, refl, sym, ap, _∙_, subst}
 use mathlib.Core.Bool.{Bool, true, false}
-use mathlib.Core.List.{List, [], _∷_}
+use mathlib.Core.List.{List, [], _∷_, map}
 use Prim.Native.Nat.{ℕ, zero, suc, _+_, _*_, _≤_}
 use native.Mathlib.Nat.{mul-le-mul}
 use native.Mathlib.Omega.{arith}
 use types.Run.{OneOf}
 use denote.Enum.Declared.{tagOf}
 use lib.Dec.{ltb}
-use lib.ListN.{length, replicate}
-use lib.Ieee.{Float, ofBits, binary32}
+use lib.ListN.{length, getD, set, replicate}
+use lib.Ieee.{Float, nan, ofBits, binary32}
 use Rattle.turns.specs.Run.{run, stopOf}
 use Rattle.cards.specs.declared.SimulatorConfig.{SimulatorConfig}
 use Rattle.days.specs.Counts.{dayRow}
 use Rattle.days.specs.Due.{dueDays}
+use Rattle.days.proofs.Laws.{map-set}
 use Rattle.simulation.proofs.Check as check-type
 use Rattle.simulation.specs.declared.Refusal.{Refusal}
 use Rattle.simulation.specs.declared.Refusal.the-variants as refusal
@@ -66,6 +67,12 @@ unfolding create joined withDue
 create-due retention limit zero s due = refl
 create-due retention limit (suc n) s due = rw (create-due retention limit n s due)
 
+-- ---- columns of filled rows are filled
+filled-column : (f : List Float → Float) (x : List Float) (n : ℕ) (l : List (List Float)) → map f (filled x n l) ≡ filled (f x) n (map f l)
+unfolding filled
+filled-column f x zero l = refl
+filled-column f x (suc n) l = map-set f (filled x n l) n x ∙ ap (λ (z : List Float). set z n (f x)) (filled-column f x n l)
+
 -- ---- the state that set-up leaves
 module _ (g : SimulatorConfig) (w : List Float) (retention : Float) (seed : ℕ) (es : List (List Float)) (ns : List (List ℕ))
     (cards : List (List Float)) (counts rows days : List (List ℕ)) (sums : List (List Float)) (due : List ℕ) (keys : List (List ℕ)) (intervals : List Float)
@@ -94,7 +101,7 @@ module _ (g : SimulatorConfig) (w : List Float) (retention : Float) (seed : ℕ)
 
   pub set-up-is : state c₄ n₄ r₄ days′ sums′ due₂ keys intervals′ len seed ≡ setUp i s
   unfolding setUp
-  set-up-is = rw (← dealt-is, e₅, ek, en, e₆, e₇)
+  set-up-is = rw (← dealt-is, e₅, ek, en, e₆, filled-column (λ (row : List Float). getD row 0 nan) firstSums (g .«learn_span») sums, filled-column (λ (row : List Float). getD row 1 nan) firstSums (g .«learn_span») sums, e₇)
 
 -- ---- the answer of a run from that state
 module _ (i : Inputs) (s : State) {s₁ : State} (up : s₁ ≡ setUp i s) where

@@ -81,7 +81,7 @@ module _ (R : Rules) (laws : Slots (R .model)) where
 
         go : (b : Bool) → After (orElse b (stops stop.Ended) (turnOf R s c k d))
         go true = tt
-        go false = act-after c k d (choiceOf (R .span) (R .lapse-limit) (R .limits) d k (learnedAt (s .days) d) (reviewedAt (s .days) d) (costAt (s .sums) d))
+        go false = act-after c k d (choiceOf (R .span) (R .lapse-limit) (R .limits) d k (learnedAt (s .days) d) (reviewedAt (s .days) d) (costAt (s .costs) d))
 
   -- after any number of turns
   pub run-sound : (n : ℕ) (ts : List (Turn Float)) (s : State) → Sound (s .table) → Sound ((run (next R) n ts s) .state .table)

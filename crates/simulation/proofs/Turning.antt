@@ -24,13 +24,13 @@ use Rattle.simulation.specs.Steps.{stopIn, Turned, Ran}
 -- the lists of a state, and the state of lists
 pub state-is : (s : State) (cards : List (List Float)) (counts rows days : List (List ℕ)) (sums : List (List Float)) (due : List ℕ) (keys : List (List ℕ)) (intervals : List Float) (n r : ℕ)
     → Lists s cards counts rows days sums due keys intervals → n ≡ s .queue .len → r ≡ s .draws → state cards counts rows days sums due keys intervals n r ≡ s
-state-is s cards counts rows days sums due keys intervals n r l en er = rw (l .cards-are, l .counts-are, l .rows-are, l .days-are, l .sums-are, l .due-are, l .table-is, en, er)
+state-is s cards counts rows days sums due keys intervals n r l en er = rw (l .cards-are, l .counts-are, l .rows-are, l .days-are, l .costs-are, l .held-are, l .due-are, l .table-is, en, er)
 
 pub lists-of : (s : State) (cards : List (List Float)) (counts rows days : List (List ℕ)) (sums : List (List Float)) (due : List ℕ) (keys : List (List ℕ)) (intervals : List Float) (n r : ℕ)
     → state cards counts rows days sums due keys intervals n r ≡ s → Lists s cards counts rows days sums due keys intervals
 lists-of s cards counts rows days sums due keys intervals n r e =
     subst (λ (z : State). Lists z cards counts rows days sums due keys intervals) e
-    (record { cards-are = refl; counts-are = refl; rows-are = refl; days-are = refl; sums-are = refl; due-are = refl; table-is = refl })
+    (record { cards-are = refl; counts-are = refl; rows-are = refl; days-are = refl; costs-are = refl; held-are = refl; due-are = refl; table-is = refl })
 
 -- a stop is no turn taken
 stop-took : (x : Stop) (n r : ℕ) → outcome.Stopped x ≡ outcome.Took n r → ⊥

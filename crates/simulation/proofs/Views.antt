@@ -46,5 +46,5 @@ columns = record {
   correct = λ s d. correctAt (s .days) d;
   introduced = λ s d. introducedAt (s .days) d;
   lapses = λ s c. lapsesIn (s .counts) c;
-  cost = λ s d. costAt (s .sums) d;
+  cost = λ s d. costAt (s .costs) d;
 }

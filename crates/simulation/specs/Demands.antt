@@ -52,6 +52,7 @@ pub record SameRun (r r′ : Result) : Type 0 where
   pub counts-are : r′ .state .counts ≡ r .state .counts
   pub queue-is : r′ .state .queue ≡ r .state .queue
   pub days-are : r′ .state .days ≡ r .state .days
-  pub sums-are : r′ .state .sums ≡ r .state .sums
+  pub costs-are : r′ .state .costs ≡ r .state .costs
+  pub held-are : r′ .state .held ≡ r .state .held
   pub due-are : r′ .state .due ≡ r .state .due
   pub draws-are : r′ .state .draws ≡ r .state .draws

@@ -66,7 +66,7 @@ lengthsOk deck span existing existing-counts keys intervals cards counts queue d
 abbrev pub listsOk : Inputs → State → Bool
 listsOk i s =
     lengthsOk (i .config .«deck_size») (i .config .«learn_span») (length (i .existing)) (length (i .existing-counts)) (length (s .table .keys)) (length (s .table .intervals))
-    (length (s .cards)) (length (s .counts)) (length (s .queue .rows)) (length (s .days)) (length (s .sums)) (length (s .due))
+    (length (s .cards)) (length (s .counts)) (length (s .queue .rows)) (length (s .days)) (length (s .costs)) (length (s .due))
 
 -- 5: each kept one of the first n existing cards
 unfoldable pub checkFirst : List (List Float) → List (List ℕ) → ℕ → Check

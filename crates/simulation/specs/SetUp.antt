@@ -107,6 +107,7 @@ dealt i s =
 abbrev pub firstCounts : Inputs → List ℕ
 firstCounts i = 0 ∷ 0 ∷ 0 ∷ known (i .existing) (i .existing-counts) (length (i .existing)) ∷ []
 
+-- and a lent row of sums
 abbrev pub firstSums : List Float
 firstSums = ofBits binary32 0 ∷ ofBits binary32 0 ∷ []
 
@@ -119,7 +120,8 @@ setUp i s =
       counts = deck .counts;
       queue = deck .queue;
       days = filled (firstCounts i) (i .config .«learn_span») (s .days);
-      sums = filled firstSums (i .config .«learn_span») (s .sums);
+      costs = filled (ofBits binary32 0) (i .config .«learn_span») (s .costs);
+      held = filled (ofBits binary32 0) (i .config .«learn_span») (s .held);
       due = deck .due;
       table = clearIn (s .table);
       draws = i .seed;

@@ -6,6 +6,7 @@ use lib.Ieee.{Float}
 use Rattle.cards.specs.declared.Card.{Card}
 use Rattle.cards.specs.Day.{dayOf, newOf}
 use Rattle.cards.specs.Cards.{cardAt}
+use Rattle.days.specs.Sums.{costColumn, heldColumn}
 use Rattle.queue.specs.Key.{cardPriority}
 use Rattle.queue.specs.Queue.{Queue, queue}
 use Rattle.intervals.specs.Table.{Table, table}
@@ -15,7 +16,8 @@ pub record State : Type 0 where
   pub counts : List (List ℕ)
   pub queue : Queue
   pub days : List (List ℕ)
-  pub sums : List (List Float)
+  pub costs : List Float  -- of each day
+  pub held : List Float  -- on each day
   pub due : List ℕ
   pub table : Table
   pub draws : ℕ
@@ -34,7 +36,8 @@ state cards counts rows days sums due keys intervals len draws = record {
   counts = counts;
   queue = queue rows len;
   days = days;
-  sums = sums;
+  costs = costColumn sums;
+  held = heldColumn sums;
   due = due;
   table = table keys intervals;
   draws = draws;
@@ -46,23 +49,27 @@ pub record Lists (s : State) (cards : List (List Float)) (counts rows days : Lis
   pub counts-are : counts ≡ s .counts
   pub rows-are : rows ≡ s .queue .rows
   pub days-are : days ≡ s .days
-  pub sums-are : sums ≡ s .sums
+  pub costs-are : costColumn sums ≡ s .costs
+  pub held-are : heldColumn sums ≡ s .held
   pub due-are : due ≡ s .due
   pub table-is : table keys intervals ≡ s .table
 
 -- the same state with another interval table
 abbrev pub withTable : State → Table → State
-withTable s t = record { cards = s .cards; counts = s .counts; queue = s .queue; days = s .days; sums = s .sums; due = s .due; table = t; draws = s .draws }
+withTable s t = record { cards = s .cards; counts = s .counts; queue = s .queue; days = s .days; costs = s .costs; held = s .held; due = s .due; table = t; draws = s .draws }
 
 -- a state with one part written anew, the others as they are
 abbrev pub withCards : List (List Float) → State → State
-withCards x s = record { cards = x; counts = s .counts; queue = s .queue; days = s .days; sums = s .sums; due = s .due; table = s .table; draws = s .draws }
+withCards x s = record { cards = x; counts = s .counts; queue = s .queue; days = s .days; costs = s .costs; held = s .held; due = s .due; table = s .table; draws = s .draws }
 
 abbrev pub withQueue : Queue → State → State
-withQueue x s = record { cards = s .cards; counts = s .counts; queue = x; days = s .days; sums = s .sums; due = s .due; table = s .table; draws = s .draws }
+withQueue x s = record { cards = s .cards; counts = s .counts; queue = x; days = s .days; costs = s .costs; held = s .held; due = s .due; table = s .table; draws = s .draws }
 
-abbrev pub withSums : List (List Float) → State → State
-withSums x s = record { cards = s .cards; counts = s .counts; queue = s .queue; days = s .days; sums = x; due = s .due; table = s .table; draws = s .draws }
+abbrev pub withHeld : List Float → State → State
+withHeld x s = record { cards = s .cards; counts = s .counts; queue = s .queue; days = s .days; costs = s .costs; held = x; due = s .due; table = s .table; draws = s .draws }
 
 abbrev pub withDue : List ℕ → State → State
-withDue x s = record { cards = s .cards; counts = s .counts; queue = s .queue; days = s .days; sums = s .sums; due = x; table = s .table; draws = s .draws }
+withDue x s = record { cards = s .cards; counts = s .counts; queue = s .queue; days = s .days; costs = s .costs; held = s .held; due = x; table = s .table; draws = s .draws }
+
+abbrev pub withDraws : ℕ → State → State
+withDraws x s = record { cards = s .cards; counts = s .counts; queue = s .queue; days = s .days; costs = s .costs; held = s .held; due = s .due; table = s .table; draws = x }

@@ -4,14 +4,14 @@ use mathlib.Core.Bool.{Bool, true, false}
 use mathlib.Core.List.{List, []}
 use mathlib.Core.Path.{_≡_}
 use lib.ListN.{length}
-use lib.Ieee.{Float}
+use lib.Ieee.{Float, binary32, add}
 use Rattle.turns.specs.Turns.{Turn}
 use Rattle.turns.specs.Run.{Next, takes, stops, run, stopOf}
 use Rattle.cards.specs.declared.Card.{Card}
 use Rattle.cards.specs.Day.{newOf}
 use Rattle.cards.specs.Cards.{writeFloats, writeCounts}
 use Rattle.days.specs.Counts.{countEvent}
-use Rattle.days.specs.Sums.{payOn}
+use Rattle.days.specs.Sums.{Summed, costColumn, heldColumn, payOn}
 use Rattle.days.specs.Due.{moveDue, noneDue}
 use Rattle.events.specs.declared.Memory.{Memory}
 use Rattle.queue.specs.Queue.{queue, frontChanged, popped, pushed}
@@ -63,12 +63,12 @@ pub record PutOffStep (span c : ℕ) (k : Card) (d len draws : ℕ) (cards : Lis
 
 pub record RetireStep (R : Rules) (k : Card) (len draws : ℕ) (sums : List (List Float)) (rows : List (List ℕ)) (r : Outcome) (sums′ : List (List Float)) (rows′ : List (List ℕ)) : Type 0 where
   pub outcome : r ≡ outcome.Took (popped (queue rows len) .len) draws
-  pub sums-are : sums′ ≡ holdCard (R .model) sums k (R .span)
+  pub sums-are : Summed (costColumn sums) (holdCard (R .model) (heldColumn sums) k (R .span)) sums′
   pub rows-are : rows′ ≡ popped (queue rows len) .rows
 
 pub record DaysWritten (R : Rules) (k : Card) (new : Bool) (d : ℕ) (x : Memory) (days : List (List ℕ)) (sums : List (List Float)) (days′ : List (List ℕ)) (sums′ : List (List Float)) : Type 0 where
   pub days-are : days′ ≡ countEvent (R .span) days new d (x .recalled)
-  pub sums-are : sums′ ≡ holdCard (R .model) (payOn sums d (x .cost)) k d
+  pub sums-are : Summed (payOn (λ x y. add binary32 x y) (costColumn sums) d (x .cost)) (holdCard (R .model) (heldColumn sums) k d) sums′
 
 pub record CardWritten (c : ℕ) (k : Card) (len : ℕ) (cards : List (List Float)) (counts rows : List (List ℕ)) (cards′ : List (List Float)) (counts′ rows′ : List (List ℕ)) : Type 0 where
   pub cards-are : cards′ ≡ writeFloats cards c k

@@ -27,7 +27,7 @@ use Rattle.simulation.specs.declared.Refusal.{Refusal}
 use Rattle.simulation.specs.declared.Refusal.the-variants as refusal
 use Rattle.simulation.specs.declared.Stop.{Stop}
 use Rattle.simulation.specs.declared.Stop.the-variants as stop
-use Rattle.simulation.specs.State.{State, cardIn, keyOf, withCards, withQueue, withSums, withDue}
+use Rattle.simulation.specs.State.{State, cardIn, keyOf, withCards, withQueue, withHeld, withDue}
 use Rattle.simulation.specs.Model.{Model}
 use Rattle.simulation.specs.Rules.{Rules}
 
@@ -70,10 +70,10 @@ kindAs true m = learn (m .cost)
 kindAs false m = review (m .recalled) (m .cost)
 
 -- the held sums with a card's chances from its last date up to day e, which is left out; a new card has none
-unfoldable pub holdCard : Model → List (List Float) → Card → ℕ → List (List Float)
-holdCard m sums k e =
-    cond (newOf (k .«last_date»)) sums
-    (let from = toUnsigned 32 (k .«last_date») in holdFrom (λ t. m .chance t (k .stability)) sums (e - from) from (k .«last_date»))
+unfoldable pub holdCard : Model → List Float → Card → ℕ → List Float
+holdCard m held k e =
+    cond (newOf (k .«last_date»)) held
+    (let from = toUnsigned 32 (k .«last_date») in holdFrom (λ t. m .chance t (k .stability)) held (e - from) from (k .«last_date»))
 
 abbrev pub orElse : Bool → Next (Turn Float) State Stop → Next (Turn Float) State Stop → Next (Turn Float) State Stop
 orElse true a b = a
@@ -82,7 +82,7 @@ orElse false a b = b
 module _ (R : Rules) where
   -- the first card leaves the queue, held to the span's end
   unfoldable pub retired : State → Card → State
-  retired s k = withQueue (popped (s .queue)) (withSums (holdCard (R .model) (s .sums) k (R .span)) s)
+  retired s k = withQueue (popped (s .queue)) (withHeld (holdCard (R .model) (s .held) k (R .span)) s)
 
   -- the first card, c, goes from day d to the next
   unfoldable pub postponed : State → ℕ → Card → ℕ → State
@@ -101,7 +101,8 @@ module _ (R : Rules) where
         counts = writeCounts (s .counts) c k′;
         queue = frontChanged (s .queue) (keyOf k′);
         days = countEvent (R .span) (s .days) new d (x .recalled);
-        sums = holdCard (R .model) (payOn (s .sums) d (x .cost)) k d;
+        costs = payOn (λ x y. add binary32 x y) (s .costs) d (x .cost);
+        held = holdCard (R .model) (s .held) k d;
         due = addDue (R .span) (s .due) (dayOf (k′ .due));
         table = entered (s .table) t;
         draws = x .draws;
@@ -127,7 +128,7 @@ module _ (R : Rules) where
 
   -- the turn of card c, which is k and of day d
   abbrev pub turnOf : State → ℕ → Card → ℕ → Next (Turn Float) State Stop
-  turnOf s c k d = act s c k d (choiceOf (R .span) (R .lapse-limit) (R .limits) d k (learnedAt (s .days) d) (reviewedAt (s .days) d) (costAt (s .sums) d))
+  turnOf s c k d = act s c k d (choiceOf (R .span) (R .lapse-limit) (R .limits) d k (learnedAt (s .days) d) (reviewedAt (s .days) d) (costAt (s .costs) d))
 
   -- a turn looks at the queue's first card; the run ends when the queue is empty
   unfoldable pub next : State → Next (Turn Float) State Stop

@@ -9,6 +9,7 @@ ghost use Prim.Native.Nat.{_+_, _/_};
 ghost use lib.ListN.{length, getD};
 ghost use lib.Ieee.{nan};
 ghost use Rattle.cards.specs.Cards.{isKept, cardOk};
+ghost use Rattle.days.specs.Sums.{costColumn};
 ghost use Rattle.simulation.specs.State.{state};
 ghost use Rattle.simulation.specs.declared.Check.the-variants as check;
 ghost use Rattle.simulation.specs.Entry.{inputs, firstWhere, notFinite, notOk, checkParameters, lengthsOk, checkFirst, checked};
@@ -103,7 +104,7 @@ fn lists_ok(
     learn_span: u32,
 ) -> bool
     ensures { λ r. ⌜ r ≡ lengthsOk «deck_size» «learn_span» (length (now (existing .entry))) (length (now («existing_counts» .entry))) (length (now (keys .entry))) (length (now (intervals .entry)))
-        (length (now (cards .entry))) (length (now (counts .entry))) (length (now (rows .entry))) (length (now (days .entry))) (length (now (sums .entry))) (length (now (due .entry))) ⌝ }
+        (length (now (cards .entry))) (length (now (counts .entry))) (length (now (rows .entry))) (length (now (days .entry))) (length (costColumn (now (sums .entry)))) (length (now (due .entry))) ⌝ }
 {
     let deck = deck_size as usize;
     let span = learn_span as usize;

@@ -14,6 +14,7 @@ ghost use mathlib.Core.Path.{_≡_};
 ghost use mathlib.Core.Bool.{cond};
 ghost use Rattle.draws.specs.Draws.{splitMix};
 ghost use Rattle.days.specs.Counts.{raised};
+ghost use Rattle.days.specs.Sums.{Summed, costColumn, heldColumn};
 ghost use Rattle.events.specs.Scalars.{kept};
 ghost use Rattle.events.specs.Events.{eventOf};
 ghost use Rattle.simulation.specs.State.{keyOf, state};
@@ -102,7 +103,7 @@ fn hold_card(
     to: u32,
 )
     requires { ⌜ curve ≡ curveFor m card ⌝ }
-    ensures { λ _. ⌜ now (sums .exit) ≡ holdCard (modelOf config (kept m)) (now (sums .entry)) card to ⌝ }
+    ensures { λ _. ⌜ Summed (costColumn (now (sums .entry))) (holdCard (modelOf config (kept m)) (heldColumn (now (sums .entry))) card to) (now (sums .exit)) ⌝ }
 {
     if cards::is_new(card.last_date) {
         return;

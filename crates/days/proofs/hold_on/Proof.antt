@@ -1,7 +1,5 @@
 -- `days::hold_on` meets its contract.
-use lib.Seq.{set-out}
-use mathlib.Core.Path.{refl, sym}
-use Rattle.days.specs.Sums.{holdOn}
+use Rattle.days.proofs.Laws.{hold-row, hold-out}
 use borrow.Author.Needs.{needs}
 use Rattle.days.proofs.hold_on.Statement.{statement}
 use Rattle.days.proofs.hold_on.Tie as tie
@@ -28,12 +26,10 @@ same-length : tie.Need-same-length
 same-length c = search needs
 
 returns : tie.Need-returns
-unfolding holdOn
-returns c = refl
+returns c = hold-row (c .before .before .args .rows .now) (c .before .before .args .d) (c .before .before .args .chance)
 
 returns-2 : tie.Need-returns-2
-unfolding holdOn
-returns-2 c = sym (set-out _ _ _ (c .if1 .left))
+returns-2 c = hold-out (c .before .args .rows .now) (c .before .args .d) (c .before .args .chance) (c .if1 .left)
 
 pub hold-on-spec : {M : Type 1} → statement M
 hold-on-spec =

@@ -1,7 +1,5 @@
 -- `days::pay_on` meets its contract.
-use lib.Seq.{set-out}
-use mathlib.Core.Path.{refl, sym}
-use Rattle.days.specs.Sums.{payOn}
+use Rattle.days.proofs.Laws.{pay-row, pay-out}
 use borrow.Author.Needs.{needs}
 use Rattle.days.proofs.pay_on.Statement.{statement}
 use Rattle.days.proofs.pay_on.Tie as tie
@@ -28,12 +26,10 @@ same-length : tie.Need-same-length
 same-length c = search needs
 
 returns : tie.Need-returns
-unfolding payOn
-returns c = refl
+returns c = pay-row (c .before .before .args .rows .now) (c .before .before .args .d) (c .before .before .args .cost)
 
 returns-2 : tie.Need-returns-2
-unfolding payOn
-returns-2 c = sym (set-out _ _ _ (c .if1 .left))
+returns-2 c = pay-out (c .before .args .rows .now) (c .before .args .d) (c .before .args .cost) (c .if1 .left)
 
 pub pay-on-spec : {M : Type 1} → statement M
 pay-on-spec =

@@ -1,7 +1,8 @@
 -- A call that an entry test fails is turned away as it came; any other is set up and run.
-use mathlib.Core.Path.{sym, _∙_}
+use mathlib.Core.Path.{refl, sym, _∙_}
 use Rattle.simulation.specs.State.{state}
 use Rattle.simulation.specs.Entry.{inputs}
+use Rattle.simulation.proofs.Turning.{lists-of}
 use Rattle.simulation.proofs.Claims.{same-check, refused-is, not-finished, accepted-is, three-is}
 use borrow.Author.Needs.{needs}
 use Rattle.simulation.proofs.simulate.Statement.{statement}
@@ -56,7 +57,7 @@ returns c =
     let a = at-check-entry .before .before .before .before .before .before .before .before .before .before .before .before .args in
     let i = inputs (a .config) (a .parameters .now) (a .retention) (a .seed) (a .existing .now) (a .existing-counts .now) in
     let s = state (a .cards .now) (a .counts .now) (a .rows .now) (a .days .now) (a .sums .now) (a .due .now) (a .keys .now) (a .intervals .now) 0 (a .seed) in
-    (refused-is i s _ (sym (same-check i s (at-check-entry .check-entry .ensures)) ∙ at-entry .entry .given .1), λ f. absurd (not-finished _ _ f))
+    (refused-is i s _ (sym (same-check i s (at-check-entry .check-entry .ensures)) ∙ at-entry .entry .given .1) (lists-of s (a .cards .now) (a .counts .now) (a .rows .now) (a .days .now) (a .sums .now) (a .due .now) (a .keys .now) (a .intervals .now) 0 (a .seed) refl), λ f. absurd (not-finished _ _ f))
 
 same-length-9 : tie.Need-same-length-9
 same-length-9 c = search needs

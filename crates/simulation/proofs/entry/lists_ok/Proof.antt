@@ -1,4 +1,7 @@
 -- `simulation::entry::lists_ok` meets its contract.
+use mathlib.Core.List.{List}
+use lib.ListN.{getD, length-map}
+use lib.Ieee.{Float, nan}
 use borrow.Author.Tests.{le-leb, lt-leb, eq-eqb, ne-eqb}
 use Rattle.simulation.specs.Entry.{lengthsOk}
 use borrow.Author.Needs.{needs}
@@ -37,6 +40,7 @@ returns-7 c =
     let at-if2 = at-if3 .before in
     let at-if1 = at-if2 .before in
     rw (
+      length-map (at-if1 .before .before .before .args .sums .now) (λ (row : List Float). getD row 0 nan),
       eq-eqb _ _ (at-if1 .if1 .left),
       eq-eqb _ _ (at-if2 .if2 .left),
       le-leb _ _ (at-if3 .if3 .left),
@@ -58,6 +62,7 @@ returns-8 c =
     let at-if2 = at-if3 .before in
     let at-if1 = at-if2 .before in
     rw (
+      length-map (at-if1 .before .before .before .args .sums .now) (λ (row : List Float). getD row 0 nan),
       eq-eqb _ _ (at-if1 .if1 .left),
       eq-eqb _ _ (at-if2 .if2 .left),
       le-leb _ _ (at-if3 .if3 .left),

@@ -1,4 +1,5 @@
 -- `simulation::turn::hold_card` meets its contract.
+use mathlib.Core.Path.{refl}
 use Rattle.simulation.specs.Turn.{holdCard}
 use borrow.Author.Needs.{needs}
 use Rattle.simulation.proofs.turn.hold_card.Statement.{statement}
@@ -9,7 +10,7 @@ is-new-requires c κs = search needs
 
 returns : tie.Need-returns
 unfolding holdCard
-returns c = rw (← c .before .is-new .ensures, c .if1 .taken)
+returns c = record { costs-are = refl; held-are = rw (← c .before .is-new .ensures, c .if1 .taken) }
 
 to-u32-requires : tie.Need-to-u32-requires
 to-u32-requires c κs = search needs
@@ -22,7 +23,10 @@ same-length c = search needs
 
 returns-2 : tie.Need-returns-2
 unfolding holdCard
-returns-2 c = rw (← c .before .before .before .before .before .is-new .ensures, c .before .before .before .before .if1 .left, c .before .hold-from .ensures, c .before .before .before .before .before .before .pre, c .before .before .before .to-u32 .ensures)
+returns-2 c = record {
+  costs-are = c .before .hold-from .ensures .costs-are;
+  held-are = rw (← c .before .before .before .before .before .is-new .ensures, c .before .before .before .before .if1 .left, c .before .hold-from .ensures .held-are, c .before .before .before .before .before .before .pre, c .before .before .before .to-u32 .ensures);
+}
 
 pub hold-card-spec : {M : Type 1} → statement M
 hold-card-spec =
