@@ -82,26 +82,33 @@ abbrev pub learningLimit : SimulatorConfig → ℕ → ℕ
 learningLimit g rating = cond (ltb 2 rating) (g .«learning_step_count» - 1) (g .«learning_step_count»)
 
 module _ (w : DrawRule) (g : SimulatorConfig) (x : Scalars) where
-  -- a learning: a first rating, and at most five short-term steps
-  unfoldable pub learning : ℕ → Memory
-  learning state =
+  -- the first rating of a learning, and what it leaves
+  abbrev pub firstOf : ℕ → ShortTerm
+  firstOf state =
       let r = ratingOf (rating (g .«first_rating_prob») (w .word state)) in
-      let costs = rowOf (g .«state_rating_costs») 0 in
-      let first : ShortTerm = record {
+      record {
         stability = x .init-stability r;
         difficulty = clamp (x .init-difficulty r) dMin dMax;
-        cost = ofRating costs r;
+        cost = ofRating (rowOf (g .«state_rating_costs») 0) r;
         rating = r;
         consecutive = 0;
         draws = w .after state;
-      } in
-      let t = shortSteps w x (g .«learning_step_transitions») costs (learningLimit g r) 5 first in
+      }
+
+  -- a learning: a first rating, and at most five short-term steps
+  unfoldable pub learning : ℕ → Memory
+  learning state =
+      let first = firstOf state in
+      let t = shortSteps w x (g .«learning_step_transitions») (rowOf (g .«state_rating_costs») 0) (learningLimit g (first .rating)) 5 first in
       memoryOf t (t .cost) true
 
   -- a review that was recalled: a rating of 2 to 4
+  abbrev pub successRating : ℕ → ℕ
+  successRating state = recalledRatingOf (rating (g .«review_rating_prob») (w .word state))
+
   unfoldable pub success : Card → Float → ℕ → Memory
   success k chance state =
-      let r = recalledRatingOf (rating (g .«review_rating_prob») (w .word state)) in
+      let r = successRating state in
       record {
         difficulty = x .next-difficulty (k .difficulty) r;
         stability = x .after-success (k .stability) (k .difficulty) chance r;
@@ -111,17 +118,19 @@ module _ (w : DrawRule) (g : SimulatorConfig) (x : Scalars) where
       }
 
   -- a lapse: rating 1, and at most five short-term steps
+  abbrev pub failedOf : Card → Float → ℕ → ShortTerm
+  failedOf k chance state = record {
+    stability = x .after-failure (k .stability) (k .difficulty) chance;
+    difficulty = x .next-difficulty (k .difficulty) 1;
+    cost = ofBits binary32 0;
+    rating = 1;
+    consecutive = 0;
+    draws = state;
+  }
+
   unfoldable pub lapse : Card → Float → ℕ → Memory
   lapse k chance state =
-      let first : ShortTerm = record {
-        stability = x .after-failure (k .stability) (k .difficulty) chance;
-        difficulty = x .next-difficulty (k .difficulty) 1;
-        cost = ofBits binary32 0;
-        rating = 1;
-        consecutive = 0;
-        draws = state;
-      } in
-      let t = shortSteps w x (g .«relearning_step_transitions») (rowOf (g .«state_rating_costs») 2) (g .«relearning_step_count») 5 first in
+      let t = shortSteps w x (g .«relearning_step_transitions») (rowOf (g .«state_rating_costs») 2) (g .«relearning_step_count») 5 (failedOf k chance state) in
       memoryOf t (ofRating (rowOf (g .«state_rating_costs») 1) 1 +ᶠ t .cost) false
 
   -- a review at a chance to recall draws once, whatever the chance

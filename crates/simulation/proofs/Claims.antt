@@ -29,7 +29,7 @@ use Rattle.simulation.specs.declared.Answer.{Answer}
 use Rattle.simulation.specs.declared.Answer.the-variants as answer
 use Rattle.simulation.specs.declared.Stop.{Stop}
 use Rattle.simulation.specs.State.{State, Lists, withDraws}
-use Rattle.simulation.specs.Rules.{Rules, rulesWith, rulesOf, costs}
+use Rattle.simulation.specs.Rules.{Rules, rulesWith, rulesOf}
 use Rattle.simulation.specs.Turn.{next}
 use Rattle.simulation.specs.Entry.{Inputs, inputs, checked}
 use Rattle.simulation.specs.SetUp.{known, setUp}
@@ -87,21 +87,23 @@ interval-ok g e =
     let f = both (costsOk (g .«state_rating_costs»)) last (d .1) in
     both (not (isNan (g .«max_cost_perday»))) (intervalOk (g .«max_ivl»)) (f .1) .1
 
--- what demand 3 asks of a run's rules: the span of the inputs, and a model with lawful slots; nothing of limits or draws
+-- what demand 3 asks of a run's rules: the span of the inputs, days that begin at a cost of 0, and a model with lawful slots; nothing of limits,
+-- prices or draws
 pub record Suits (R : Rules) (i : Inputs) : Type 0 where
   pub span-is : i .config .«learn_span» ≡ R .span
+  pub none-is : R .costs .none ≡ ofBits binary32 0
   pub slots : Slots (R .model)
 
 -- so WHATEVER IS DRAWN
 pub suits : (w : DrawRule) (i : Inputs) (s : State) → Accepted i s → Suits (rulesWith w (i .config) (plain (i .parameters))) i
-suits w i s ok = record { span-is = refl; slots = table-slots (i .config) (plain (i .parameters)) (λ x y. scheduled-fair (i .parameters) x y (i .config .«max_ivl») (interval-ok (i .config) (ok .config-ok))) }
+suits w i s ok = record { span-is = refl; none-is = refl; slots = table-slots (i .config) (plain (i .parameters)) (λ x y. scheduled-fair (i .parameters) x y (i .config .«max_ivl») (interval-ok (i .config) (ok .config-ok))) }
 
 module _ (R : Rules) (i : Inputs) (s : State) (ok : Accepted i s) (fit : Suits R i) where
   fine : Fine (R .span) (cardsOf i s)
   fine = record { some = omega (arith, fit .span-is, ok .span-some); most = omega (arith, fit .span-is, ok .span-most); few = omega (arith, set-up-few i s ok, ok .deck-most) }
 
-  begins : SetUp columns costs (R .span) (known (i .existing) (i .existing-counts) (length (i .existing))) (setUp i s)
-  begins = subst (λ (z : ℕ). SetUp columns costs z (known (i .existing) (i .existing-counts) (length (i .existing))) (setUp i s)) (fit .span-is) (set-up-start i s ok)
+  begins : SetUp columns (R .costs) (R .span) (known (i .existing) (i .existing-counts) (length (i .existing))) (setUp i s)
+  begins = subst (λ (z : ℕ). SetUp columns (R .costs) z (known (i .existing) (i .existing-counts) (length (i .existing))) (setUp i s)) (fit .span-is) (set-up-start i s ok (R .costs) (fit .none-is))
 
   good : Good (cardsOf i s) (R .span) (setUp i s)
   good = subst (λ (z : ℕ). Good (cardsOf i s) z (setUp i s)) (fit .span-is) (set-up-good i s ok)

@@ -19,6 +19,7 @@ use Rattle.intervals.specs.Table.{Table, places, heldIn, countIn, clearIn}
 use Rattle.intervals.specs.Schedule.{isFull}
 use Rattle.intervals.proofs.Laws.{Sound, clear-sound, twin-clear}
 use Rattle.intervals.proofs.Schedule.{slot-full-iff}
+use Rattle.events.specs.Drawn.{Drawn}
 use Rattle.simulation.specs.declared.Refusal.{Refusal}
 use Rattle.simulation.specs.declared.Check.the-variants as check
 use Rattle.simulation.specs.declared.Progress.{Progress}
@@ -127,10 +128,10 @@ module _ (R : Rules) (i : Inputs) (s s′ : State) (fit : Suits R i) (e : checke
       let b : bound R (setUp i s′) ≡ bound R (setUp i s) = ap (λ (z : ℕ). suc (z * suc (R .span))) same-length in
       let r = run-longer R (fit .slots) (bound R (setUp i s)) (setUp i s) (setUp i s′) alike q in
       let r′ : run (next R) (bound R (setUp i s′)) [] (setUp i s′) ≡ run (next R) (bound R (setUp i s)) [] (setUp i s′) = ap (λ (z : ℕ). run (next R) z [] (setUp i s′)) b in
-      let st : (ran R (setUp i s′)) .state ≡ (run (next R) (bound R (setUp i s)) [] (setUp i s′)) .state = ap (λ (z : Reached (Turn Float) State). z .state) r′ in
+      let st : (ran R (setUp i s′)) .state ≡ (run (next R) (bound R (setUp i s)) [] (setUp i s′)) .state = ap (λ (z : Reached (Turn Drawn) State). z .state) r′ in
       let one : stopOf (next R) stop.Ended (bound R (setUp i s)) (setUp i s) ≡ stop.Ended = stops-so R i s fit e stop.Ended q in
       let two : stopOf (next R) stop.Ended (bound R (setUp i s′)) (setUp i s′) ≡ stop.Ended = stops-so R i s′ fit e′ stop.Ended (ap (λ (z : State). next R z) st ∙ r .stop) in
-      let turns : length ((ran R (setUp i s′)) .turns) ≡ length ((ran R (setUp i s)) .turns) = ap (λ (z : Reached (Turn Float) State). length (z .turns)) r′ ∙ ap (λ (z : List (Turn Float)). length z) (sym (r .turns)) in
+      let turns : length ((ran R (setUp i s′)) .turns) ≡ length ((ran R (setUp i s)) .turns) = ap (λ (z : Reached (Turn Drawn) State). length (z .turns)) r′ ∙ ap (λ (z : List (Turn Drawn)). length z) (sym (r .turns)) in
       let all : (ran R (setUp i s′)) .state ≡ withTable ((ran R (setUp i s)) .state) ((run (next R) (bound R (setUp i s)) [] (setUp i s′)) .state .table) = st ∙ r .states .same in
       let draws : (ran R (setUp i s′)) .state .draws ≡ (ran R (setUp i s)) .state .draws = ap (λ (z : State). z .draws) all in
       rw (finished-is R i s fit e, finished-is R i s′ fit e′)

@@ -18,7 +18,7 @@ use Rattle.cards.specs.Day.{dayOf, newOf}
 use Rattle.cards.specs.Cards.{cardAt}
 use Rattle.cards.specs.Choices.{choiceOf}
 use Rattle.days.specs.Counts.{learnedAt, reviewedAt}
-use Rattle.days.specs.Sums.{costColumn, costAt}
+use Rattle.days.specs.Sums.{costColumn, costAt, payOn}
 use Rattle.days.specs.Due.{addDue, noneDue}
 use Rattle.events.proofs.Event as event-type
 use Rattle.events.specs.declared.Memory.{Memory}
@@ -35,7 +35,7 @@ use Rattle.simulation.specs.declared.Refusal.the-variants as refusal
 use Rattle.simulation.specs.declared.Stop.the-variants as stop
 use Rattle.simulation.specs.State.{State, Lists, state, keyOf}
 use Rattle.simulation.specs.Rules.{Rules}
-use Rattle.simulation.specs.Turn.{refuses, turnAs, kindAs, eventCard, retired, postponed, handled, handleAs, handle, orElse, act, next}
+use Rattle.simulation.specs.Turn.{refuses, turnAs, eventTurn, eventCard, retired, postponed, handled, handleAs, handle, orElse, act, next}
 use Rattle.simulation.specs.Steps.{Turned, PutOff, PutOffStep, RetireStep, DaysWritten, CardWritten}
 
 -- neither variant but the second
@@ -64,7 +64,7 @@ module _ (R : Rules) (r : State) (c : ℕ) (k : Card) (new : Bool) (d : ℕ) (y 
   handle-full (slot.Enter p a b v) e = absurd (false≢true e)
   handle-full slot.Full e = refl
 
-  handle-some : (t : Slot) → isFull t ≡ false → handleAs R r c k new d y t ≡ takes (turnAs c d (kindAs new y)) (handled R r c k new d y t)
+  handle-some : (t : Slot) → isFull t ≡ false → handleAs R r c k new d y t ≡ takes (eventTurn R r c k new d y) (handled R r c k new d y t)
   handle-some (slot.Keep v) e = refl
   handle-some (slot.Enter p a b v) e = refl
   handle-some slot.Full e = absurd (true≢false e)
@@ -101,18 +101,19 @@ module _ (R : Rules) (cards : List (List Float)) (counts rows days : List (List 
           → (cards′ : List (List Float)) (counts′ rows′ days′ : List (List ℕ)) (sums′ : List (List Float)) (due′ : List ℕ) (keys′ : List (List ℕ)) (intervals′ : List Float)
           → CardWritten c k′ len cards counts rows cards′ counts′ rows′
           → DaysWritten R k new d x days sums days′ sums′
+          → x .cost ≡ R .costs .cost (eventTurn R st c k new d x)
           → due′ ≡ addDue (R .span) due day
           → table keys′ intervals′ ≡ entered (table keys intervals) t
           → Turned (handle R st c k new d) st (outcome.Took len (x .draws)) cards′ counts′ rows′ days′ sums′ due′ keys′ intervals′
       unfolding handled
-      handled-is f u y v ev k′ ek day ed cards′ counts′ rows′ days′ sums′ due′ keys′ intervals′ cw dw du tw =
+      handled-is f u y v ev k′ ek day ed cards′ counts′ rows′ days′ sums′ due′ keys′ intervals′ cw dw pw du tw =
           let kk : eventCard k new x d (intervalOf t) ≡ k′ = sym (ek ∙ ap (λ (w : Float). eventCard k new x d w) ev) in
           let q′ : frontChanged (queue rows len) (keyOf k′) ≡ queue rows′ len = sym (cw .queue-is) in
           rw (handles ∙ handle-some R st c k new d x t (sym u ∙ y))
           (rw (kk, q′)
           (record {
             outcome = refl;
-            lists = record { cards-are = cw .cards-are; counts-are = cw .counts-are; rows-are = refl; days-are = dw .days-are; costs-are = dw .sums-are .costs-are; held-are = dw .sums-are .held-are; due-are = du ∙ ap (addDue (R .span) due) ed; table-is = tw };
+            lists = record { cards-are = cw .cards-are; counts-are = cw .counts-are; rows-are = refl; days-are = dw .days-are; costs-are = dw .sums-are .costs-are ∙ ap (λ (z : Float). payOn (R .costs .plus) (costColumn sums) d z) pw; held-are = dw .sums-are .held-are; due-are = du ∙ ap (addDue (R .span) due) ed; table-is = tw };
           }))
 
   -- ---- the turn

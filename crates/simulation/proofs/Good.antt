@@ -27,9 +27,10 @@ use Rattle.queue.specs.Sound.{queued, Keyed}
 use Rattle.queue.proofs.Keys.{packed-day, priority-in}
 use Rattle.queue.proofs.Laws.{change-queued, pop-other, pop-front, front-queued, keyed-least, queued-named, requeue, unqueue}
 use Rattle.intervals.specs.Table.{places, freeAt, valueAt}
+use Rattle.events.specs.Drawn.{Drawn}
 use Rattle.simulation.specs.State.{State, cardIn, keyOf}
 use Rattle.simulation.specs.Turn.{putOffCard, postponed, retired, turnAs}
-use Rattle.simulation.specs.Rules.{Rules, costs}
+use Rattle.simulation.specs.Rules.{Rules}
 use Rattle.simulation.proofs.Views.{difficultyIn, dayIn, newIn, keyIn, view, columns}
 
 -- of the span and the number of cards, by the entry's refusals
@@ -102,7 +103,7 @@ or-left : (a b : Bool) → (a || b) ≡ false → a ≡ false
 or-left true b e = e
 or-left false b e = refl
 
-module _ (R : Rules) (cards : ℕ) (fine : Fine (R .span) cards) (ts : List (Turn Float)) (s : State) (good : Good cards (R .span) s) (some : 0 < s .queue .len) where
+module _ (R : Rules) (cards : ℕ) (fine : Fine (R .span) cards) (ts : List (Turn Drawn)) (s : State) (good : Good cards (R .span) s) (some : 0 < s .queue .len) where
   abbrev c : ℕ
   c = front (s .queue)
 
@@ -115,8 +116,8 @@ module _ (R : Rules) (cards : ℕ) (fine : Fine (R .span) cards) (ts : List (Tur
   abbrev d : ℕ
   d = dayOf (k .due)
 
-  abbrev StepTo : Kind Float → State → Type 0
-  StepTo kind s′ = Step view columns costs (R .limits) cards (R .span) ts s (turnAs c d kind) s′
+  abbrev StepTo : Kind Drawn → State → Type 0
+  StepTo kind s′ = Step view columns (R .costs) (R .limits) cards (R .span) ts s (turnAs c d kind) s′
 
   pub is-card : c < cards
   is-card = good .keyed .named 0 some

@@ -34,9 +34,10 @@ use Rattle.intervals.specs.declared.Slot.the-variants as slot
 use Rattle.intervals.specs.Table.{Table, places, freeAt, valueAt}
 use Rattle.intervals.specs.Schedule.{intervalOf, entered}
 use Rattle.intervals.proofs.Change.{enter-places, value-same, value-other, free-other}
+use Rattle.events.specs.Drawn.{Drawn}
 use Rattle.simulation.specs.State.{State, cardIn, keyOf}
-use Rattle.simulation.specs.Turn.{eventCard, handled, turnAs}
-use Rattle.simulation.specs.Rules.{Rules, costs}
+use Rattle.simulation.specs.Turn.{eventCard, turnAs, eventTurn, handled}
+use Rattle.simulation.specs.Rules.{Rules}
 use Rattle.simulation.proofs.Views.{dayIn, newIn, keyIn, lapsesIn, view, columns}
 use Rattle.simulation.proofs.Good.{Fine, Good, write-long, else-key, else-day, else-new, own-day, own-new, own-key, is-card, has-row, first-is}
 
@@ -79,7 +80,7 @@ fair-entered t (slot.Enter q a b v) f h p l e = go (ℕ-discrete p q)
     go (yes x) = rw x (rw (value-same t q a b v (omega (arith, within, x))) f)
     go (no x) = rw (value-other t q a b v p x) (h p within (sym (free-other t q a b v p x) ∙ e))
 
-module _ (R : Rules) (cards : ℕ) (fine : Fine (R .span) cards) (ts : List (Turn Float)) (s : State) (good : Good cards (R .span) s) (some : 0 < s .queue .len)
+module _ (R : Rules) (cards : ℕ) (fine : Fine (R .span) cards) (ts : List (Turn Drawn)) (s : State) (good : Good cards (R .span) s) (some : 0 < s .queue .len)
     (new : Bool) (x : Memory) (t : Slot) (fair : Fair (intervalOf t)) (h : dayOf (cardIn s (front (s .queue)) .due) < R .span) where
   abbrev c : ℕ
   c = front (s .queue)
@@ -129,8 +130,12 @@ module _ (R : Rules) (cards : ℕ) (fine : Fine (R .span) cards) (ts : List (Tur
       at (yes q) = let b = day-bound d (intervalOf t) (omega (arith, h, fine .most)) fair in rw q (rw due-day (omega arith))
       at (no q) = omega (arith, else-day fs c k′ i q, good .near i l)
 
-  pays : (i : ℕ) → i < R .span → costAt (payOn (λ x y. add binary32 x y) (s .costs) d (x .cost)) i ≡ cond (eqb d i) (add binary32 (costAt (s .costs) i) (x .cost)) (costAt (s .costs) i)
-  pays i l = pay-cost (λ x y. add binary32 x y) (s .costs) d i (x .cost) (omega (arith, h, good .costs-long))
+  pays : (y : Float) (i : ℕ) → i < R .span → costAt (payOn (R .costs .plus) (s .costs) d y) i ≡ cond (eqb d i) (R .costs .plus (costAt (s .costs) i) y) (costAt (s .costs) i)
+  pays y i l = pay-cost (R .costs .plus) (s .costs) d i y (omega (arith, h, good .costs-long))
+
+  -- what is drawn
+  abbrev rs : Drawn
+  rs = R .model .ratings (R .draw) k new d (s .draws)
 
   lapses-now : lapsesIn (writeCounts (s .counts) c k′) c ≡ k′ .lapses
   lapses-now = own-lapses (s .counts) c k′ (omega (arith, mine, good .counts-long))
@@ -185,7 +190,7 @@ module _ (R : Rules) (cards : ℕ) (fine : Fine (R .span) cards) (ts : List (Tur
     unfolding eventCard
     same-lapses = lapses-now ∙ rw is lapses-then
 
-    pub step-learn : Step view columns costs (R .limits) cards (R .span) ts s (turnAs c d (learn (x .cost))) (handled R s c k true d x t)
+    pub step-learn : Step view columns (R .costs) (R .limits) cards (R .span) ts s (eventTurn R s c k true d x) (handled R s c k true d x t)
     unfolding handled countEvent cardAt
     step-learn = rw (← is) (record {
       moves = record {
@@ -203,7 +208,7 @@ module _ (R : Rules) (cards : ℕ) (fine : Fine (R .span) cards) (ts : List (Tur
         introduces = introduced-row;
         lapse = omega (arith, same-lapses);
         other-lapses = else-lapses (s .counts) c k′;
-        pays = pays;
+        pays = pays (R .costs .cost (turnAs c d (learn rs)));
       };
       tests = (l-ok, b-ok, c-ok);
     })
@@ -217,7 +222,7 @@ module _ (R : Rules) (cards : ℕ) (fine : Fine (R .span) cards) (ts : List (Tur
       cards-long = omega (arith, good .cards-long, write-long fs c k′);
       counts-long = omega (arith, good .counts-long, counts-long (s .counts) c k′);
       days-long = omega (arith, good .days-long, from-long (learnOn rows d) (R .span - d) d, learn-long rows d);
-      costs-long = omega (arith, good .costs-long, pay-long (λ x y. add binary32 x y) (s .costs) d (x .cost));
+      costs-long = omega (arith, good .costs-long, pay-long (R .costs .plus) (s .costs) d (R .costs .cost (turnAs c d (learn rs))));
       keyed = keyed′;
       near = near′;
       held = fair-entered (s .table) t fair (good .held);
@@ -249,7 +254,7 @@ module _ (R : Rules) (cards : ℕ) (fine : Fine (R .span) cards) (ts : List (Tur
     unfolding eventCard
     more-lapses = lapses-now ∙ rw is (lapsed (x .recalled) (k .lapses) (omega (arith, lapses-then-few, h, fine .most)) ∙ ap (λ (n : ℕ). n + bit (not (x .recalled))) lapses-then)
 
-    pub step-review : Step view columns costs (R .limits) cards (R .span) ts s (turnAs c d (review (x .recalled) (x .cost))) (handled R s c k false d x t)
+    pub step-review : Step view columns (R .costs) (R .limits) cards (R .span) ts s (eventTurn R s c k false d x) (handled R s c k false d x t)
     unfolding handled countEvent cardAt
     step-review = rw (← is) (record {
       moves = record {
@@ -267,7 +272,7 @@ module _ (R : Rules) (cards : ℕ) (fine : Fine (R .span) cards) (ts : List (Tur
         introduces = λ i l. omega (arith, review-introduced rows d (x .recalled) i);
         lapse = more-lapses;
         other-lapses = else-lapses (s .counts) c k′;
-        pays = pays;
+        pays = pays (R .costs .cost (turnAs c d (review (x .recalled) rs)));
       };
       tests = (r-ok, c-ok);
     })
@@ -285,7 +290,7 @@ module _ (R : Rules) (cards : ℕ) (fine : Fine (R .span) cards) (ts : List (Tur
       cards-long = omega (arith, good .cards-long, write-long fs c k′);
       counts-long = omega (arith, good .counts-long, counts-long (s .counts) c k′);
       days-long = omega (arith, good .days-long, review-long rows d (x .recalled));
-      costs-long = omega (arith, good .costs-long, pay-long (λ x y. add binary32 x y) (s .costs) d (x .cost));
+      costs-long = omega (arith, good .costs-long, pay-long (R .costs .plus) (s .costs) d (R .costs .cost (turnAs c d (review (x .recalled) rs))));
       keyed = keyed′;
       near = near′;
       held = fair-entered (s .table) t fair (good .held);

@@ -20,6 +20,7 @@ use Rattle.float32.proofs.Cmp as cmp
 use Rattle.float32.proofs.Limits.{le-refl}
 use Rattle.turns.specs.Sums.{bit, sumTo}
 use Rattle.turns.proofs.Sums.{sum-same}
+use Rattle.turns.specs.Turns.{CostRule}
 use Rattle.turns.proofs.Columns.{SetUp}
 use Rattle.cards.specs.declared.Card.{Card}
 use Rattle.cards.specs.Day.{dayOf, newOf}
@@ -29,10 +30,10 @@ use Rattle.queue.specs.Queue.{queue, pushed}
 use Rattle.queue.specs.Sound.{Keyed}
 use Rattle.queue.proofs.Laws.{Filled, fill-none, fill-same, fill-next}
 use Rattle.intervals.specs.Table.{Table, places, freeAt, clearIn}
+use Rattle.events.specs.Drawn.{Drawn}
 use Rattle.simulation.specs.State.{State}
 use Rattle.simulation.specs.Entry.{Inputs}
 use Rattle.simulation.specs.SetUp.{Deck, filled, newCard, joined, retained, retainCard, retain, known, create, newCards, emptied, dealt, firstCounts, setUp}
-use Rattle.simulation.specs.Rules.{costs}
 use Rattle.simulation.proofs.Views.{dayIn, newIn, keyIn, lapsesIn, columns}
 use Rattle.simulation.proofs.Good.{Good, write-long, else-key, else-day, else-new, own-day, own-new, own-key}
 use Rattle.simulation.proofs.Handled.{counts-long, own-lapses, else-lapses}
@@ -278,14 +279,14 @@ module _ (i : Inputs) (s : State) (ok : Accepted i s) where
   unfolding setUp
   set-up-few = omega (arith, len-is, all-joined .few)
 
-  pub set-up-start : SetUp columns costs span (known es ns (length es)) (setUp i s)
+  pub set-up-start : (b : CostRule Drawn Float) → b .none ≡ ofBits binary32 0 → SetUp columns b span (known es ns (length es)) (setUp i s)
   unfolding setUp
-  set-up-start = record {
+  set-up-start b none-is = record {
     learned-none = λ d h. ap (λ (l : List ℕ). getD l 0 0) (row-at d h);
     reviewed-none = λ d h. ap (λ (l : List ℕ). getD l 1 0) (row-at d h);
     correct-none = λ d h. ap (λ (l : List ℕ). getD l 2 0) (row-at d h);
     introduced-known = λ d h. ap (λ (l : List ℕ). getD l 3 0) (row-at d h);
-    cost-none = costs-at;
+    cost-none = λ d h. costs-at d h ∙ sym none-is;
   }
 
   pub set-up-good : Good (setUp i s .queue .len) span (setUp i s)

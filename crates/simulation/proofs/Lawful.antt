@@ -31,12 +31,13 @@ use Rattle.queue.specs.Queue.{front}
 use Rattle.intervals.specs.declared.Slot.{Slot}
 use Rattle.intervals.specs.declared.Slot.the-variants as slot
 use Rattle.intervals.specs.Schedule.{isFull, intervalOf}
+use Rattle.events.specs.Drawn.{Drawn}
 use Rattle.simulation.specs.declared.Refusal.the-variants as refusal
 use Rattle.simulation.specs.declared.Stop.{Stop}
 use Rattle.simulation.specs.declared.Stop.the-variants as stop
 use Rattle.simulation.specs.State.{State, cardIn}
-use Rattle.simulation.specs.Turn.{refuses, turnAs, kindAs, postponed, handled, handleAs, eventAs, handle, orElse, act, turnOf, next}
-use Rattle.simulation.specs.Rules.{Rules, costs}
+use Rattle.simulation.specs.Turn.{refuses, turnAs, eventTurn, postponed, handled, handleAs, eventAs, handle, orElse, act, turnOf, next}
+use Rattle.simulation.specs.Rules.{Rules}
 use Rattle.simulation.proofs.Views.{view, columns}
 use Rattle.simulation.proofs.Slots.{Slots}
 use Rattle.simulation.proofs.Good.{Fine, Good, in-span, step-put, good-put, step-retire, good-retire}
@@ -55,13 +56,13 @@ and-right true b e h = h
 and-right false b e h = absurd (false≢true e)
 
 module _ (R : Rules) (cards : ℕ) (fine : Fine (R .span) cards) (laws : Slots (R .model)) where
-  abbrev Steps : List (Turn Float) → State → Turn Float → State → Type 0
-  Steps = Step view columns costs (R .limits) cards (R .span)
+  abbrev Steps : List (Turn Drawn) → State → Turn Drawn → State → Type 0
+  Steps = Step view columns (R .costs) (R .limits) cards (R .span)
 
   abbrev Fit : State → Type 0
   Fit = Good cards (R .span)
 
-  module _ (ts : List (Turn Float)) (s : State) (good : Fit s) (some : 0 < s .queue .len) where
+  module _ (ts : List (Turn Drawn)) (s : State) (good : Fit s) (some : 0 < s .queue .len) where
     abbrev c : ℕ
     c = front (s .queue)
 
@@ -82,13 +83,13 @@ module _ (R : Rules) (cards : ℕ) (fine : Fine (R .span) cards) (laws : Slots (
 
     -- an event that is not refused is a step, where it is one with any interval that is given
     law-slot : (new : Bool) (y : Memory) (t : Slot) → (isFull t ≡ false → Fair (intervalOf t))
-        → (Fair (intervalOf t) → Steps ts s (turnAs c d (kindAs new y)) (handled R s c k new d y t) × Fit (handled R s c k new d y t))
+        → (Fair (intervalOf t) → Steps ts s (eventTurn R s c k new d y) (handled R s c k new d y t) × Fit (handled R s c k new d y t))
         → Lawful Steps Fit ts s (handleAs R s c k new d y t)
     law-slot new y slot.Full f h = tt
     law-slot new y (slot.Keep v) f h = h (f refl)
     law-slot new y (slot.Enter p a b v) f h = h (f refl)
 
-    law-event : (new : Bool) → ((y : Memory) (t : Slot) → Fair (intervalOf t) → Steps ts s (turnAs c d (kindAs new y)) (handled R s c k new d y t) × Fit (handled R s c k new d y t))
+    law-event : (new : Bool) → ((y : Memory) (t : Slot) → Fair (intervalOf t) → Steps ts s (eventTurn R s c k new d y) (handled R s c k new d y t) × Fit (handled R s c k new d y t))
         → Lawful Steps Fit ts s (handle R s c k new d)
     unfolding handle
     law-event new h = go (R .model .event (R .draw) k new d (s .draws))
@@ -153,7 +154,7 @@ module _ (R : Rules) (cards : ℕ) (fine : Fine (R .span) cards) (laws : Slots (
     unfolding choiceOf
     law-turn = law-as (retires (R .span) (R .lapse-limit) k) (blocked (R .limits) d (newOf (k .«last_date»)) l r x) (newOf (k .«last_date»)) refl refl refl
 
-  pub law : (ts : List (Turn Float)) (s : State) → Fit s → Lawful Steps Fit ts s (next R s)
+  pub law : (ts : List (Turn Drawn)) (s : State) → Fit s → Lawful Steps Fit ts s (next R s)
   unfolding next
   law ts s good = go (eqb (s .queue .len) 0) refl
     where
@@ -162,17 +163,17 @@ module _ (R : Rules) (cards : ℕ) (fine : Fine (R .span) cards) (laws : Slots (
       go false e = let ne = eqb-false (s .queue .len) 0 e in law-turn ts s good (omega (arith, ne))
 
   -- DEMAND 3, of n turns from a state as set up
-  module _ (known : ℕ) (s₀ : State) (z : SetUp columns costs (R .span) known s₀) (good : Fit s₀) (n : ℕ) where
+  module _ (known : ℕ) (s₀ : State) (z : SetUp columns (R .costs) (R .span) known s₀) (good : Fit s₀) (n : ℕ) where
     run-steps : Chain Steps s₀ ((run (next R) n [] s₀) .turns) ((run (next R) n [] s₀) .state)
     run-steps = run-chain (next R) Steps Fit law n start good
 
-    pub turns-demand : Demand cards (R .span) costs (R .limits) ((run (next R) n [] s₀) .turns)
-    turns-demand = run-demand view columns costs (R .limits) cards (R .span) known z run-steps
+    pub turns-demand : Demand cards (R .span) (R .costs) (R .limits) ((run (next R) n [] s₀) .turns)
+    turns-demand = run-demand view columns (R .costs) (R .limits) cards (R .span) known z run-steps
 
     pub turns-rows : Rows (R .span) known (sumTo cards (columns .lapses s₀)) (sumTo cards (columns .lapses ((run (next R) n [] s₀) .state)))
         (columns .learned ((run (next R) n [] s₀) .state)) (columns .reviewed ((run (next R) n [] s₀) .state)) (columns .correct ((run (next R) n [] s₀) .state)) (columns .introduced ((run (next R) n [] s₀) .state))
         ((run (next R) n [] s₀) .turns)
-    turns-rows = run-rows view columns costs (R .limits) cards (R .span) known z run-steps
+    turns-rows = run-rows view columns (R .costs) (R .limits) cards (R .span) known z run-steps
 
   -- the bound on turns never shows
   pub ends : (s₀ : State) → Fit s₀ → (y : Stop) × (next R ((run (next R) (suc (cards * suc (R .span))) [] s₀) .state) ≡ stops y)

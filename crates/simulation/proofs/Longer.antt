@@ -26,12 +26,13 @@ use Rattle.intervals.specs.declared.Slot.the-variants as slot
 use Rattle.intervals.specs.Table.{Table}
 use Rattle.intervals.specs.Schedule.{isFull, intervalOf, entered}
 use Rattle.intervals.proofs.Laws.{Twin}
+use Rattle.events.specs.Drawn.{Drawn}
 use Rattle.simulation.specs.declared.Refusal.the-variants as refusal
 use Rattle.simulation.specs.declared.Stop.{Stop}
 use Rattle.simulation.specs.declared.Stop.the-variants as stop
 use Rattle.simulation.specs.State.{State, cardIn, withTable}
 use Rattle.simulation.specs.Rules.{Rules}
-use Rattle.simulation.specs.Turn.{refuses, turnAs, kindAs, retired, postponed, handled, handleAs, eventAs, handle, orElse, act, turnOf, next}
+use Rattle.simulation.specs.Turn.{refuses, turnAs, eventTurn, retired, postponed, handled, handleAs, eventAs, handle, orElse, act, turnOf, next}
 use Rattle.simulation.proofs.Slots.{Slots}
 
 -- the same state but for the table, which holds the same and is as long or longer
@@ -43,14 +44,14 @@ abbrev pub IsEnd : Stop → Type 0
 IsEnd x = x ≡ stop.Ended
 
 module _ (R : Rules) (laws : Slots (R .model)) where
-  abbrev Follow : Next (Turn Float) State Stop → Next (Turn Float) State Stop → Type 0
+  abbrev Follow : Next (Turn Drawn) State Stop → Next (Turn Drawn) State Stop → Type 0
   Follow = Follows Alike IsEnd
 
   module _ (s : State) (t : Table) (w : Twin (s .table) t) where
     abbrev s′ : State
     s′ = withTable s t
 
-    handle-some : (r : State) (c : ℕ) (k : Card) (new : Bool) (d : ℕ) (y : Memory) (x : Slot) → isFull x ≡ false → handleAs R r c k new d y x ≡ takes (turnAs c d (kindAs new y)) (handled R r c k new d y x)
+    handle-some : (r : State) (c : ℕ) (k : Card) (new : Bool) (d : ℕ) (y : Memory) (x : Slot) → isFull x ≡ false → handleAs R r c k new d y x ≡ takes (eventTurn R r c k new d y) (handled R r c k new d y x)
     handle-some r c k new d y (slot.Keep v) e = refl
     handle-some r c k new d y (slot.Enter p a b v) e = refl
     handle-some r c k new d y slot.Full e = absurd (true≢false e)

@@ -37,7 +37,7 @@ module _ (g : SimulatorConfig) (x : Scalars) (fair : (s r : Float) → Fair (x .
 
   -- the same model without a table
   abbrev pub untabled : Model
-  untabled = record { chance = modelOf g x .chance; event = modelOf g x .event; slot = λ t s r. slot.Keep (x .interval s r (g .«max_ivl»)) }
+  untabled = record { chance = modelOf g x .chance; event = modelOf g x .event; ratings = modelOf g x .ratings; slot = λ t s r. slot.Keep (x .interval s r (g .«max_ivl»)) }
 
   pub plain-slots : Slots untabled
   plain-slots = record { fair = λ t h s r e. fair s r; sound = λ t ok s r. ok; twins = λ t t′ w s r e. (refl, refl, w) }

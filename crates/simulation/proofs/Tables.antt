@@ -24,6 +24,7 @@ use Rattle.intervals.specs.declared.Slot.{Slot}
 use Rattle.intervals.specs.declared.Slot.the-variants as slot
 use Rattle.intervals.specs.Schedule.{entered}
 use Rattle.intervals.proofs.Laws.{Sound}
+use Rattle.events.specs.Drawn.{Drawn}
 use Rattle.simulation.specs.declared.Refusal.the-variants as refusal
 use Rattle.simulation.specs.declared.Stop.{Stop}
 use Rattle.simulation.specs.declared.Stop.the-variants as stop
@@ -34,7 +35,7 @@ use Rattle.simulation.proofs.Slots.{Slots}
 
 module _ (R : Rules) (laws : Slots (R .model)) where
   -- what a turn leaves of the table
-  abbrev After : Next (Turn Float) State Stop → Type 0
+  abbrev After : Next (Turn Drawn) State Stop → Type 0
   After (takes t s) = Sound (s .table)
   After (stops x) = Unit {0}
 
@@ -84,11 +85,11 @@ module _ (R : Rules) (laws : Slots (R .model)) where
         go false = act-after c k d (choiceOf (R .span) (R .lapse-limit) (R .limits) d k (learnedAt (s .days) d) (reviewedAt (s .days) d) (costAt (s .costs) d))
 
   -- after any number of turns
-  pub run-sound : (n : ℕ) (ts : List (Turn Float)) (s : State) → Sound (s .table) → Sound ((run (next R) n ts s) .state .table)
+  pub run-sound : (n : ℕ) (ts : List (Turn Drawn)) (s : State) → Sound (s .table) → Sound ((run (next R) n ts s) .state .table)
   run-sound zero ts s ok = ok
   run-sound (suc n) ts s ok = go (next R s) refl (turn-after s ok) (λ t s′ h. run-sound n (t ∷ ts) s′ h)
     where
-      go : (x : Next (Turn Float) State Stop) → next R s ≡ x → After (next R s) → ((t : Turn Float) (s′ : State) → Sound (s′ .table) → Sound ((run (next R) n (t ∷ ts) s′) .state .table))
+      go : (x : Next (Turn Drawn) State Stop) → next R s ≡ x → After (next R s) → ((t : Turn Drawn) (s′ : State) → Sound (s′ .table) → Sound ((run (next R) n (t ∷ ts) s′) .state .table))
           → Sound ((run (next R) (suc n) ts s) .state .table)
       go (takes t s′) e h ih = rw (run-takes (next R) n ts s t s′ e) (ih t s′ (rw e at h))
       go (stops x) e h ih = rw (run-stops (next R) n ts s x e) ok

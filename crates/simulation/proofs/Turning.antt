@@ -10,6 +10,7 @@ use lib.Ieee.{Float}
 use Rattle.turns.specs.Turns.{Turn}
 use Rattle.turns.specs.Run.{Next, takes, stops, Reached, run, stopOf}
 use Rattle.turns.proofs.Loop.{run-one-more, run-enough, stop-takes, stop-stops}
+use Rattle.events.specs.Drawn.{Drawn}
 use Rattle.simulation.proofs.Outcome as outcome-type
 use Rattle.simulation.specs.declared.Outcome.{Outcome}
 use Rattle.simulation.specs.declared.Outcome.the-variants as outcome
@@ -44,7 +45,7 @@ took-both : (a b n r : ℕ) → outcome.Took n r ≡ outcome.Took a b → (n ≡
 took-both a b n r e = (cc, cc)
 
 module _ (R : Rules) (s₀ : State) (bound : ℕ) where
-  abbrev after : ℕ → Reached (Turn Float) State
+  abbrev after : ℕ → Reached (Turn Drawn) State
   after k = run (next R) k [] s₀
 
   -- after k turns
@@ -63,7 +64,7 @@ module _ (R : Rules) (s₀ : State) (bound : ℕ) where
     pub going-on : (n′ r : ℕ) → o ≡ outcome.Took n′ r → Going (state cards′ counts′ rows′ days′ sums′ due′ keys′ intervals′ n′ r) (k + 1)
     going-on n′ r e = go (next R st) refl p
       where
-        go : (x : Next (Turn Float) State Stop) → next R st ≡ x → Turned x st o cards′ counts′ rows′ days′ sums′ due′ keys′ intervals′ → Going (state cards′ counts′ rows′ days′ sums′ due′ keys′ intervals′ n′ r) (k + 1)
+        go : (x : Next (Turn Drawn) State Stop) → next R st ≡ x → Turned x st o cards′ counts′ rows′ days′ sums′ due′ keys′ intervals′ → Going (state cards′ counts′ rows′ days′ sums′ due′ keys′ intervals′ n′ r) (k + 1)
         go (stops x) q h = absurd (stop-took x n′ r (sym (h .outcome) ∙ e))
         go (takes t s′) q h =
             let u = took-both (s′ .queue .len) (s′ .draws) n′ r (sym e ∙ h .outcome) in
@@ -71,8 +72,8 @@ module _ (R : Rules) (s₀ : State) (bound : ℕ) where
             let one : after (k + 1) ≡ record { turns = t ∷ (after k) .turns; state = s′ } = run-one-more (next R) k [] s₀ t s′ q′ in
             let now : state cards′ counts′ rows′ days′ sums′ due′ keys′ intervals′ n′ r ≡ s′ = state-is s′ cards′ counts′ rows′ days′ sums′ due′ keys′ intervals′ n′ r (h .lists) (u .0) (u .1) in
             record {
-              at = now ∙ sym (ap (λ (z : Reached (Turn Float) State). z .state) one);
-              many = ap (λ (z : Reached (Turn Float) State). length (z .turns)) one ∙ omega (arith, i .many);
+              at = now ∙ sym (ap (λ (z : Reached (Turn Drawn) State). z .state) one);
+              many = ap (λ (z : Reached (Turn Drawn) State). length (z .turns)) one ∙ omega (arith, i .many);
               within = omega arith;
               left = ap (λ (z : State). stopOf (next R) stop.Ended (bound - (k + 1)) z) now ∙ sym (stop-takes (next R) stop.Ended (bound - (k + 1)) st t s′ q) ∙ sym (ap (λ (z : ℕ). stopOf (next R) stop.Ended z st) one-left) ∙ i .left;
             }
@@ -81,17 +82,17 @@ module _ (R : Rules) (s₀ : State) (bound : ℕ) where
         → Ran R s₀ bound (record { stop = z; turns = k; draws = st .draws }) cards′ counts′ rows′ days′ sums′ due′ keys′ intervals′
     going-stops t z ez = go (next R st) refl p
       where
-        go : (x : Next (Turn Float) State Stop) → next R st ≡ x → Turned x st o cards′ counts′ rows′ days′ sums′ due′ keys′ intervals′
+        go : (x : Next (Turn Drawn) State Stop) → next R st ≡ x → Turned x st o cards′ counts′ rows′ days′ sums′ due′ keys′ intervals′
             → Ran R s₀ bound (record { stop = z; turns = k; draws = st .draws }) cards′ counts′ rows′ days′ sums′ due′ keys′ intervals′
         go (takes u s′) q h = absurd (took-tag o (s′ .queue .len) (s′ .draws) t (h .outcome))
         go (stops x) q h =
             let q′ : next R ((after k) .state) ≡ stops x = rw (← i .at) q in
             let one : after bound ≡ after k = run-enough (next R) k bound [] s₀ x (i .within) q′ in
-            let s : st ≡ (after bound) .state = i .at ∙ sym (ap (λ (z : Reached (Turn Float) State). z .state) one) in
+            let s : st ≡ (after bound) .state = i .at ∙ sym (ap (λ (z : Reached (Turn Drawn) State). z .state) one) in
             let y : stopOf (next R) stop.Ended bound s₀ ≡ x = sym (i .left) ∙ ap (λ (z : ℕ). stopOf (next R) stop.Ended z st) one-left ∙ stop-stops (next R) stop.Ended (bound - (k + 1)) st x q in
             record {
               stop-is = ez ∙ ap stopIn (h .outcome) ∙ sym y;
-              turns = sym (ap (λ (z : Reached (Turn Float) State). length (z .turns)) one ∙ i .many);
+              turns = sym (ap (λ (z : Reached (Turn Drawn) State). length (z .turns)) one ∙ i .many);
               draws = ap (λ (z : State). z .draws) s;
               lists = subst (λ (z : State). Lists z cards′ counts′ rows′ days′ sums′ due′ keys′ intervals′) s (h .lists);
             }

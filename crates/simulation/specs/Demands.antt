@@ -3,15 +3,15 @@ use Prim.Native.Nat.{ℕ, _≤_}
 use mathlib.Core.Path.{_≡_}
 use mathlib.Core.List.{List, []}
 use lib.ListN.{length, getD}
-use lib.Ieee.{Float}
 use Rattle.turns.specs.Sums.{sumTo}
 use Rattle.turns.specs.Turns.{Turn, Demand, Rows}
 use Rattle.days.specs.Counts.{learnedAt, reviewedAt, correctAt, introducedAt}
+use Rattle.events.specs.Drawn.{Drawn}
 use Rattle.simulation.specs.declared.Progress.{Progress}
 use Rattle.simulation.specs.declared.Answer.{Answer}
 use Rattle.simulation.specs.declared.Answer.the-variants as answer
 use Rattle.simulation.specs.State.{State, withTable}
-use Rattle.simulation.specs.Rules.{Rules, costs}
+use Rattle.simulation.specs.Rules.{Rules}
 use Rattle.simulation.specs.Entry.{Inputs}
 use Rattle.simulation.specs.SetUp.{known, setUp}
 use Rattle.simulation.specs.Simulate.{Result, ran}
@@ -24,7 +24,7 @@ Finished r = (p : Progress) × (r ≡ answer.Finished p)
 abbrev pub cardsOf : Inputs → State → ℕ
 cardsOf i s = setUp i s .queue .len
 
-abbrev pub turnsOf : Rules → Inputs → State → List (Turn Float)
+abbrev pub turnsOf : Rules → Inputs → State → List (Turn Drawn)
 turnsOf R i s = (ran R (setUp i s)) .turns
 
 -- the lapses of card c
@@ -33,7 +33,7 @@ lapsesAt counts c = getD (getD counts c []) 1 0
 
 -- of a run by any rules
 pub record DemandThree (R : Rules) (i : Inputs) (s : State) (counts days : List (List ℕ)) : Type 0 where
-  pub demand : Demand (cardsOf i s) (R .span) costs (R .limits) (turnsOf R i s)
+  pub demand : Demand (cardsOf i s) (R .span) (R .costs) (R .limits) (turnsOf R i s)
   pub rows :
       Rows (R .span) (known (i .existing) (i .existing-counts) (length (i .existing)))
       (sumTo (cardsOf i s) (lapsesAt (setUp i s .counts))) (sumTo (cardsOf i s) (lapsesAt counts))

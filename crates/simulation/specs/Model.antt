@@ -12,6 +12,7 @@ use Rattle.model.specs.Kept as Kept
 use Rattle.events.specs.declared.Event.{Event}
 use Rattle.events.specs.Scalars.{Scalars}
 use Rattle.events.specs.Events.{eventOf}
+use Rattle.events.specs.Drawn.{Drawn, ratingsOf}
 use Rattle.intervals.specs.declared.Slot.{Slot}
 use Rattle.intervals.specs.Bucket.{stabilityBucket, retentionBucket}
 use Rattle.intervals.specs.Table.{Table}
@@ -22,6 +23,8 @@ pub record Model : Type 0 where
   pub chance : Float → Float → Float
   -- what an event does to a card, new or not, on a day, by a way to draw and from a state of the draws
   pub event : DrawRule → Card → Bool → ℕ → ℕ → Event
+  -- and the ratings that are drawn in it
+  pub ratings : DrawRule → Card → Bool → ℕ → ℕ → Drawn
   -- the interval for a stability and a retention: one that the table holds, a new one and its place, or none where the table is full (refusal 8);
   -- a model without a table keeps the interval that it computes
   pub slot : Table → Float → Float → Slot
@@ -31,6 +34,7 @@ abbrev pub modelOf : SimulatorConfig → Scalars → Model
 modelOf g x = record {
   chance = x .chance;
   event = λ w. eventOf w g x;
+  ratings = λ w. ratingsOf w g x;
   slot = λ t s r. slotIn (λ v. certifies (λ d. x .chance d s) s r v (g .«max_ivl»)) (x .interval s r (g .«max_ivl»)) t (stabilityBucket s) (retentionBucket r);
 }
 

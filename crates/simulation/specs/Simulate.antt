@@ -6,6 +6,7 @@ use lib.Ieee.{Float}
 use Rattle.turns.specs.Turns.{Turn}
 use Rattle.turns.specs.Run.{Reached, run, stopOf}
 use Rattle.events.specs.Scalars.{plain}
+use Rattle.events.specs.Drawn.{Drawn}
 use Rattle.simulation.specs.declared.Stop.{Stop}
 use Rattle.simulation.specs.declared.Stop.the-variants as stop
 use Rattle.simulation.specs.declared.Check.{Check}
@@ -41,7 +42,7 @@ module _ (R : Rules) where
   bound s = suc (s .queue .len * suc (R .span))
 
   -- the turns, latest first, and the state that they lead to
-  unfoldable pub ran : State → Reached (Turn Float) State
+  unfoldable pub ran : State → Reached (Turn Drawn) State
   ran s = run (next R) (bound s) [] s
 
   unfoldable pub finished : State → Result

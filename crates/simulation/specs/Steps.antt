@@ -4,7 +4,7 @@ use mathlib.Core.Bool.{Bool, true, false}
 use mathlib.Core.List.{List, []}
 use mathlib.Core.Path.{_≡_}
 use lib.ListN.{length}
-use lib.Ieee.{Float, binary32, add}
+use lib.Ieee.{Float}
 use Rattle.turns.specs.Turns.{Turn}
 use Rattle.turns.specs.Run.{Next, takes, stops, run, stopOf}
 use Rattle.cards.specs.declared.Card.{Card}
@@ -15,6 +15,7 @@ use Rattle.days.specs.Sums.{Summed, costColumn, heldColumn, payOn}
 use Rattle.days.specs.Due.{moveDue, noneDue}
 use Rattle.events.specs.declared.Memory.{Memory}
 use Rattle.queue.specs.Queue.{queue, frontChanged, popped, pushed}
+use Rattle.events.specs.Drawn.{Drawn}
 use Rattle.simulation.specs.declared.Outcome.{Outcome}
 use Rattle.simulation.specs.declared.Reach.{Reach}
 use Rattle.simulation.specs.declared.Stop.{Stop}
@@ -33,16 +34,16 @@ stopIn (outcome.Took n r) = stop.Ended
 stopIn (outcome.Stopped x) = x
 
 -- a turn taken tells the queue's length and the state of the draws after it
-abbrev pub outcomeOf : Next (Turn Float) State Stop → Outcome
+abbrev pub outcomeOf : Next (Turn Drawn) State Stop → Outcome
 outcomeOf (takes t s) = outcome.Took (s .queue .len) (s .draws)
 outcomeOf (stops x) = outcome.Stopped x
 
-abbrev pub afterOf : State → Next (Turn Float) State Stop → State
+abbrev pub afterOf : State → Next (Turn Drawn) State Stop → State
 afterOf s (takes t s′) = s′
 afterOf s (stops x) = s
 
 -- the outcome, and the lists as the turn leaves them: untouched where it stops
-pub record Turned (n : Next (Turn Float) State Stop) (s : State) (r : Outcome) (cards : List (List Float)) (counts rows days : List (List ℕ)) (sums : List (List Float)) (due : List ℕ) (keys : List (List ℕ)) (intervals : List Float) : Type 0 where
+pub record Turned (n : Next (Turn Drawn) State Stop) (s : State) (r : Outcome) (cards : List (List Float)) (counts rows days : List (List ℕ)) (sums : List (List Float)) (due : List ℕ) (keys : List (List ℕ)) (intervals : List Float) : Type 0 where
   pub outcome : r ≡ outcomeOf n
   pub lists : Lists (afterOf s n) cards counts rows days sums due keys intervals
 
@@ -68,7 +69,7 @@ pub record RetireStep (R : Rules) (k : Card) (len draws : ℕ) (sums : List (Lis
 
 pub record DaysWritten (R : Rules) (k : Card) (new : Bool) (d : ℕ) (x : Memory) (days : List (List ℕ)) (sums : List (List Float)) (days′ : List (List ℕ)) (sums′ : List (List Float)) : Type 0 where
   pub days-are : days′ ≡ countEvent (R .span) days new d (x .recalled)
-  pub sums-are : Summed (payOn (λ x y. add binary32 x y) (costColumn sums) d (x .cost)) (holdCard (R .model) (heldColumn sums) k d) sums′
+  pub sums-are : Summed (payOn (R .costs .plus) (costColumn sums) d (x .cost)) (holdCard (R .model) (heldColumn sums) k d) sums′
 
 pub record CardWritten (c : ℕ) (k : Card) (len : ℕ) (cards : List (List Float)) (counts rows : List (List ℕ)) (cards′ : List (List Float)) (counts′ rows′ : List (List ℕ)) : Type 0 where
   pub cards-are : cards′ ≡ writeFloats cards c k

@@ -5,7 +5,7 @@ use mathlib.Core.List.{List}
 use lib.Dec.{eqb}
 use lib.IntN.{pos}
 use lib.Ieee.{Float, ofBits, binary32, add, ofInt, toUnsigned}
-use Rattle.turns.specs.Turns.{Kind, learn, review, putOff, retire, Turn}
+use Rattle.turns.specs.Turns.{Kind, putOff, retire, Turn}
 use Rattle.turns.specs.Run.{Next, takes, stops}
 use Rattle.cards.specs.declared.Card.{Card}
 use Rattle.cards.specs.declared.Choice.{Choice}
@@ -19,6 +19,7 @@ use Rattle.days.specs.Due.{addDue, moveDue, noneDue}
 use Rattle.events.specs.declared.Memory.{Memory}
 use Rattle.events.specs.declared.Event.{Event}
 use Rattle.events.specs.declared.Event.the-variants as event
+use Rattle.events.specs.Drawn.{Drawn, kindAs}
 use Rattle.queue.specs.Queue.{front, frontChanged, popped}
 use Rattle.intervals.specs.declared.Slot.{Slot}
 use Rattle.intervals.specs.declared.Slot.the-variants as slot
@@ -32,7 +33,7 @@ use Rattle.simulation.specs.Model.{Model}
 use Rattle.simulation.specs.Rules.{Rules}
 
 -- a turn that is refused
-abbrev pub refuses : Refusal → Next (Turn Float) State Stop
+abbrev pub refuses : Refusal → Next (Turn Drawn) State Stop
 refuses r = stops (stop.Refused r)
 
 -- a card put off from day d
@@ -61,13 +62,8 @@ eventCard k new m d v = record {
   lapses = cond new (k .lapses) (cond (m .recalled) (k .lapses) (raised (k .lapses)));
 }
 
--- the turn of card c on day d, with its cost where it is an event
-abbrev pub turnAs : ℕ → ℕ → Kind Float → Turn Float
+abbrev pub turnAs : ℕ → ℕ → Kind Drawn → Turn Drawn
 turnAs c d kind = record { card = c; day = d; kind = kind }
-
-abbrev pub kindAs : Bool → Memory → Kind Float
-kindAs true m = learn (m .cost)
-kindAs false m = review (m .recalled) (m .cost)
 
 -- the held sums with a card's chances from its last date up to day e, which is left out; a new card has none
 unfoldable pub holdCard : Model → List Float → Card → ℕ → List Float
@@ -75,7 +71,7 @@ holdCard m held k e =
     cond (newOf (k .«last_date»)) held
     (let from = toUnsigned 32 (k .«last_date») in holdFrom (λ t. m .chance t (k .stability)) held (e - from) from (k .«last_date»))
 
-abbrev pub orElse : Bool → Next (Turn Float) State Stop → Next (Turn Float) State Stop → Next (Turn Float) State Stop
+abbrev pub orElse : Bool → Next (Turn Drawn) State Stop → Next (Turn Drawn) State Stop → Next (Turn Drawn) State Stop
 orElse true a b = a
 orElse false a b = b
 
@@ -92,6 +88,10 @@ module _ (R : Rules) where
       (withQueue (frontChanged (s .queue) (keyOf later))
       (withDue (moveDue (R .span) (s .due) (newOf (k .«last_date»)) d) s))
 
+  -- the turn of an event of card c, k, on day d, with the ratings that are drawn
+  abbrev pub eventTurn : State → ℕ → Card → Bool → ℕ → Memory → Turn Drawn
+  eventTurn s c k new d x = turnAs c d (kindAs new (x .recalled) (R .model .ratings (R .draw) k new d (s .draws)))
+
   -- the first card, c, has an event on day d, which leaves the memory x and the interval of t
   unfoldable pub handled : State → ℕ → Card → Bool → ℕ → Memory → Slot → State
   handled s c k new d x t =
@@ -101,37 +101,37 @@ module _ (R : Rules) where
         counts = writeCounts (s .counts) c k′;
         queue = frontChanged (s .queue) (keyOf k′);
         days = countEvent (R .span) (s .days) new d (x .recalled);
-        costs = payOn (λ x y. add binary32 x y) (s .costs) d (x .cost);
+        costs = payOn (R .costs .plus) (s .costs) d (R .costs .cost (eventTurn s c k new d x));
         held = holdCard (R .model) (s .held) k d;
         due = addDue (R .span) (s .due) (dayOf (k′ .due));
         table = entered (s .table) t;
         draws = x .draws;
       }
 
-  abbrev pub handleAs : State → ℕ → Card → Bool → ℕ → Memory → Slot → Next (Turn Float) State Stop
-  handleAs s c k new d x (slot.Keep v) = takes (turnAs c d (kindAs new x)) (handled s c k new d x (slot.Keep v))
-  handleAs s c k new d x (slot.Enter p a b v) = takes (turnAs c d (kindAs new x)) (handled s c k new d x (slot.Enter p a b v))
+  abbrev pub handleAs : State → ℕ → Card → Bool → ℕ → Memory → Slot → Next (Turn Drawn) State Stop
+  handleAs s c k new d x (slot.Keep v) = takes (eventTurn s c k new d x) (handled s c k new d x (slot.Keep v))
+  handleAs s c k new d x (slot.Enter p a b v) = takes (eventTurn s c k new d x) (handled s c k new d x (slot.Enter p a b v))
   handleAs s c k new d x slot.Full = refuses (refusal.TableFull c)
 
-  abbrev pub eventAs : State → ℕ → Card → Bool → ℕ → Event → Next (Turn Float) State Stop
+  abbrev pub eventAs : State → ℕ → Card → Bool → ℕ → Event → Next (Turn Drawn) State Stop
   eventAs s c k new d (event.Happened x) = handleAs s c k new d x (R .model .slot (s .table) (x .stability) (k .«desired_retention»))
   eventAs s c k new d event.Chance = refuses (refusal.Chance c)
 
-  unfoldable pub handle : State → ℕ → Card → Bool → ℕ → Next (Turn Float) State Stop
+  unfoldable pub handle : State → ℕ → Card → Bool → ℕ → Next (Turn Drawn) State Stop
   handle s c k new d = eventAs s c k new d (R .model .event (R .draw) k new d (s .draws))
 
-  abbrev pub act : State → ℕ → Card → ℕ → Choice → Next (Turn Float) State Stop
+  abbrev pub act : State → ℕ → Card → ℕ → Choice → Next (Turn Drawn) State Stop
   act s c k d choice.Retire = takes (turnAs c d retire) (retired s k)
   act s c k d choice.PutOff = orElse (noneDue (s .due) (newOf (k .«last_date»)) d) (refuses (refusal.DueCount c)) (takes (turnAs c d putOff) (postponed s c k d))
   act s c k d choice.Learn = handle s c k true d
   act s c k d choice.Review = handle s c k false d
 
   -- the turn of card c, which is k and of day d
-  abbrev pub turnOf : State → ℕ → Card → ℕ → Next (Turn Float) State Stop
+  abbrev pub turnOf : State → ℕ → Card → ℕ → Next (Turn Drawn) State Stop
   turnOf s c k d = act s c k d (choiceOf (R .span) (R .lapse-limit) (R .limits) d k (learnedAt (s .days) d) (reviewedAt (s .days) d) (costAt (s .costs) d))
 
   -- a turn looks at the queue's first card; the run ends when the queue is empty
-  unfoldable pub next : State → Next (Turn Float) State Stop
+  unfoldable pub next : State → Next (Turn Drawn) State Stop
   next s =
       orElse (eqb (s .queue .len) 0) (stops stop.Ended)
       (let c = front (s .queue) in let k = cardIn s c in turnOf s c k (dayOf (k .due)))

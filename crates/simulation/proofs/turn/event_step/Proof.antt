@@ -3,6 +3,9 @@ use Rattle.events.specs.Scalars.{kept}
 use Rattle.simulation.specs.Rules.{rulesOf}
 use Rattle.intervals.specs.Schedule.{slotOf}
 use Rattle.simulation.proofs.Glue.{not-happened, chance-is, full-is, handled-is}
+use mathlib.Core.Path.{sym, _∙_}
+use Rattle.draws.specs.Draws.{splitMix}
+use Rattle.events.proofs.Costs.{event-cost}
 use borrow.Author.Needs.{needs}
 use Rattle.simulation.proofs.turn.event_step.Statement.{statement}
 use Rattle.simulation.proofs.turn.event_step.Tie as tie
@@ -117,7 +120,8 @@ returns-3 c =
     (start .args .intervals .now) (start .args .len) (start .args .draws) (start .args .c) (start .args .card) (start .args .new) (start .args .d) _ _
     (at-event-of .event-of .ensures) (at-drawn .drawn .given .1) _ (at-scheduled-interval .scheduled-interval .ensures) _ (at-is-full .is-full .ensures)
     (at-if1 .if1 .left) _ (at-interval-in .interval-in .ensures) _ (at-event-card .event-card .ensures) _ (at-day-of .day-of .ensures) _ _ _ _ _ _ _ _
-    (at-write-card .write-card .ensures) (at-write-days .write-days .ensures) (at-add-due .add-due .ensures) (at-enter-slot .enter-slot .ensures)
+    (at-write-card .write-card .ensures) (at-write-days .write-days .ensures)
+    (event-cost splitMix (start .args .config) (kept (start .args .m)) (start .args .card) (start .args .new) (start .args .d) (start .args .draws) _ (sym (at-event-of .event-of .ensures) ∙ at-drawn .drawn .given .1)) (at-add-due .add-due .ensures) (at-enter-slot .enter-slot .ensures)
 
 pub event-step-spec : {M : Type 1} → statement M
 event-step-spec =
