@@ -18,7 +18,7 @@ use lib.Ieee.Back.{round-whole}
 use lib.Ieee.Positive.{positive, between, le-trans-positive}
 use Rattle.float32.proofs.Cmp.{yes, no, le-pos, gt-pos}
 use Rattle.float32.specs.Float32.{max, clamp}
-use Rattle.cards.specs.Day.{dayOf, nextDue}
+use Rattle.cards.specs.Day.{IntervalInRange, dayOf, nextDue}
 
 -- a value at or above a whole number k has a whole part of k at least
 min-ge : (k a b : ℕ) → k ≤ a → k ≤ b → k ≤ min a b
@@ -238,17 +238,12 @@ unfolding ofInt
 bound f w n k v small t s =
     bound-of f w n k (round f false 1 1) (round f false n 1) v (round f false k 1) small (round-whole f false 1 (omega (arith, pow-pos (prec f)))) (round-whole f false n (omega arith)) (round-whole f false k (omega arith)) t s
 
--- an interval: 1 to 36,500
-pub record Fair (v : Float) : Type 0 where
-  pub least : T (le (ofInt binary32 (pos 1)) v)
-  pub most : T (le v (ofInt binary32 (pos 36500)))
-
-pub day-bound : (n : ℕ) (v : Float) → n < 36500 → Fair v → dayOf (add binary32 (ofInt binary32 (pos n)) v) ≤ 73000
+pub day-bound : (n : ℕ) (v : Float) → n < 36500 → IntervalInRange v → dayOf (add binary32 (ofInt binary32 (pos n)) v) ≤ 73000
 day-bound n v h t = rw (day-cut (add binary32 (ofInt binary32 (pos n)) v)) (let x = bound binary32 32 n 36500 v (omega arith) (t .least) (t .most) in omega arith)
 
-pub one-fair : Fair (ofBits binary32 0x3f80_0000)
+pub one-in-range : IntervalInRange (ofBits binary32 0x3f80_0000)
 unfolding ofBits ofFields ofInt round le lt eq
-one-fair = record { least = tt; most = tt }
+one-in-range = record { least = tt; most = tt }
 
 one-le-one : T (le (ofBits binary32 0x3f80_0000) (ofInt binary32 (pos 1)))
 unfolding ofBits ofFields ofInt round le lt eq
@@ -258,8 +253,8 @@ one-le-one = tt
 pub day-next : (n : ℕ) → n < 16777216 → dayOf (nextDue n) ≡ suc n
 day-next n h =
     let one = ofBits binary32 0x3f80_0000 in
-    let least = later binary32 32 n one (omega arith) (omega arith) (one-fair .least) in
-    let most = bound binary32 32 n 1 one (omega arith) (one-fair .least) one-le-one in
+    let least = later binary32 32 n one (omega arith) (omega arith) (one-in-range .least) in
+    let most = bound binary32 32 n 1 one (omega arith) (one-in-range .least) one-le-one in
     rw (day-cut (nextDue n)) (omega arith)
 
 -- ---- what is 1 or more is not below 1
@@ -273,8 +268,8 @@ not-under (fin false a b) (inf false) h t = unfold lt in refl
 not-under (fin false a b) (fin true m e) h t = absurd (no-neg (fin false a b) m e h t)
 not-under (fin false a b) (fin false m e) h t = unfold lt in le-ltb (m * up e * down b) (a * up b * down e) (le-pos a b m e t)
 
-pub fair-used : (v : Float) → Fair v → lt v (ofBits binary32 0x3f80_0000) ≡ false
-fair-used v f = rw one-is (not-under (ofInt binary32 (pos 1)) v one-value (f .least))
+pub in-range-used : (v : Float) → IntervalInRange v → lt v (ofBits binary32 0x3f80_0000) ≡ false
+in-range-used v f = rw one-is (not-under (ofInt binary32 (pos 1)) v one-value (f .least))
   where
     one-value : HasValue (ofInt binary32 (pos 1)) false 1 1
     one-value = unfold ofInt in round-whole binary32 false 1 (lit≤ tt)

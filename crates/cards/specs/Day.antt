@@ -1,8 +1,9 @@
--- A card's day (its due date in whole days, 0 where that is past), and when it is new. Definitions only.
+-- A card's day (its due date in whole days, 0 where that is past), when it is new, and the range of its intervals. Definitions only.
 use Prim.Native.Nat.{ℕ}
 use mathlib.Core.Bool.{Bool, true}
+use lib.Dec.{T}
 use lib.IntN.{pos}
-use lib.Ieee.{Float, inf, ofBits, binary32, add, ofInt, toUnsigned, eq}
+use lib.Ieee.{Float, inf, ofBits, binary32, add, ofInt, toUnsigned, le, eq}
 use Rattle.float32.specs.Float32.{max}
 
 unfoldable pub dayOf : Float → ℕ
@@ -15,3 +16,8 @@ nextDue d = add binary32 (ofInt binary32 (pos d)) (ofBits binary32 0x3F80_0000)
 -- a card is new while its last date is minus infinity
 unfoldable pub newOf : Float → Bool
 newOf lastDate = eq lastDate (inf true)
+
+-- an interval is 1 to 36,500
+pub record IntervalInRange (v : Float) : Type 0 where
+  pub least : T (le (ofInt binary32 (pos 1)) v)
+  pub most : T (le v (ofInt binary32 (pos 36500)))

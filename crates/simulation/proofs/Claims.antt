@@ -18,9 +18,10 @@ use Rattle.model.specs.Model.{scheduled}
 use Rattle.model.proofs.Laws.{scheduled-between}
 use Rattle.cards.specs.declared.SimulatorConfig.{SimulatorConfig}
 use Rattle.cards.specs.Config.{rowOf, threeOf, weightsOk, transitionsOk, costsOk, intervalOk, configOk}
-use Rattle.cards.proofs.Later.{Fair, one-is}
+use Rattle.cards.proofs.Later.{one-is}
 use Rattle.events.specs.Scalars.{Scalars, plain, kept}
 use Rattle.events.proofs.Loops.{kept-is}
+use Rattle.cards.specs.Day.{IntervalInRange}
 use Rattle.simulation.specs.declared.Refusal.{Refusal}
 use Rattle.simulation.specs.declared.Check.{Check}
 use Rattle.simulation.specs.declared.Check.the-variants as check
@@ -36,9 +37,9 @@ use Rattle.simulation.specs.SetUp.{known, setUp}
 use Rattle.simulation.specs.Simulate.{progress, rulesFor, bound, ran, finished, simulatedBy, simulated}
 use Rattle.simulation.specs.Demands.{Finished, cardsOf, turnsOf, DemandThree}
 use Rattle.simulation.specs.Steps.{Done}
+use Rattle.simulation.specs.Invariant.{RunBounds, StateInvariant}
 use Rattle.simulation.proofs.Slots.{Slots, table-slots}
 use Rattle.simulation.proofs.Views.{columns}
-use Rattle.simulation.proofs.Good.{Fine, Good}
 use Rattle.simulation.proofs.Accepted.{Accepted, accepted, both}
 use Rattle.simulation.proofs.Joining.{set-up-few, set-up-start, set-up-good}
 use Rattle.simulation.proofs.Lawful.{turns-demand, turns-rows, ends}
@@ -56,7 +57,7 @@ most-positive : T (positive (ofBits binary32 0x470E_9400))
 unfolding ofBits ofFields
 most-positive = tt
 
-pub scheduled-fair : (w : List Float) (s r longest : Float) → intervalOk longest ≡ true → Fair (scheduled w s r longest)
+pub scheduled-fair : (w : List Float) (s r longest : Float) → intervalOk longest ≡ true → IntervalInRange (scheduled w s r longest)
 unfolding intervalOk
 scheduled-fair w s r longest e =
     let one : Float = ofBits binary32 0x3F80_0000 in
@@ -99,14 +100,14 @@ pub suits : (w : DrawRule) (i : Inputs) (s : State) → Accepted i s → Suits (
 suits w i s ok = record { span-is = refl; none-is = refl; slots = table-slots (i .config) (plain (i .parameters)) (λ x y. scheduled-fair (i .parameters) x y (i .config .«max_ivl») (interval-ok (i .config) (ok .config-ok))) }
 
 module _ (R : Rules) (i : Inputs) (s : State) (ok : Accepted i s) (fit : Suits R i) where
-  fine : Fine (R .span) (cardsOf i s)
+  fine : RunBounds (R .span) (cardsOf i s)
   fine = record { some = omega (arith, fit .span-is, ok .span-some); most = omega (arith, fit .span-is, ok .span-most); few = omega (arith, set-up-few i s ok, ok .deck-most) }
 
   begins : SetUp columns (R .costs) (R .span) (known (i .existing) (i .existing-counts) (length (i .existing))) (setUp i s)
   begins = subst (λ (z : ℕ). SetUp columns (R .costs) z (known (i .existing) (i .existing-counts) (length (i .existing))) (setUp i s)) (fit .span-is) (set-up-start i s ok (R .costs) (fit .none-is))
 
-  good : Good (cardsOf i s) (R .span) (setUp i s)
-  good = subst (λ (z : ℕ). Good (cardsOf i s) z (setUp i s)) (fit .span-is) (set-up-good i s ok)
+  good : StateInvariant (cardsOf i s) (R .span) (setUp i s)
+  good = subst (λ (z : ℕ). StateInvariant (cardsOf i s) z (setUp i s)) (fit .span-is) (set-up-good i s ok)
 
   -- the bound on turns never shows: the run has stopped
   pub has-stopped : (y : Stop) × (next R ((ran R (setUp i s)) .state) ≡ stops y)

@@ -16,10 +16,10 @@ use Rattle.turns.specs.Turns.{Turn, Kind, putOff, retire}
 use Rattle.turns.proofs.Sums.{sum-same, sum-at, lt-step}
 use Rattle.turns.proofs.Demand.{Step}
 use Rattle.cards.specs.declared.Card.{Card}
-use Rattle.cards.specs.Day.{dayOf, newOf, nextDue}
+use Rattle.cards.specs.Day.{IntervalInRange, dayOf, newOf, nextDue}
 use Rattle.cards.specs.Cards.{noFloats, cardAt, floatsOf, writeFloats}
 use Rattle.cards.specs.Choices.{retires}
-use Rattle.cards.proofs.Later.{day-later, day-in-span, day-bound, Fair, one-fair}
+use Rattle.cards.proofs.Later.{day-later, day-in-span, day-bound, one-in-range}
 use Rattle.queue.specs.Key as key
 use Rattle.queue.specs.Key.{cardPriority, priorityOf}
 use Rattle.queue.specs.Queue.{front}
@@ -31,28 +31,8 @@ use Rattle.events.specs.Drawn.{Drawn}
 use Rattle.simulation.specs.State.{State, cardIn, keyOf}
 use Rattle.simulation.specs.Turn.{putOffCard, postponed, retired, turnAs}
 use Rattle.simulation.specs.Rules.{Rules}
-use Rattle.simulation.proofs.Views.{difficultyIn, dayIn, newIn, keyIn, view, columns}
-
--- of the span and the number of cards, by the entry's refusals
-pub record Fine (span cards : ℕ) : Type 0 where
-  pub some : 0 < span
-  pub most : span ≤ 36500
-  pub few : cards ≤ 65536
-
--- of the state: lists long enough, each queued card with its key, days that fit an i32, used intervals of 1 to 36,500; no more
--- recalls than reviews, no more introduced than cards, a day's events no more than the cards that are now due later, and a lapse a day at most
-pub record Good (cards span : ℕ) (s : State) : Type 0 where
-  pub cards-long : cards ≤ length (s .cards)
-  pub counts-long : cards ≤ length (s .counts)
-  pub days-long : span ≤ length (s .days)
-  pub costs-long : span ≤ length (s .costs)
-  pub keyed : Keyed cards (keyIn (s .cards)) (s .queue)
-  pub near : (c : ℕ) → c < cards → dayIn (s .cards) c < 2147483648
-  pub held : (p : ℕ) → p < places (s .table) → freeAt (s .table) p ≡ false → Fair (valueAt (s .table) p)
-  pub rights : (d : ℕ) → d < span → columns .correct s d ≤ columns .reviewed s d
-  pub intro : (d : ℕ) → d < span → columns .introduced s d + sumTo cards (λ c. bit (newIn (s .cards) c)) ≤ cards
-  pub events : (d : ℕ) → d < span → columns .learned s d + columns .reviewed s d ≤ sumTo cards (λ c. bit (ltb d (dayIn (s .cards) c)))
-  pub lapses : (c : ℕ) → c < cards → columns .lapses s c ≤ 4000000000 + min (dayIn (s .cards) c) span
+use Rattle.simulation.specs.Invariant.{difficultyIn, dayIn, newIn, keyIn, RunBounds, StateInvariant}
+use Rattle.simulation.proofs.Views.{view, columns}
 
 bits-same : (b : Bool) → key.bit b ≡ bit b
 bits-same true = refl
@@ -103,7 +83,7 @@ or-left : (a b : Bool) → (a || b) ≡ false → a ≡ false
 or-left true b e = e
 or-left false b e = refl
 
-module _ (R : Rules) (cards : ℕ) (fine : Fine (R .span) cards) (ts : List (Turn Drawn)) (s : State) (good : Good cards (R .span) s) (some : 0 < s .queue .len) where
+module _ (R : Rules) (cards : ℕ) (fine : RunBounds (R .span) cards) (ts : List (Turn Drawn)) (s : State) (good : StateInvariant cards (R .span) s) (some : 0 < s .queue .len) where
   abbrev c : ℕ
   c = front (s .queue)
 
@@ -120,18 +100,18 @@ module _ (R : Rules) (cards : ℕ) (fine : Fine (R .span) cards) (ts : List (Tur
   StepTo kind s′ = Step view columns (R .costs) (R .limits) cards (R .span) ts s (turnAs c d kind) s′
 
   pub is-card : c < cards
-  is-card = good .keyed .named 0 some
+  is-card = good .order .keyed .named 0 some
 
   pub has-row : c < length fs
-  has-row = omega (arith, is-card, good .cards-long)
+  has-row = omega (arith, is-card, good .lengths .cards-long)
 
   pub first-is : (x : ℕ) → view .queued s x ≡ true → 2 * dayIn fs c + bit (newIn fs c) ≤ 2 * dayIn fs x + bit (newIn fs x)
   first-is x q =
-      key-place (dayIn fs c) (dayIn fs x) (newIn fs c) (newIn fs x) (difficultyIn fs c) (difficultyIn fs x) (good .near c is-card) (good .near x (queued-card x q))
-      (keyed-least cards (keyIn fs) (s .queue) (good .keyed) some x q)
+      key-place (dayIn fs c) (dayIn fs x) (newIn fs c) (newIn fs x) (difficultyIn fs c) (difficultyIn fs x) (good .order .near c is-card) (good .order .near x (queued-card x q))
+      (keyed-least cards (keyIn fs) (s .queue) (good .order .keyed) some x q)
     where
       queued-card : (x : ℕ) → queued (s .queue) x ≡ true → x < cards
-      queued-card = queued-named cards (keyIn fs) (s .queue) (good .keyed)
+      queued-card = queued-named cards (keyIn fs) (s .queue) (good .order .keyed)
 
   pub in-span : retires (R .span) (R .lapse-limit) k ≡ false → d < R .span
   unfolding retires
@@ -168,40 +148,46 @@ module _ (R : Rules) (cards : ℕ) (fine : Fine (R .span) cards) (ts : List (Tur
           is-card = is-card;
           is-queued = front-queued (s .queue) some;
           is-day = refl;
-          does = (put-new c, (h, rw put-own-day (day-later d (ofBits binary32 0x3F80_0000) (omega (arith, fine .most)) (one-fair .least))));
-          others = λ x ne. record { same-day = else-day fs c k′ x ne; same-new = put-new x; same-queued = change-queued (s .queue) (keyOf k′) (good .keyed .sound) x };
+          does = (put-new c, (h, rw put-own-day (day-later d (ofBits binary32 0x3F80_0000) (omega (arith, fine .most)) (one-in-range .least))));
+          others = λ x ne. record { same-day = else-day fs c k′ x ne; same-new = put-new x; same-queued = change-queued (s .queue) (keyOf k′) (good .order .keyed .sound) x };
         };
         least = first-is;
         writes = record { learns = λ i l. omega arith; reviews = λ i l. omega arith; corrects = λ i l. omega arith; introduces = λ i l. omega arith; lapse = omega arith; other-lapses = λ x ne. refl; pays = λ i l. refl };
         tests = tt;
       }
 
-  pub good-put : retires (R .span) (R .lapse-limit) k ≡ false → Good cards (R .span) (postponed R s c k d)
+  pub good-put : retires (R .span) (R .lapse-limit) k ≡ false → StateInvariant cards (R .span) (postponed R s c k d)
   unfolding postponed cardAt
   good-put e = record {
-    cards-long = omega (arith, good .cards-long, write-long fs c k′);
-    counts-long = good .counts-long;
-    days-long = good .days-long;
-    costs-long = good .costs-long;
-    keyed = requeue cards (keyIn fs) (s .queue) (good .keyed) (keyIn fs′) (keyOf k′) some (else-key fs c k′) (sym (own-key fs c k′ has-row));
-    near = λ x l. at x l (ℕ-discrete x c);
-    held = good .held;
-    rights = good .rights;
-    intro = λ i l. omega (arith, good .intro i l, sum-same cards (λ x. bit (newIn fs′ x)) (λ x. bit (newIn fs x)) (λ x u. ap bit (put-new x)));
-    events = λ i l. omega (arith, good .events i l, lt-step i d (dayIn fs′ c) later, sum-at cards c (λ x. bit (ltb i (dayIn fs x))) (λ x. bit (ltb i (dayIn fs′ x))) is-card (λ x ne. ap (λ (y : ℕ). bit (ltb i y)) (else-day fs c k′ x ne)));
-    lapses = λ x l. few x l (ℕ-discrete x c);
+    lengths = record {
+      cards-long = omega (arith, good .lengths .cards-long, write-long fs c k′);
+      counts-long = good .lengths .counts-long;
+      days-long = good .lengths .days-long;
+      costs-long = good .lengths .costs-long;
+    };
+    order = record {
+      keyed = requeue cards (keyIn fs) (s .queue) (good .order .keyed) (keyIn fs′) (keyOf k′) some (else-key fs c k′) (sym (own-key fs c k′ has-row));
+      near = λ x l. at x l (ℕ-discrete x c);
+    };
+    table = good .table;
+    counts = record {
+      recalls = good .counts .recalls;
+      introduced = λ i l. omega (arith, good .counts .introduced i l, sum-same cards (λ x. bit (newIn fs′ x)) (λ x. bit (newIn fs x)) (λ x u. ap bit (put-new x)));
+      events = λ i l. omega (arith, good .counts .events i l, lt-step i d (dayIn fs′ c) later, sum-at cards c (λ x. bit (ltb i (dayIn fs x))) (λ x. bit (ltb i (dayIn fs′ x))) is-card (λ x ne. ap (λ (y : ℕ). bit (ltb i y)) (else-day fs c k′ x ne)));
+      lapses = λ x l. few x l (ℕ-discrete x c);
+    };
   }
     where
       later : d < dayIn fs′ c
-      later = rw put-own-day (day-later d (ofBits binary32 0x3F80_0000) (omega (arith, in-span e, fine .most)) (one-fair .least))
+      later = rw put-own-day (day-later d (ofBits binary32 0x3F80_0000) (omega (arith, in-span e, fine .most)) (one-in-range .least))
 
       few : (x : ℕ) → x < cards → Dec (x ≡ c) → columns .lapses s x ≤ 4000000000 + min (dayIn fs′ x) (R .span)
-      few x l (yes q) = omega (arith, good .lapses x l, later, ap (dayIn fs) q, ap (dayIn fs′) q)
-      few x l (no q) = omega (arith, good .lapses x l, else-day fs c k′ x q)
+      few x l (yes q) = omega (arith, good .counts .lapses x l, later, ap (dayIn fs) q, ap (dayIn fs′) q)
+      few x l (no q) = omega (arith, good .counts .lapses x l, else-day fs c k′ x q)
 
       at : (x : ℕ) → x < cards → Dec (x ≡ c) → dayIn fs′ x < 2147483648
-      at x l (yes q) = let b = day-bound d (ofBits binary32 0x3F80_0000) (omega (arith, in-span e, fine .most)) one-fair in rw (q, put-own-day) (omega arith)
-      at x l (no q) = omega (arith, else-day fs c k′ x q, good .near x l)
+      at x l (yes q) = let b = day-bound d (ofBits binary32 0x3F80_0000) (omega (arith, in-span e, fine .most)) one-in-range in rw (q, put-own-day) (omega arith)
+      at x l (no q) = omega (arith, else-day fs c k′ x q, good .order .near x l)
 
   -- ---- RETIRING
   pub step-retire : StepTo retire (retired R s k)
@@ -211,26 +197,32 @@ module _ (R : Rules) (cards : ℕ) (fine : Fine (R .span) cards) (ts : List (Tur
       is-card = is-card;
       is-queued = front-queued (s .queue) some;
       is-day = refl;
-      does = (refl, pop-front (s .queue) (good .keyed .sound));
-      others = λ x ne. record { same-day = refl; same-new = refl; same-queued = pop-other (s .queue) (good .keyed .sound) x ne };
+      does = (refl, pop-front (s .queue) (good .order .keyed .sound));
+      others = λ x ne. record { same-day = refl; same-new = refl; same-queued = pop-other (s .queue) (good .order .keyed .sound) x ne };
     };
     least = first-is;
     writes = record { learns = λ i l. omega arith; reviews = λ i l. omega arith; corrects = λ i l. omega arith; introduces = λ i l. omega arith; lapse = omega arith; other-lapses = λ x ne. refl; pays = λ i l. refl };
     tests = tt;
   }
 
-  pub good-retire : Good cards (R .span) (retired R s k)
+  pub good-retire : StateInvariant cards (R .span) (retired R s k)
   unfolding retired
   good-retire = record {
-    cards-long = good .cards-long;
-    counts-long = good .counts-long;
-    days-long = good .days-long;
-    costs-long = good .costs-long;
-    keyed = unqueue cards (keyIn fs) (s .queue) (good .keyed);
-    near = good .near;
-    held = good .held;
-    rights = good .rights;
-    intro = good .intro;
-    events = good .events;
-    lapses = good .lapses;
+    lengths = record {
+      cards-long = good .lengths .cards-long;
+      counts-long = good .lengths .counts-long;
+      days-long = good .lengths .days-long;
+      costs-long = good .lengths .costs-long;
+    };
+    order = record {
+      keyed = unqueue cards (keyIn fs) (s .queue) (good .order .keyed);
+      near = good .order .near;
+    };
+    table = good .table;
+    counts = record {
+      recalls = good .counts .recalls;
+      introduced = good .counts .introduced;
+      events = good .counts .events;
+      lapses = good .counts .lapses;
+    };
   }

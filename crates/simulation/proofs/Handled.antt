@@ -18,10 +18,10 @@ use Rattle.turns.specs.Turns.{Turn, learn, review}
 use Rattle.turns.proofs.Sums.{sum-same, sum-at, sum-le, lt-step, and-le, bit-le}
 use Rattle.turns.proofs.Demand.{Step}
 use Rattle.cards.specs.declared.Card.{Card}
-use Rattle.cards.specs.Day.{dayOf, newOf}
+use Rattle.cards.specs.Day.{IntervalInRange, dayOf, newOf}
 use Rattle.cards.specs.Cards.{cardAt, noCounts, writeFloats, writeCounts, countsOf}
 use Rattle.cards.proofs.Basics.{getD-any}
-use Rattle.cards.proofs.Later.{day-later, day-bound, Fair}
+use Rattle.cards.proofs.Later.{day-later, day-bound}
 use Rattle.days.specs.Counts.{raised, learnedAt, reviewedAt, correctAt, introducedAt, learnOn, reviewOn, introduceFrom, countEvent}
 use Rattle.days.specs.Sums.{costAt, payOn}
 use Rattle.days.proofs.Laws.{raised-is, learn-long, learn-learned, learn-reviewed, learn-correct, learn-introduced, from-long, from-learned, from-reviewed, from-correct, from-introduced, review-long, review-learned, review-reviewed, review-introduced, review-correct, pay-long, pay-cost}
@@ -38,8 +38,9 @@ use Rattle.events.specs.Drawn.{Drawn}
 use Rattle.simulation.specs.State.{State, cardIn, keyOf}
 use Rattle.simulation.specs.Turn.{eventCard, turnAs, eventTurn, handled}
 use Rattle.simulation.specs.Rules.{Rules}
-use Rattle.simulation.proofs.Views.{dayIn, newIn, keyIn, lapsesIn, view, columns}
-use Rattle.simulation.proofs.Good.{Fine, Good, write-long, else-key, else-day, else-new, own-day, own-new, own-key, is-card, has-row, first-is}
+use Rattle.simulation.specs.Invariant.{dayIn, newIn, keyIn, lapsesIn, RunBounds, StateInvariant}
+use Rattle.simulation.proofs.Views.{view, columns}
+use Rattle.simulation.proofs.Good.{write-long, else-key, else-day, else-new, own-day, own-new, own-key, is-card, has-row, first-is}
 
 -- a whole number is no minus infinity
 new-of : (x : Float) (n : ℕ) → HasValue x false n 1 → newOf x ≡ false
@@ -67,8 +68,8 @@ module _ (counts : List (List ℕ)) (c : ℕ) (k : Card) where
   else-lapses x ne = ap (λ (l : List ℕ). getD l 1 0) (getD-set-other counts c x (countsOf k) [] ne)
 
 -- a fair interval entered leaves a table of fair intervals
-fair-entered : (t : Table) (x : Slot) → Fair (intervalOf x) → ((p : ℕ) → p < places t → freeAt t p ≡ false → Fair (valueAt t p))
-    → (p : ℕ) → p < places (entered t x) → freeAt (entered t x) p ≡ false → Fair (valueAt (entered t x) p)
+fair-entered : (t : Table) (x : Slot) → IntervalInRange (intervalOf x) → ((p : ℕ) → p < places t → freeAt t p ≡ false → IntervalInRange (valueAt t p))
+    → (p : ℕ) → p < places (entered t x) → freeAt (entered t x) p ≡ false → IntervalInRange (valueAt (entered t x) p)
 fair-entered t (slot.Keep v) f h p l e = h p l e
 fair-entered t slot.Full f h p l e = h p l e
 fair-entered t (slot.Enter q a b v) f h p l e = go (ℕ-discrete p q)
@@ -76,12 +77,12 @@ fair-entered t (slot.Enter q a b v) f h p l e = go (ℕ-discrete p q)
     within : p < places t
     within = omega (arith, l, enter-places t q a b v)
 
-    go : Dec (p ≡ q) → Fair (valueAt (entered t (slot.Enter q a b v)) p)
+    go : Dec (p ≡ q) → IntervalInRange (valueAt (entered t (slot.Enter q a b v)) p)
     go (yes x) = rw x (rw (value-same t q a b v (omega (arith, within, x))) f)
     go (no x) = rw (value-other t q a b v p x) (h p within (sym (free-other t q a b v p x) ∙ e))
 
-module _ (R : Rules) (cards : ℕ) (fine : Fine (R .span) cards) (ts : List (Turn Drawn)) (s : State) (good : Good cards (R .span) s) (some : 0 < s .queue .len)
-    (new : Bool) (x : Memory) (t : Slot) (fair : Fair (intervalOf t)) (h : dayOf (cardIn s (front (s .queue)) .due) < R .span) where
+module _ (R : Rules) (cards : ℕ) (fine : RunBounds (R .span) cards) (ts : List (Turn Drawn)) (s : State) (good : StateInvariant cards (R .span) s) (some : 0 < s .queue .len)
+    (new : Bool) (x : Memory) (t : Slot) (fair : IntervalInRange (intervalOf t)) (h : dayOf (cardIn s (front (s .queue)) .due) < R .span) where
   abbrev c : ℕ
   c = front (s .queue)
 
@@ -121,32 +122,32 @@ module _ (R : Rules) (cards : ℕ) (fine : Fine (R .span) cards) (ts : List (Tur
   onward = rw due-day (day-later d (intervalOf t) (omega (arith, h, fine .most)) (fair .least))
 
   keyed′ : Keyed cards (keyIn fs′) (frontChanged (s .queue) (keyOf k′))
-  keyed′ = requeue cards (keyIn fs) (s .queue) (good .keyed) (keyIn fs′) (keyOf k′) some (else-key fs c k′) (sym (own-key fs c k′ row))
+  keyed′ = requeue cards (keyIn fs) (s .queue) (good .order .keyed) (keyIn fs′) (keyOf k′) some (else-key fs c k′) (sym (own-key fs c k′ row))
 
   near′ : (i : ℕ) → i < cards → dayIn fs′ i < 2147483648
   near′ i l = at (ℕ-discrete i c)
     where
       at : Dec (i ≡ c) → dayIn fs′ i < 2147483648
       at (yes q) = let b = day-bound d (intervalOf t) (omega (arith, h, fine .most)) fair in rw q (rw due-day (omega arith))
-      at (no q) = omega (arith, else-day fs c k′ i q, good .near i l)
+      at (no q) = omega (arith, else-day fs c k′ i q, good .order .near i l)
 
   pays : (y : Float) (i : ℕ) → i < R .span → costAt (payOn (R .costs .plus) (s .costs) d y) i ≡ cond (eqb d i) (R .costs .plus (costAt (s .costs) i) y) (costAt (s .costs) i)
-  pays y i l = pay-cost (R .costs .plus) (s .costs) d i y (omega (arith, h, good .costs-long))
+  pays y i l = pay-cost (R .costs .plus) (s .costs) d i y (omega (arith, h, good .lengths .costs-long))
 
   -- what is drawn
   abbrev rs : Drawn
   rs = R .model .ratings (R .draw) k new d (s .draws)
 
   lapses-now : lapsesIn (writeCounts (s .counts) c k′) c ≡ k′ .lapses
-  lapses-now = own-lapses (s .counts) c k′ (omega (arith, mine, good .counts-long))
+  lapses-now = own-lapses (s .counts) c k′ (omega (arith, mine, good .lengths .counts-long))
 
   lapses-then : k .lapses ≡ lapsesIn (s .counts) c
   unfolding cardAt
-  lapses-then = ap (λ (l : List ℕ). getD l 1 0) (getD-any (s .counts) c noCounts [] (omega (arith, mine, good .counts-long)))
+  lapses-then = ap (λ (l : List ℕ). getD l 1 0) (getD-any (s .counts) c noCounts [] (omega (arith, mine, good .lengths .counts-long)))
 
   -- a day's events are no more than the cards: each has put its card to a later day
   few-events : (i : ℕ) → i < R .span → learnedAt rows i + reviewedAt rows i ≤ 65536
-  few-events i l = omega (arith, good .events i l, sum-le cards 1 (λ j. bit (ltb i (dayIn fs j))) (λ j u. bit-le (ltb i (dayIn fs j))), fine .few)
+  few-events i l = omega (arith, good .counts .events i l, sum-le cards 1 (λ j. bit (ltb i (dayIn fs j))) (λ j u. bit-le (ltb i (dayIn fs j))), fine .few)
 
   later-cards : (i : ℕ) → sumTo cards (λ j. bit (ltb i (dayIn fs j))) + bit (eqb d i) ≤ sumTo cards (λ j. bit (ltb i (dayIn fs′ j)))
   unfolding cardAt
@@ -155,7 +156,7 @@ module _ (R : Rules) (cards : ℕ) (fine : Fine (R .span) cards) (ts : List (Tur
   -- a lapse a day at most
   lapses-then-few : k .lapses ≤ 4000000000 + d
   unfolding cardAt
-  lapses-then-few = omega (arith, good .lapses c mine, lapses-then)
+  lapses-then-few = omega (arith, good .counts .lapses c mine, lapses-then)
 
   lapses-few : (n : ℕ) → n ≤ 1 → lapsesIn (writeCounts (s .counts) c k′) c ≡ lapsesIn (s .counts) c + n
       → (i : ℕ) → i < cards → lapsesIn (writeCounts (s .counts) c k′) i ≤ 4000000000 + min (dayIn fs′ i) (R .span)
@@ -163,8 +164,8 @@ module _ (R : Rules) (cards : ℕ) (fine : Fine (R .span) cards) (ts : List (Tur
   lapses-few n few e i l = at (ℕ-discrete i c)
     where
       at : Dec (i ≡ c) → lapsesIn (writeCounts (s .counts) c k′) i ≤ 4000000000 + min (dayIn fs′ i) (R .span)
-      at (yes q) = rw q (omega (arith, e, few, good .lapses c mine, onward, h))
-      at (no q) = omega (arith, good .lapses i l, else-lapses (s .counts) c k′ i q, else-day fs c k′ i q)
+      at (yes q) = rw q (omega (arith, e, few, good .counts .lapses c mine, onward, h))
+      at (no q) = omega (arith, good .counts .lapses i l, else-lapses (s .counts) c k′ i q, else-day fs c k′ i q)
 
   -- ---- A LEARNING
   module _ (en : newIn fs c ≡ true) (is : new ≡ true) (l-ok : learnedAt rows d < R .limits .learns d) (b-ok : R .limits .counted d ≡ true → learnedAt rows d + reviewedAt rows d < R .limits .reviews d)
@@ -173,7 +174,7 @@ module _ (R : Rules) (cards : ℕ) (fine : Fine (R .span) cards) (ts : List (Tur
     rows′ = introduceFrom (learnOn rows d) (R .span - d) d
 
     learn-row : (i : ℕ) → learnedAt rows′ i ≡ learnedAt rows i + bit (eqb d i)
-    learn-row i = from-learned (learnOn rows d) (R .span - d) d i ∙ learn-learned rows d i (omega (arith, h, good .days-long)) (omega (arith, few-events d h))
+    learn-row i = from-learned (learnOn rows d) (R .span - d) d i ∙ learn-learned rows d i (omega (arith, h, good .lengths .days-long)) (omega (arith, few-events d h))
 
     review-row : (i : ℕ) → reviewedAt rows′ i ≡ reviewedAt rows i
     review-row i = from-reviewed (learnOn rows d) (R .span - d) d i ∙ learn-reviewed rows d i
@@ -183,7 +184,7 @@ module _ (R : Rules) (cards : ℕ) (fine : Fine (R .span) cards) (ts : List (Tur
 
     introduced-row : (i : ℕ) → i < R .span → introducedAt rows′ i ≡ introducedAt rows i + bit (ltb d (suc i))
     introduced-row i l =
-        from-introduced (R .span - d) d (learnOn rows d) (λ j u v. omega (arith, learn-introduced rows d j, good .intro j (omega (arith, h)), fine .few)) (omega (arith, learn-long rows d, h, good .days-long)) i (omega (arith, h))
+        from-introduced (R .span - d) d (learnOn rows d) (λ j u v. omega (arith, learn-introduced rows d j, good .counts .introduced j (omega (arith, h)), fine .few)) (omega (arith, learn-long rows d, h, good .lengths .days-long)) i (omega (arith, h))
         ∙ ap (λ (n : ℕ). n + bit (ltb d (suc i))) (learn-introduced rows d i)
 
     same-lapses : lapsesIn (writeCounts (s .counts) c k′) c ≡ lapsesIn (s .counts) c
@@ -198,7 +199,7 @@ module _ (R : Rules) (cards : ℕ) (fine : Fine (R .span) cards) (ts : List (Tur
         is-queued = front-queued (s .queue) some;
         is-day = refl;
         does = (en, dated, (h, onward));
-        others = λ i ne. record { same-day = else-day fs c k′ i ne; same-new = else-new fs c k′ i ne; same-queued = change-queued (s .queue) (keyOf k′) (good .keyed .sound) i };
+        others = λ i ne. record { same-day = else-day fs c k′ i ne; same-new = else-new fs c k′ i ne; same-queued = change-queued (s .queue) (keyOf k′) (good .order .keyed .sound) i };
       };
       least = first-is R cards fine ts s good some;
       writes = record {
@@ -216,20 +217,26 @@ module _ (R : Rules) (cards : ℕ) (fine : Fine (R .span) cards) (ts : List (Tur
     fewer : sumTo cards (λ i. bit (newIn fs′ i)) + 1 ≡ sumTo cards (λ i. bit (newIn fs i))
     fewer = omega (arith, sum-at cards c (λ i. bit (newIn fs i)) (λ i. bit (newIn fs′ i)) mine (λ i ne. ap bit (else-new fs c k′ i ne)), ap bit en, ap bit dated)
 
-    pub good-learn : Good cards (R .span) (handled R s c k true d x t)
+    pub good-learn : StateInvariant cards (R .span) (handled R s c k true d x t)
     unfolding handled countEvent
     good-learn = rw (← is) (record {
-      cards-long = omega (arith, good .cards-long, write-long fs c k′);
-      counts-long = omega (arith, good .counts-long, counts-long (s .counts) c k′);
-      days-long = omega (arith, good .days-long, from-long (learnOn rows d) (R .span - d) d, learn-long rows d);
-      costs-long = omega (arith, good .costs-long, pay-long (R .costs .plus) (s .costs) d (R .costs .cost (turnAs c d (learn rs))));
-      keyed = keyed′;
-      near = near′;
-      held = fair-entered (s .table) t fair (good .held);
-      rights = λ i l. omega (arith, good .rights i l, review-row i, correct-row i);
-      intro = λ i l. omega (arith, good .intro i l, introduced-row i l, fewer, bit-le (ltb d (suc i)));
-      events = λ i l. omega (arith, good .events i l, learn-row i, review-row i, later-cards i);
-      lapses = lapses-few 0 (omega arith) (omega (arith, same-lapses));
+      lengths = record {
+        cards-long = omega (arith, good .lengths .cards-long, write-long fs c k′);
+        counts-long = omega (arith, good .lengths .counts-long, counts-long (s .counts) c k′);
+        days-long = omega (arith, good .lengths .days-long, from-long (learnOn rows d) (R .span - d) d, learn-long rows d);
+        costs-long = omega (arith, good .lengths .costs-long, pay-long (R .costs .plus) (s .costs) d (R .costs .cost (turnAs c d (learn rs))));
+      };
+      order = record {
+        keyed = keyed′;
+        near = near′;
+      };
+      table = fair-entered (s .table) t fair (good .table);
+      counts = record {
+        recalls = λ i l. omega (arith, good .counts .recalls i l, review-row i, correct-row i);
+        introduced = λ i l. omega (arith, good .counts .introduced i l, introduced-row i l, fewer, bit-le (ltb d (suc i)));
+        events = λ i l. omega (arith, good .counts .events i l, learn-row i, review-row i, later-cards i);
+        lapses = lapses-few 0 (omega arith) (omega (arith, same-lapses));
+      };
     })
 
   -- ---- A REVIEW
@@ -238,13 +245,13 @@ module _ (R : Rules) (cards : ℕ) (fine : Fine (R .span) cards) (ts : List (Tur
     rows″ = reviewOn rows d (x .recalled)
 
     in-rows : d < length rows
-    in-rows = omega (arith, h, good .days-long)
+    in-rows = omega (arith, h, good .lengths .days-long)
 
     reviewed-row : (i : ℕ) → reviewedAt rows″ i ≡ reviewedAt rows i + bit (eqb d i)
     reviewed-row i = review-reviewed rows d (x .recalled) i in-rows (omega (arith, few-events d h))
 
     recalled-row : (i : ℕ) → correctAt rows″ i ≡ correctAt rows i + bit (x .recalled && eqb d i)
-    recalled-row i = review-correct rows d (x .recalled) i in-rows (omega (arith, good .rights d h, few-events d h))
+    recalled-row i = review-correct rows d (x .recalled) i in-rows (omega (arith, good .counts .recalls d h, few-events d h))
 
     lapsed : (b : Bool) (n : ℕ) → n < 4294967295 → cond b n (raised n) ≡ n + bit (not b)
     lapsed true n l = omega arith
@@ -262,7 +269,7 @@ module _ (R : Rules) (cards : ℕ) (fine : Fine (R .span) cards) (ts : List (Tur
         is-queued = front-queued (s .queue) some;
         is-day = refl;
         does = (en, dated, (h, onward));
-        others = λ i ne. record { same-day = else-day fs c k′ i ne; same-new = else-new fs c k′ i ne; same-queued = change-queued (s .queue) (keyOf k′) (good .keyed .sound) i };
+        others = λ i ne. record { same-day = else-day fs c k′ i ne; same-new = else-new fs c k′ i ne; same-queued = change-queued (s .queue) (keyOf k′) (good .order .keyed .sound) i };
       };
       least = first-is R cards fine ts s good some;
       writes = record {
@@ -284,18 +291,24 @@ module _ (R : Rules) (cards : ℕ) (fine : Fine (R .span) cards) (ts : List (Tur
         at (yes q) = rw q (dated ∙ sym en)
         at (no q) = else-new fs c k′ i q
 
-    pub good-review : Good cards (R .span) (handled R s c k false d x t)
+    pub good-review : StateInvariant cards (R .span) (handled R s c k false d x t)
     unfolding handled countEvent
     good-review = rw (← is) (record {
-      cards-long = omega (arith, good .cards-long, write-long fs c k′);
-      counts-long = omega (arith, good .counts-long, counts-long (s .counts) c k′);
-      days-long = omega (arith, good .days-long, review-long rows d (x .recalled));
-      costs-long = omega (arith, good .costs-long, pay-long (R .costs .plus) (s .costs) d (R .costs .cost (turnAs c d (review (x .recalled) rs))));
-      keyed = keyed′;
-      near = near′;
-      held = fair-entered (s .table) t fair (good .held);
-      rights = λ i l. omega (arith, good .rights i l, reviewed-row i, recalled-row i, and-le (x .recalled) (eqb d i));
-      intro = λ i l. omega (arith, good .intro i l, review-introduced rows d (x .recalled) i, sum-same cards (λ j. bit (newIn fs′ j)) (λ j. bit (newIn fs j)) (λ j u. ap bit (all-new j)));
-      events = λ i l. omega (arith, good .events i l, review-learned rows d (x .recalled) i, reviewed-row i, later-cards i);
-      lapses = lapses-few (bit (not (x .recalled))) (bit-le (not (x .recalled))) more-lapses;
+      lengths = record {
+        cards-long = omega (arith, good .lengths .cards-long, write-long fs c k′);
+        counts-long = omega (arith, good .lengths .counts-long, counts-long (s .counts) c k′);
+        days-long = omega (arith, good .lengths .days-long, review-long rows d (x .recalled));
+        costs-long = omega (arith, good .lengths .costs-long, pay-long (R .costs .plus) (s .costs) d (R .costs .cost (turnAs c d (review (x .recalled) rs))));
+      };
+      order = record {
+        keyed = keyed′;
+        near = near′;
+      };
+      table = fair-entered (s .table) t fair (good .table);
+      counts = record {
+        recalls = λ i l. omega (arith, good .counts .recalls i l, reviewed-row i, recalled-row i, and-le (x .recalled) (eqb d i));
+        introduced = λ i l. omega (arith, good .counts .introduced i l, review-introduced rows d (x .recalled) i, sum-same cards (λ j. bit (newIn fs′ j)) (λ j. bit (newIn fs j)) (λ j u. ap bit (all-new j)));
+        events = λ i l. omega (arith, good .counts .events i l, review-learned rows d (x .recalled) i, reviewed-row i, later-cards i);
+        lapses = lapses-few (bit (not (x .recalled))) (bit-le (not (x .recalled))) more-lapses;
+      };
     })

@@ -34,8 +34,9 @@ use Rattle.events.specs.Drawn.{Drawn}
 use Rattle.simulation.specs.State.{State}
 use Rattle.simulation.specs.Entry.{Inputs}
 use Rattle.simulation.specs.SetUp.{Deck, filled, newCard, joined, retained, retainCard, retain, known, create, newCards, emptied, dealt, firstCounts, setUp}
-use Rattle.simulation.proofs.Views.{dayIn, newIn, keyIn, lapsesIn, columns}
-use Rattle.simulation.proofs.Good.{Good, write-long, else-key, else-day, else-new, own-day, own-new, own-key}
+use Rattle.simulation.specs.Invariant.{dayIn, newIn, keyIn, lapsesIn, StateInvariant}
+use Rattle.simulation.proofs.Views.{columns}
+use Rattle.simulation.proofs.Good.{write-long, else-key, else-day, else-new, own-day, own-new, own-key}
 use Rattle.simulation.proofs.Handled.{counts-long, own-lapses, else-lapses}
 use Rattle.simulation.proofs.Accepted.{Accepted, both}
 
@@ -289,22 +290,28 @@ module _ (i : Inputs) (s : State) (ok : Accepted i s) where
     cost-none = λ d h. costs-at d h ∙ sym none-is;
   }
 
-  pub set-up-good : Good (setUp i s .queue .len) span (setUp i s)
+  pub set-up-good : StateInvariant (setUp i s .queue .len) span (setUp i s)
   unfolding setUp
   set-up-good =
       let j = all-joined .joining in
       record {
-        cards-long = omega (arith, len-is, all-joined .few, j .cards-are, ok .cards-long);
-        counts-long = omega (arith, len-is, all-joined .few, j .counts-are, ok .counts-long);
-        days-long = omega (arith, ok .days-long, filled-long (firstCounts i) span (s .days));
-        costs-long = omega (arith, ok .costs-long, filled-long (ofBits binary32 0) span (s .costs));
-        keyed = subst (λ (z : ℕ). Keyed z (keyIn (s₁ .cards)) (s₁ .queue)) (sym len-is) (j .fill .keyed);
-        near = λ c l. j .near c (omega (arith, l, len-is));
-        held = λ p l e. absurd (true≢false (sym (all-free (s .table) p l) ∙ e));
-        rights = λ d h. omega (arith, ap (λ (l : List ℕ). getD l 2 0) (row-at d h));
-        intro = λ d h. news d h;
-        events = λ d h. omega (arith, ap (λ (l : List ℕ). getD l 0 0) (row-at d h), ap (λ (l : List ℕ). getD l 1 0) (row-at d h));
-        lapses = λ c l. omega (arith, j .lapses c (omega (arith, l, len-is)));
+        lengths = record {
+          cards-long = omega (arith, len-is, all-joined .few, j .cards-are, ok .cards-long);
+          counts-long = omega (arith, len-is, all-joined .few, j .counts-are, ok .counts-long);
+          days-long = omega (arith, ok .days-long, filled-long (firstCounts i) span (s .days));
+          costs-long = omega (arith, ok .costs-long, filled-long (ofBits binary32 0) span (s .costs));
+        };
+        order = record {
+          keyed = subst (λ (z : ℕ). Keyed z (keyIn (s₁ .cards)) (s₁ .queue)) (sym len-is) (j .fill .keyed);
+          near = λ c l. j .near c (omega (arith, l, len-is));
+        };
+        table = λ p l e. absurd (true≢false (sym (all-free (s .table) p l) ∙ e));
+        counts = record {
+          recalls = λ d h. omega (arith, ap (λ (l : List ℕ). getD l 2 0) (row-at d h));
+          introduced = λ d h. news d h;
+          events = λ d h. omega (arith, ap (λ (l : List ℕ). getD l 0 0) (row-at d h), ap (λ (l : List ℕ). getD l 1 0) (row-at d h));
+          lapses = λ c l. omega (arith, j .lapses c (omega (arith, l, len-is)));
+        };
       }
     where
       news : (d : ℕ) → d < span → getD (getD (filled (firstCounts i) span (s .days)) d []) 3 0 + sumTo (s₁ .queue .len) (λ c. bit (newIn (s₁ .cards) c)) ≤ s₁ .queue .len

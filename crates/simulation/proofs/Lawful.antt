@@ -17,10 +17,9 @@ use Rattle.turns.proofs.Columns.{SetUp}
 use Rattle.turns.proofs.Demand.{Step, run-demand, run-rows}
 use Rattle.turns.proofs.Loop.{Lawful, run-chain, run-ends}
 use Rattle.cards.specs.declared.Card.{Card}
-use Rattle.cards.specs.Day.{dayOf, newOf}
+use Rattle.cards.specs.Day.{IntervalInRange, dayOf, newOf}
 use Rattle.cards.specs.Cards.{cardAt}
 use Rattle.cards.specs.Choices.{retires, blocked, limited, choose, choiceOf}
-use Rattle.cards.proofs.Later.{Fair}
 use Rattle.days.specs.Counts.{learnedAt, reviewedAt}
 use Rattle.days.specs.Sums.{costAt}
 use Rattle.days.specs.Due.{noneDue}
@@ -38,9 +37,10 @@ use Rattle.simulation.specs.declared.Stop.the-variants as stop
 use Rattle.simulation.specs.State.{State, cardIn}
 use Rattle.simulation.specs.Turn.{refuses, turnAs, eventTurn, postponed, handled, handleAs, eventAs, handle, orElse, act, turnOf, next}
 use Rattle.simulation.specs.Rules.{Rules}
+use Rattle.simulation.specs.Invariant.{RunBounds, StateInvariant}
 use Rattle.simulation.proofs.Views.{view, columns}
 use Rattle.simulation.proofs.Slots.{Slots}
-use Rattle.simulation.proofs.Good.{Fine, Good, in-span, step-put, good-put, step-retire, good-retire}
+use Rattle.simulation.proofs.Good.{in-span, step-put, good-put, step-retire, good-retire}
 use Rattle.simulation.proofs.Handled.{step-learn, good-learn, step-review, good-review}
 
 or-left : (a b : Bool) → (a || b) ≡ false → a ≡ false
@@ -55,12 +55,12 @@ and-right : (a b : Bool) → a ≡ true → (a && b) ≡ false → b ≡ false
 and-right true b e h = h
 and-right false b e h = absurd (false≢true e)
 
-module _ (R : Rules) (cards : ℕ) (fine : Fine (R .span) cards) (laws : Slots (R .model)) where
+module _ (R : Rules) (cards : ℕ) (fine : RunBounds (R .span) cards) (laws : Slots (R .model)) where
   abbrev Steps : List (Turn Drawn) → State → Turn Drawn → State → Type 0
   Steps = Step view columns (R .costs) (R .limits) cards (R .span)
 
   abbrev Fit : State → Type 0
-  Fit = Good cards (R .span)
+  Fit = StateInvariant cards (R .span)
 
   module _ (ts : List (Turn Drawn)) (s : State) (good : Fit s) (some : 0 < s .queue .len) where
     abbrev c : ℕ
@@ -82,14 +82,14 @@ module _ (R : Rules) (cards : ℕ) (fine : Fine (R .span) cards) (laws : Slots (
     x = costAt (s .costs) d
 
     -- an event that is not refused is a step, where it is one with any interval that is given
-    law-slot : (new : Bool) (y : Memory) (t : Slot) → (isFull t ≡ false → Fair (intervalOf t))
-        → (Fair (intervalOf t) → Steps ts s (eventTurn R s c k new d y) (handled R s c k new d y t) × Fit (handled R s c k new d y t))
+    law-slot : (new : Bool) (y : Memory) (t : Slot) → (isFull t ≡ false → IntervalInRange (intervalOf t))
+        → (IntervalInRange (intervalOf t) → Steps ts s (eventTurn R s c k new d y) (handled R s c k new d y t) × Fit (handled R s c k new d y t))
         → Lawful Steps Fit ts s (handleAs R s c k new d y t)
     law-slot new y slot.Full f h = tt
     law-slot new y (slot.Keep v) f h = h (f refl)
     law-slot new y (slot.Enter p a b v) f h = h (f refl)
 
-    law-event : (new : Bool) → ((y : Memory) (t : Slot) → Fair (intervalOf t) → Steps ts s (eventTurn R s c k new d y) (handled R s c k new d y t) × Fit (handled R s c k new d y t))
+    law-event : (new : Bool) → ((y : Memory) (t : Slot) → IntervalInRange (intervalOf t) → Steps ts s (eventTurn R s c k new d y) (handled R s c k new d y t) × Fit (handled R s c k new d y t))
         → Lawful Steps Fit ts s (handle R s c k new d)
     unfolding handle
     law-event new h = go (R .model .event (R .draw) k new d (s .draws))
@@ -98,7 +98,7 @@ module _ (R : Rules) (cards : ℕ) (fine : Fine (R .span) cards) (laws : Slots (
         go event.Chance = tt
         go (event.Happened y) =
             let r = k .«desired_retention» in
-            law-slot new y (R .model .slot (s .table) (y .stability) r) (laws .fair (s .table) (good .held) (y .stability) r) (h y (R .model .slot (s .table) (y .stability) r))
+            law-slot new y (R .model .slot (s .table) (y .stability) r) (laws .fair (s .table) (good .table) (y .stability) r) (h y (R .model .slot (s .table) (y .stability) r))
 
     law-learn : retires (R .span) (R .lapse-limit) k ≡ false → blocked (R .limits) d true l r x ≡ false → newOf (k .«last_date») ≡ true → Lawful Steps Fit ts s (handle R s c k true d)
     unfolding blocked cardAt

@@ -1,38 +1,36 @@
 -- What the run asks of a model's slots (`Slots`); that slots of an interval table have it (`table-slots`), and those of a model without one (`plain-slots`).
 use mathlib.Core.Path.{_≡_, refl}
 use mathlib.Core.Bool.{false}
-use Prim.Native.Nat.{ℕ, _<_}
+use Prim.Native.Nat.{ℕ}
 use lib.Ieee.{Float}
 use Rattle.cards.specs.declared.SimulatorConfig.{SimulatorConfig}
-use Rattle.cards.proofs.Later.{Fair, fair-used}
+use Rattle.cards.specs.Day.{IntervalInRange}
+use Rattle.cards.proofs.Later.{in-range-used}
 use Rattle.events.specs.Scalars.{Scalars}
 use Rattle.intervals.specs.declared.Slot.the-variants as slot
 use Rattle.intervals.specs.Bucket.{stabilityBucket, retentionBucket}
-use Rattle.intervals.specs.Table.{Table, places, freeAt, valueAt}
+use Rattle.intervals.specs.Table.{Table}
 use Rattle.intervals.specs.Schedule.{isFull, intervalOf, entered, certifies}
 use Rattle.intervals.proofs.Laws.{Sound, Twin}
 use Rattle.intervals.proofs.Schedule.{interval-all, slot-sound, twin-slot}
+use Rattle.simulation.specs.Invariant.{TableInRange}
 use Rattle.simulation.specs.Model.{Model, modelOf}
-
--- every interval that a table holds is 1 to 36,500
-abbrev pub AllFair : Table → Type 0
-AllFair t = (p : ℕ) → p < places t → freeAt t p ≡ false → Fair (valueAt t p)
 
 pub record Slots (m : Model) : Type 0 where
   -- an interval is 1 to 36,500
-  pub fair : (t : Table) → AllFair t → (x y : Float) → isFull (m .slot t x y) ≡ false → Fair (intervalOf (m .slot t x y))
+  pub fair : (t : Table) → TableInRange t → (x y : Float) → isFull (m .slot t x y) ≡ false → IntervalInRange (intervalOf (m .slot t x y))
   -- a sound table stays sound
   pub sound : (t : Table) → Sound t → (x y : Float) → Sound (entered t (m .slot t x y))
   -- two tables that hold the same give the same, unless the shorter one is full
   pub twins : (t t′ : Table) → Twin t t′ → (x y : Float) → isFull (m .slot t x y) ≡ false
       → (intervalOf (m .slot t x y) ≡ intervalOf (m .slot t′ x y)) × (isFull (m .slot t′ x y) ≡ false) × Twin (entered t (m .slot t x y)) (entered t′ (m .slot t′ x y))
 
-module _ (g : SimulatorConfig) (x : Scalars) (fair : (s r : Float) → Fair (x .interval s r (g .«max_ivl»))) where
+module _ (g : SimulatorConfig) (x : Scalars) (fair : (s r : Float) → IntervalInRange (x .interval s r (g .«max_ivl»))) where
   pub table-slots : Slots (modelOf g x)
   table-slots = record {
-    fair = λ t h s r. interval-all t (stabilityBucket s) (retentionBucket r) (λ v. certifies (λ d. x .chance d s) s r v (g .«max_ivl»)) (x .interval s r (g .«max_ivl»)) Fair h (fair s r);
-    sound = λ t ok s r. slot-sound t (stabilityBucket s) (retentionBucket r) (λ v. certifies (λ d. x .chance d s) s r v (g .«max_ivl»)) (x .interval s r (g .«max_ivl»)) (fair-used (x .interval s r (g .«max_ivl»)) (fair s r)) ok;
-    twins = λ t t′ w s r. twin-slot t t′ w (stabilityBucket s) (retentionBucket r) (λ v. certifies (λ d. x .chance d s) s r v (g .«max_ivl»)) (x .interval s r (g .«max_ivl»)) (fair-used (x .interval s r (g .«max_ivl»)) (fair s r));
+    fair = λ t h s r. interval-all t (stabilityBucket s) (retentionBucket r) (λ v. certifies (λ d. x .chance d s) s r v (g .«max_ivl»)) (x .interval s r (g .«max_ivl»)) IntervalInRange h (fair s r);
+    sound = λ t ok s r. slot-sound t (stabilityBucket s) (retentionBucket r) (λ v. certifies (λ d. x .chance d s) s r v (g .«max_ivl»)) (x .interval s r (g .«max_ivl»)) (in-range-used (x .interval s r (g .«max_ivl»)) (fair s r)) ok;
+    twins = λ t t′ w s r. twin-slot t t′ w (stabilityBucket s) (retentionBucket r) (λ v. certifies (λ d. x .chance d s) s r v (g .«max_ivl»)) (x .interval s r (g .«max_ivl»)) (in-range-used (x .interval s r (g .«max_ivl»)) (fair s r));
   }
 
   -- the same model without a table

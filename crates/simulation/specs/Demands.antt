@@ -11,6 +11,7 @@ use Rattle.simulation.specs.declared.Progress.{Progress}
 use Rattle.simulation.specs.declared.Answer.{Answer}
 use Rattle.simulation.specs.declared.Answer.the-variants as answer
 use Rattle.simulation.specs.State.{State, withTable}
+use Rattle.simulation.specs.Invariant.{lapsesIn}
 use Rattle.simulation.specs.Rules.{Rules}
 use Rattle.simulation.specs.Entry.{Inputs}
 use Rattle.simulation.specs.SetUp.{known, setUp}
@@ -27,16 +28,12 @@ cardsOf i s = setUp i s .queue .len
 abbrev pub turnsOf : Rules → Inputs → State → List (Turn Drawn)
 turnsOf R i s = (ran R (setUp i s)) .turns
 
--- the lapses of card c
-abbrev pub lapsesAt : List (List ℕ) → ℕ → ℕ
-lapsesAt counts c = getD (getD counts c []) 1 0
-
 -- of a run by any rules
 pub record DemandThree (R : Rules) (i : Inputs) (s : State) (counts days : List (List ℕ)) : Type 0 where
   pub demand : Demand (cardsOf i s) (R .span) (R .costs) (R .limits) (turnsOf R i s)
   pub rows :
       Rows (R .span) (known (i .existing) (i .existing-counts) (length (i .existing)))
-      (sumTo (cardsOf i s) (lapsesAt (setUp i s .counts))) (sumTo (cardsOf i s) (lapsesAt counts))
+      (sumTo (cardsOf i s) (lapsesIn (setUp i s .counts))) (sumTo (cardsOf i s) (lapsesIn counts))
       (learnedAt days) (reviewedAt days) (correctAt days) (introducedAt days) (turnsOf R i s)
 
 -- A second run's lists: those of the first, but for an interval table that is longer in both its columns

@@ -14,7 +14,7 @@ use Rattle.simulation.specs.declared.Refusal.{Refusal}
 use Rattle.simulation.specs.declared.Refusal.the-variants as refusal
 use Rattle.simulation.specs.declared.Check.{Check}
 use Rattle.simulation.specs.declared.Check.the-variants as check
-use Rattle.simulation.specs.State.{State}
+use Rattle.simulation.specs.State.{State, mostCards, mostDays}
 
 -- What a run is given besides the lists that it writes
 pub record Inputs : Type 0 where
@@ -77,8 +77,8 @@ checkFirst cards counts n =
 unfoldable pub checked : Inputs → State → Check
 checked i s =
     checkParameters (i .parameters)
-    (failIf (eqb (i .config .«deck_size») 0 || ltb 65536 (i .config .«deck_size»)) refusal.DeckSize
-    (failIf (eqb (i .config .«learn_span») 0 || ltb 36500 (i .config .«learn_span»)) refusal.LearnSpan
+    (failIf (eqb (i .config .«deck_size») 0 || ltb mostCards (i .config .«deck_size»)) refusal.DeckSize
+    (failIf (eqb (i .config .«learn_span») 0 || ltb mostDays (i .config .«learn_span»)) refusal.LearnSpan
     (failIf (not (configOk (i .config) && isFinite (i .retention))) refusal.Config
     (failIf (not (listsOk i s)) refusal.Lists
     (failIf (ltb (i .config .«deck_size») (length (i .existing))) refusal.TooManyCards

@@ -1,4 +1,5 @@
 pub mod State
+pub mod Invariant
 pub mod Model
 pub mod Rules
 pub mod Turn

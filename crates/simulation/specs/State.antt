@@ -11,6 +11,13 @@ use Rattle.queue.specs.Key.{cardPriority}
 use Rattle.queue.specs.Queue.{Queue, queue}
 use Rattle.intervals.specs.Table.{Table, table}
 
+-- the largest deck, and the longest span
+abbrev pub mostCards : ℕ
+mostCards = 65536
+
+abbrev pub mostDays : ℕ
+mostDays = 36500
+
 pub record State : Type 0 where
   pub cards : List (List Float)
   pub counts : List (List ℕ)

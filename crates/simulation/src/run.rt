@@ -10,7 +10,7 @@ ghost use mathlib.Core.Path.{_≡_};
 ghost use Prim.Native.Nat.{suc, _*_, _≤_};
 ghost use Rattle.model.specs.Kept as Kept;
 ghost use Rattle.events.specs.Scalars.{kept};
-ghost use Rattle.simulation.specs.State.{state};
+ghost use Rattle.simulation.specs.State.{state, mostCards, mostDays};
 ghost use Rattle.simulation.specs.Rules.{rulesOf};
 ghost use Rattle.simulation.specs.Steps.{stopIn, Ran, Done};
 ghost use Rattle.simulation.specs.declared.Check.the-variants as check;
@@ -84,7 +84,7 @@ fn run_turns(
 }
 
 fn bound_of(len: u32, span: u32) -> u32
-    requires { ⌜ (len ≤ 65536) × (span ≤ 36500) ⌝ }
+    requires { ⌜ (len ≤ mostCards) × (span ≤ mostDays) ⌝ }
     ensures { λ r. ⌜ r ≡ suc (len * suc span) ⌝ }
 {
     len * (span + 1) + 1

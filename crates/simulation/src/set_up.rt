@@ -12,7 +12,7 @@ ghost use Rattle.turns.specs.Sums.{bit};
 ghost use Rattle.days.specs.Counts.{dayRow};
 ghost use Rattle.cards.specs.Day as Day;
 ghost use Rattle.cards.specs.Cards.{isKept};
-ghost use Rattle.simulation.specs.State.{state};
+ghost use Rattle.simulation.specs.State.{state, mostCards, mostDays};
 ghost use Rattle.simulation.specs.Entry.{inputs};
 ghost use Rattle.simulation.specs.Steps.{Joined};
 ghost use Rattle.simulation.specs.SetUp.{deck, filled, newCard, retainCard, retain, known, create, newCards, firstSums, setUp};
@@ -237,7 +237,7 @@ pub(crate) fn set_up(
     config: SimulatorConfig,
     retention: f32,
 ) -> u32
-    requires { ⌜ (length (now existing) ≤ 65536) × (config .«learn_span» ≤ 36500) ⌝ }
+    requires { ⌜ (length (now existing) ≤ mostCards) × (config .«learn_span» ≤ mostDays) ⌝ }
     ensures { λ r. ⌜ ((w : List Float) (seed : ℕ) (keys : List (List ℕ)) →
         state (now (cards .exit)) (now (counts .exit)) (now (rows .exit)) (now (days .exit)) (now (sums .exit)) (now (due .exit)) keys (now (intervals .exit)) r seed
         ≡ setUp (inputs config w retention seed (now (existing .entry)) (now («existing_counts» .entry)))

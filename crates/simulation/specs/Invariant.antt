@@ -1,0 +1,77 @@
+-- WHAT A STATE MUST SATISFY for a run to be lawful from it, in parts: `Lengths`, `InOrder`, `TableInRange`, `Counts`. Set-up leaves such a state, and every turn
+-- keeps it one, by any rules whose slots are lawful. Definitions only.
+use Prim.Native.Nat.{ℕ, _+_, _≤_, _<_, min}
+use mathlib.Core.Bool.{Bool, false}
+use mathlib.Core.List.{List, []}
+use mathlib.Core.Path.{_≡_}
+use lib.Dec.{ltb}
+use lib.ListN.{length, getD}
+use lib.Ieee.{Float, nan}
+use Rattle.turns.specs.Sums.{bit, sumTo}
+use Rattle.cards.specs.Day.{dayOf, newOf, IntervalInRange}
+use Rattle.cards.specs.Cards.{noFloats}
+use Rattle.days.specs.Counts.{learnedAt, reviewedAt, correctAt, introducedAt}
+use Rattle.queue.specs.Key.{cardPriority}
+use Rattle.queue.specs.Sound.{Keyed}
+use Rattle.intervals.specs.Table.{Table, places, freeAt, valueAt}
+use Rattle.simulation.specs.State.{State, mostCards, mostDays}
+
+-- ---- of the card at place c, by the lists of rows
+abbrev pub difficultyIn : List (List Float) → ℕ → Float
+difficultyIn cards c = getD (getD cards c noFloats) 0 nan
+
+abbrev pub lastIn : List (List Float) → ℕ → Float
+lastIn cards c = getD (getD cards c noFloats) 2 nan
+
+abbrev pub dueIn : List (List Float) → ℕ → Float
+dueIn cards c = getD (getD cards c noFloats) 3 nan
+
+abbrev pub dayIn : List (List Float) → ℕ → ℕ
+dayIn cards c = dayOf (dueIn cards c)
+
+abbrev pub newIn : List (List Float) → ℕ → Bool
+newIn cards c = newOf (lastIn cards c)
+
+abbrev pub keyIn : List (List Float) → ℕ → ℕ
+keyIn cards c = cardPriority (dayIn cards c) (newIn cards c) (difficultyIn cards c)
+
+abbrev pub lapsesIn : List (List ℕ) → ℕ → ℕ
+lapsesIn counts c = getD (getD counts c []) 1 0
+
+-- ---- the span and the number of cards
+pub record RunBounds (span cards : ℕ) : Type 0 where
+  pub some : 0 < span
+  pub most : span ≤ mostDays
+  pub few : cards ≤ mostCards
+
+-- ---- the state
+
+-- a row for each card and for each day
+pub record Lengths (cards span : ℕ) (s : State) : Type 0 where
+  pub cards-long : cards ≤ length (s .cards)
+  pub counts-long : cards ≤ length (s .counts)
+  pub days-long : span ≤ length (s .days)
+  pub costs-long : span ≤ length (s .costs)
+
+-- the queue is sound, each queued card is a card of the run under its key, and every day fits an i32
+pub record InOrder (cards : ℕ) (s : State) : Type 0 where
+  pub keyed : Keyed cards (keyIn (s .cards)) (s .queue)
+  pub near : (c : ℕ) → c < cards → dayIn (s .cards) c < 2147483648
+
+-- every interval that the table holds is 1 to 36,500
+abbrev pub TableInRange : Table → Type 0
+TableInRange t = (p : ℕ) → p < places t → freeAt t p ≡ false → IntervalInRange (valueAt t p)
+
+-- on each day no more recalls than reviews, introduced cards no more than cards that are not new, and events no more than cards that are now due later;
+-- of each card a lapse a day at most
+pub record Counts (cards span : ℕ) (s : State) : Type 0 where
+  pub recalls : (d : ℕ) → d < span → correctAt (s .days) d ≤ reviewedAt (s .days) d
+  pub introduced : (d : ℕ) → d < span → introducedAt (s .days) d + sumTo cards (λ c. bit (newIn (s .cards) c)) ≤ cards
+  pub events : (d : ℕ) → d < span → learnedAt (s .days) d + reviewedAt (s .days) d ≤ sumTo cards (λ c. bit (ltb d (dayIn (s .cards) c)))
+  pub lapses : (c : ℕ) → c < cards → lapsesIn (s .counts) c ≤ 4000000000 + min (dayIn (s .cards) c) span
+
+pub record StateInvariant (cards span : ℕ) (s : State) : Type 0 where
+  pub lengths : Lengths cards span s
+  pub order : InOrder cards s
+  pub table : TableInRange (s .table)
+  pub counts : Counts cards span s
