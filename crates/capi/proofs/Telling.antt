@@ -5,8 +5,7 @@ use mathlib.Core.Path.{_≡_, _∙_, ap, subst}
 use lib.Ieee.{Float}
 use Rattle.cards.specs.declared.SimulatorConfig.{SimulatorConfig}
 use Rattle.simulation.specs.declared.Answer.{Answer}
-use Rattle.simulation.specs.Simulate.{Result}
-use Rattle.simulation.specs.Steps.{Done}
+use Rattle.simulation.specs.Simulate.{Result, Done}
 use Rattle.capi.specs.Answer.{numbersOf, Told}
 
 module _ {cards : List (List Float)} {counts queue days : List (List ℕ)} {sums : List (List Float)} {due : List ℕ} {keys : List (List ℕ)} {intervals : List Float} where

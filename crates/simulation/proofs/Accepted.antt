@@ -15,7 +15,7 @@ use Rattle.simulation.specs.declared.Check.{Check}
 use Rattle.simulation.specs.declared.Check.the-variants as check
 use Rattle.simulation.specs.State.{State}
 use Rattle.simulation.proofs.First.{none-before}
-use Rattle.simulation.specs.Entry.{Inputs, firstWhere, notFinite, notOk, failIf, checkParameters, lengthsOk, checkFirst, checked}
+use Rattle.simulation.specs.Entry.{Inputs, firstWhere, notFinite, notOk, failIf, checkParameters, listsOk, checkFirst, checked}
 
 pub record Accepted (i : Inputs) (s : State) : Type 0 where
   pub parameters-long : 34 ≤ length (i .parameters)
@@ -57,7 +57,7 @@ kept-ok true b e k = unnot b e
 kept-ok false b e k = absurd (false≢true k)
 
 pub accepted : (i : Inputs) (s : State) → checked i s ≡ check.Passed → Accepted i s
-unfolding checked checkParameters checkFirst lengthsOk
+unfolding checked checkParameters checkFirst listsOk
 accepted i s e =
     let w = i .parameters in
     let g = i .config in

@@ -32,11 +32,10 @@ use Rattle.simulation.specs.declared.Stop.{Stop}
 use Rattle.simulation.specs.State.{State, Lists, withDraws}
 use Rattle.simulation.specs.Rules.{Rules, rulesWith, rulesOf}
 use Rattle.simulation.specs.Turn.{next}
-use Rattle.simulation.specs.Entry.{Inputs, inputs, checked}
+use Rattle.simulation.specs.Entry.{Inputs, inputs, listsOk, checked}
 use Rattle.simulation.specs.SetUp.{known, setUp}
-use Rattle.simulation.specs.Simulate.{progress, rulesFor, bound, ran, finished, simulatedBy, simulated}
-use Rattle.simulation.specs.Demands.{Finished, cardsOf, turnsOf, DemandThree}
-use Rattle.simulation.specs.Steps.{Done}
+use Rattle.simulation.specs.Simulate.{Done, progress, rulesFor, bound, ran, finished, simulatedBy, simulated}
+use Rattle.simulation.specs.Demands.{Finished, cardsOf, turnsOf, DemandThree, RunContract}
 use Rattle.simulation.specs.Invariant.{RunBounds, StateInvariant}
 use Rattle.simulation.proofs.Slots.{Slots, table-slots}
 use Rattle.simulation.proofs.Views.{columns}
@@ -126,30 +125,33 @@ module _ (R : Rules) (i : Inputs) (s : State) (ok : Accepted i s) (fit : Suits R
   }
 
 -- ---- the entry point
-pub not-finished : (r : Refusal) (p : Progress) → Finished (answer.Refused r p) → ⊥
+not-finished : (r : Refusal) (p : Progress) → Finished (answer.Refused r p) → ⊥
 not-finished r p f = let e = f .1 in let z : _≡_ {A = ℕ} 0 1 = cc in omega arith
 
 module _ (i : Inputs) (s : State) where
   -- the entry's tests look neither at the seed nor at the draws
   pub same-check : {c : Check} → c ≡ checked (inputs (i .config) (i .parameters) (i .retention) 0 (i .existing) (i .existing-counts)) (withDraws 0 s) → c ≡ checked i s
-  unfolding checked
+  unfolding checked listsOk
   same-check e = e
 
   pub refused-is : (r : Refusal) → checked i s ≡ check.Failed r
       → {c′ : List (List Float)} {n′ r′ d′ : List (List ℕ)} {u′ : List (List Float)} {v′ : List ℕ} {k′ : List (List ℕ)} {t′ : List Float} → Lists s c′ n′ r′ d′ u′ v′ k′ t′
-      → Done (simulated i s) (answer.Refused r (progress 0 0 (i .seed))) c′ n′ r′ d′ u′ v′ k′ t′
+      → RunContract i s (answer.Refused r (progress 0 0 (i .seed))) c′ n′ r′ d′ u′ v′ k′ t′
   unfolding simulatedBy
-  refused-is r e l = rw e (record { answer = refl; lists = l })
+  refused-is r e l = record { result = rw e (record { answer = refl; lists = l }); daily-rules = λ f. absurd (not-finished r (progress 0 0 (i .seed)) f) }
 
   module _ (e : checked i s ≡ check.Passed) {r : Answer} {c′ : List (List Float)} {n′ r′ d′ : List (List ℕ)} {u′ : List (List Float)} {v′ : List ℕ} {k′ : List (List ℕ)} {t′ : List Float}
       (d : Done (finished (rulesOf (i .config) (kept (Kept.newOf (i .parameters)))) (setUp i s)) r c′ n′ r′ d′ u′ v′ k′ t′) where
     plainly : Done (finished (rulesFor i) (setUp i s)) r c′ n′ r′ d′ u′ v′ k′ t′
     plainly = subst (λ (x : Scalars). Done (finished (rulesOf (i .config) x) (setUp i s)) r c′ n′ r′ d′ u′ v′ k′ t′) (kept-is (i .parameters)) d
 
-    pub accepted-is : Done (simulated i s) r c′ n′ r′ d′ u′ v′ k′ t′
+    done : Done (simulated i s) r c′ n′ r′ d′ u′ v′ k′ t′
     unfolding simulatedBy
-    accepted-is = rw e plainly
+    done = rw e plainly
 
-    pub three-is : DemandThree (rulesFor i) i s n′ d′
+    three : DemandThree (rulesFor i) i s n′ d′
     unfolding finished
-    three-is = demand-three (rulesFor i) i s (accepted i s e) (suits splitMix i s (accepted i s e)) n′ d′ (plainly .lists .counts-are) (plainly .lists .days-are)
+    three = demand-three (rulesFor i) i s (accepted i s e) (suits splitMix i s (accepted i s e)) n′ d′ (plainly .lists .counts-are) (plainly .lists .days-are)
+
+    pub accepted-is : RunContract i s r c′ n′ r′ d′ u′ v′ k′ t′
+    accepted-is = record { result = done; daily-rules = λ f. three }

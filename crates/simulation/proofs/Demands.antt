@@ -1,5 +1,5 @@
 -- THE DEMANDS, by number, of every call of the run, by any rules that suit its inputs (`Suits`): whatever the limits, whatever is drawn. Demand 2's equation and demand 3's daily rules and rows stand in `simulate`'s own contract;
--- here are the statements beside it.
+-- the statements beside it are the record `Demands` of specs, which `demands` fills in.
 use mathlib.Core.Path.{_≡_, refl, sym, ap, _∙_}
 use mathlib.Core.Bool.{true}
 use mathlib.Core.List.{List, []}
@@ -32,24 +32,24 @@ use Rattle.simulation.specs.Turn.{next}
 use Rattle.simulation.specs.Entry.{Inputs, checked}
 use Rattle.simulation.specs.SetUp.{emptied, setUp}
 use Rattle.simulation.specs.Simulate.{Result, progress, answerOf, bound, ran, finished, simulatedBy}
-use Rattle.simulation.specs.Demands.{Finished, cardsOf, turnsOf, LongerTable, SameRun}
+use Rattle.simulation.specs.Demands.{Demands, Finished, cardsOf, turnsOf, LongerTable, SameRun}
 use Rattle.simulation.proofs.Accepted.{Accepted, accepted}
-use Rattle.simulation.proofs.Claims.{Suits, suits, has-stopped, few-turns}
+use Rattle.simulation.proofs.Claims.{Suits, suits, demand-three, has-stopped, few-turns}
 use Rattle.simulation.proofs.Tables.{run-sound}
 use Rattle.simulation.proofs.Longer.{Alike, run-longer}
 
 -- DEMAND 1: an entry refusal, exactly by the table, writes nothing and takes no turn
-pub entry-refusal : (R : Rules) (i : Inputs) (s : State) (r : Refusal) → checked i s ≡ check.Failed r → simulatedBy R i s ≡ record { answer = answer.Refused r (progress 0 0 (i .seed)); state = s }
+entry-refusal : (R : Rules) (i : Inputs) (s : State) (r : Refusal) → checked i s ≡ check.Failed r → simulatedBy R i s ≡ record { answer = answer.Refused r (progress 0 0 (i .seed)); state = s }
 unfolding simulatedBy
 entry-refusal R i s r e = rw e
 
 -- a run refusal leaves the state after the last finished turn: the state that the turns taken lead to
-pub run-leaves : (R : Rules) (i : Inputs) (s : State) → checked i s ≡ check.Passed → simulatedBy R i s .state ≡ (ran R (setUp i s)) .state
+run-leaves : (R : Rules) (i : Inputs) (s : State) → checked i s ≡ check.Passed → simulatedBy R i s .state ≡ (ran R (setUp i s)) .state
 unfolding simulatedBy finished
 run-leaves R i s e = rw e
 
 -- refusal 8 exactly when the key is new and as many keys are held as the table is long, after any number of turns of an accepted call
-pub table-full : (w : DrawRule) (i : Inputs) (s : State) → checked i s ≡ check.Passed → (n : ℕ) (x y : Float)
+table-full : (w : DrawRule) (i : Inputs) (s : State) → checked i s ≡ check.Passed → (n : ℕ) (x y : Float)
     → (let R = rulesWith w (i .config) (plain (i .parameters)) in let t = (run (next R) n [] (setUp i s)) .state .table in
     (isFull (R .model .slot t x y) ≡ true) ↔ ((heldIn t (stabilityBucket x) (retentionBucket y) ≡ none) × (countIn t ≡ places t)))
 table-full w i s e n x y =
@@ -68,10 +68,10 @@ module _ (R : Rules) (i : Inputs) (s : State) (fit : Suits R i) (e : checked i s
   ok = accepted i s e
 
   -- DEMAND 3: the run comes to its end or to a refusal within cards × (span + 1) turns, so its bound never shows
-  pub ends-within : length (turnsOf R i s) ≤ cardsOf i s * suc (R .span)
+  ends-within : length (turnsOf R i s) ≤ cardsOf i s * suc (R .span)
   ends-within = few-turns R i s ok fit
 
-  pub stops-so : (y : Stop) → next R ((ran R s₀) .state) ≡ stops y → stopOf (next R) stop.Ended (bound R s₀) s₀ ≡ y
+  stops-so : (y : Stop) → next R ((ran R s₀) .state) ≡ stops y → stopOf (next R) stop.Ended (bound R s₀) s₀ ≡ y
   unfolding ran
   stops-so y q = stop-is (next R) stop.Ended (bound R s₀) [] s₀ y q (let h = ends-within in omega (arith, h))
 
@@ -80,11 +80,11 @@ module _ (R : Rules) (i : Inputs) (s : State) (fit : Suits R i) (e : checked i s
   end-of stop.Ended p q z = refl
   end-of (stop.Refused r) p q z = let o : _≡_ {A = ℕ} 0 1 = cc in absurd (let f : ⊥ = omega arith in f)
 
-  pub finished-is : simulatedBy R i s ≡ finished R s₀
+  finished-is : simulatedBy R i s ≡ finished R s₀
   unfolding simulatedBy
   finished-is = rw e
 
-  pub ok-ends : Finished (simulatedBy R i s .answer) → next R ((ran R s₀) .state) ≡ stops stop.Ended
+  ok-ends : Finished (simulatedBy R i s .answer) → next R ((ran R s₀) .state) ≡ stops stop.Ended
   unfolding finished
   ok-ends f =
       let h = has-stopped R i s ok fit in
@@ -121,7 +121,7 @@ module _ (R : Rules) (i : Inputs) (s s′ : State) (fit : Suits R i) (e : checke
   same-answer : (a a′ b b′ c c′ : ℕ) → a′ ≡ a → b′ ≡ b → c′ ≡ c → answer.Finished (progress a′ b′ c′) ≡ answer.Finished (progress a b c)
   same-answer a a′ b b′ c c′ p q r = rw (p, q, r)
 
-  pub longer-table : Finished (simulatedBy R i s .answer) → SameRun (simulatedBy R i s) (simulatedBy R i s′)
+  longer-table : Finished (simulatedBy R i s .answer) → SameRun (simulatedBy R i s) (simulatedBy R i s′)
   unfolding finished ran
   longer-table f =
       let q = ok-ends R i s fit e f in
@@ -146,3 +146,17 @@ module _ (R : Rules) (i : Inputs) (s s′ : State) (fit : Suits R i) (e : checke
         due-are = ap (λ (z : State). z .due) all;
         draws-are = draws;
       })
+
+-- ALL OF THEM, whatever is drawn
+pub demands : (w : DrawRule) (i : Inputs) (s : State) → Demands (rulesWith w (i .config) (plain (i .parameters))) i s
+demands w i s =
+    let R = rulesWith w (i .config) (plain (i .parameters)) in
+    record {
+      entry-refusal = entry-refusal R i s;
+      run-leaves = run-leaves R i s;
+      table-full = table-full w i s;
+      daily-rules = λ e. demand-three R i s (accepted i s e) (suits w i s (accepted i s e)) ((ran R (setUp i s)) .state .counts) ((ran R (setUp i s)) .state .days) refl refl;
+      ends-within = λ e. ends-within R i s (suits w i s (accepted i s e)) e;
+      ok-ends = λ e. ok-ends R i s (suits w i s (accepted i s e)) e;
+      longer-table = λ s′ e e′ longer. longer-table R i s s′ (suits w i s (accepted i s e)) e e′ longer;
+    }

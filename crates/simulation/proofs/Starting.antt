@@ -24,10 +24,10 @@ use Rattle.simulation.specs.declared.Reach.{Reach}
 use Rattle.simulation.specs.declared.Stop.the-variants as stop
 use Rattle.simulation.specs.State.{State, state}
 use Rattle.simulation.specs.Rules.{Rules}
-use Rattle.simulation.specs.Steps.{Ran, Done}
+use Rattle.simulation.specs.Steps.{Ran}
 use Rattle.simulation.specs.Entry.{Inputs, inputs, firstWhere, notFinite, failIf, checkParameters, checked}
 use Rattle.simulation.specs.SetUp.{Deck, deck, filled, joined, retain, known, create, newCards, emptied, dealt, firstSums, setUp}
-use Rattle.simulation.specs.Simulate.{progress, answerOf, bound, ran, finished}
+use Rattle.simulation.specs.Simulate.{Done, progress, answerOf, bound, ran, finished}
 use Rattle.simulation.proofs.Accepted.{accepted}
 use Rattle.simulation.proofs.Joining.{set-up-few}
 

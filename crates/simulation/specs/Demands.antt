@@ -1,21 +1,33 @@
--- DEMAND 3 of a run that ends Ok: the daily rules of its whole list of turns, and its rows. Definitions only.
-use Prim.Native.Nat.{ℕ, _≤_}
+-- WHAT IS PROMISED OF A RUN: demand 3 (`DemandThree`), the contract of a call (`RunContract`), and the other demands (`Demands`). Definitions only.
+use Prim.Native.Nat.{ℕ, suc, _*_, _≤_}
 use mathlib.Core.Path.{_≡_}
+use mathlib.Core.Bool.{true}
+use mathlib.Core.Option.{none}
+use mathlib.Core.Logic.{_↔_}
 use mathlib.Core.List.{List, []}
-use lib.ListN.{length, getD}
+use lib.Ieee.{Float}
+use lib.ListN.{length}
+use Rattle.turns.specs.Run.{stops, run}
 use Rattle.turns.specs.Sums.{sumTo}
 use Rattle.turns.specs.Turns.{Turn, Demand, Rows}
 use Rattle.days.specs.Counts.{learnedAt, reviewedAt, correctAt, introducedAt}
+use Rattle.intervals.specs.Bucket.{stabilityBucket, retentionBucket}
+use Rattle.intervals.specs.Table.{places, heldIn, countIn}
+use Rattle.intervals.specs.Schedule.{isFull}
 use Rattle.events.specs.Drawn.{Drawn}
+use Rattle.simulation.specs.declared.Refusal.{Refusal}
+use Rattle.simulation.specs.declared.Check.the-variants as check
+use Rattle.simulation.specs.declared.Stop.the-variants as stop
 use Rattle.simulation.specs.declared.Progress.{Progress}
 use Rattle.simulation.specs.declared.Answer.{Answer}
 use Rattle.simulation.specs.declared.Answer.the-variants as answer
 use Rattle.simulation.specs.State.{State, withTable}
 use Rattle.simulation.specs.Invariant.{lapsesIn}
 use Rattle.simulation.specs.Rules.{Rules}
-use Rattle.simulation.specs.Entry.{Inputs}
+use Rattle.simulation.specs.Turn.{next}
+use Rattle.simulation.specs.Entry.{Inputs, checked}
 use Rattle.simulation.specs.SetUp.{known, setUp}
-use Rattle.simulation.specs.Simulate.{Result, ran}
+use Rattle.simulation.specs.Simulate.{Result, Done, progress, rulesFor, ran, simulatedBy, simulated}
 
 -- the run ended Ok
 abbrev pub Finished : Answer → Type 0
@@ -53,3 +65,26 @@ pub record SameRun (r r′ : Result) : Type 0 where
   pub held-are : r′ .state .held ≡ r .state .held
   pub due-are : r′ .state .due ≡ r .state .due
   pub draws-are : r′ .state .draws ≡ r .state .draws
+
+-- WHAT A CALL OF THE RUN PROMISES: the answer and the lists are those of the definition, and where it ends Ok demand 3 holds of them
+pub record RunContract (i : Inputs) (s : State) (r : Answer) (cards : List (List Float)) (counts rows days : List (List ℕ)) (sums : List (List Float)) (due : List ℕ) (keys : List (List ℕ)) (intervals : List Float) : Type 0 where
+  pub result : Done (simulated i s) r cards counts rows days sums due keys intervals
+  pub daily-rules : Finished r → DemandThree (rulesFor i) i s counts days
+
+-- THE DEMANDS beside the contract, of a run by rules R: `demands` has them at any way to draw
+pub record Demands (R : Rules) (i : Inputs) (s : State) : Type 0 where
+  -- 1: an entry refusal, exactly by the table, writes nothing and takes no turn
+  pub entry-refusal : (r : Refusal) → checked i s ≡ check.Failed r → simulatedBy R i s ≡ record { answer = answer.Refused r (progress 0 0 (i .seed)); state = s }
+  -- a run refusal leaves the state after the last finished turn: the state that the turns taken lead to
+  pub run-leaves : checked i s ≡ check.Passed → simulatedBy R i s .state ≡ (ran R (setUp i s)) .state
+  -- refusal 8 exactly when the key is new and as many keys are held as the table is long, after any number of turns
+  pub table-full : checked i s ≡ check.Passed → (n : ℕ) (x y : Float)
+      → (let t = (run (next R) n [] (setUp i s)) .state .table in (isFull (R .model .slot t x y) ≡ true) ↔ ((heldIn t (stabilityBucket x) (retentionBucket y) ≡ none) × (countIn t ≡ places t)))
+  -- 3: the daily rules and the rows, also where the run is refused
+  pub daily-rules : checked i s ≡ check.Passed → DemandThree R i s ((ran R (setUp i s)) .state .counts) ((ran R (setUp i s)) .state .days)
+  -- 3: the run comes to its end or to a refusal within cards × (span + 1) turns, so its bound never shows
+  pub ends-within : checked i s ≡ check.Passed → length (turnsOf R i s) ≤ cardsOf i s * suc (R .span)
+  -- it ends Ok only when no turn is left
+  pub ok-ends : checked i s ≡ check.Passed → Finished (simulatedBy R i s .answer) → next R ((ran R (setUp i s)) .state) ≡ stops stop.Ended
+  -- 3: a run that ends Ok ends Ok with any longer interval table and all else alike, with the same turns, draws, answer, rows, due counts and cards
+  pub longer-table : (s′ : State) → checked i s ≡ check.Passed → checked i s′ ≡ check.Passed → LongerTable s s′ → Finished (simulatedBy R i s .answer) → SameRun (simulatedBy R i s) (simulatedBy R i s′)

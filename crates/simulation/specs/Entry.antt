@@ -52,21 +52,18 @@ checkParameters w next =
     (let i = firstWhere (notFinite w) 34 0 in failIf (ltb i 34) (refusal.Parameters i) next)
 
 -- 6: lists that belong together are as long as each other, and written lists are long enough
-unfoldable pub lengthsOk : ℕ → ℕ → ℕ → ℕ → ℕ → ℕ → ℕ → ℕ → ℕ → ℕ → ℕ → ℕ → Bool
-lengthsOk deck span existing existing-counts keys intervals cards counts queue days sums due =
-    eqb existing existing-counts
-    && (eqb keys intervals
-    && (leb deck cards
-    && (leb deck counts
-    && (leb deck queue
-    && (leb span days
-    && (leb span sums
-    && leb (dueDays span) due))))))
-
-abbrev pub listsOk : Inputs → State → Bool
+unfoldable pub listsOk : Inputs → State → Bool
 listsOk i s =
-    lengthsOk (i .config .«deck_size») (i .config .«learn_span») (length (i .existing)) (length (i .existing-counts)) (length (s .table .keys)) (length (s .table .intervals))
-    (length (s .cards)) (length (s .counts)) (length (s .queue .rows)) (length (s .days)) (length (s .costs)) (length (s .due))
+    let deck = i .config .«deck_size» in
+    let span = i .config .«learn_span» in
+    eqb (length (i .existing)) (length (i .existing-counts))
+    && (eqb (length (s .table .keys)) (length (s .table .intervals))
+    && (leb deck (length (s .cards))
+    && (leb deck (length (s .counts))
+    && (leb deck (length (s .queue .rows))
+    && (leb span (length (s .days))
+    && (leb span (length (s .costs))
+    && leb (dueDays span) (length (s .due))))))))
 
 -- 5: each kept one of the first n existing cards
 unfoldable pub checkFirst : List (List Float) → List (List ℕ) → ℕ → Check

@@ -1,6 +1,7 @@
 -- THE RUN, from its inputs and the lent lists to its answer and the lists that it leaves. Definitions only.
 use Prim.Native.Nat.{ℕ, suc, _*_}
-use mathlib.Core.List.{[]}
+use mathlib.Core.List.{List, []}
+use mathlib.Core.Path.{_≡_}
 use lib.ListN.{length}
 use lib.Ieee.{Float}
 use Rattle.turns.specs.Turns.{Turn}
@@ -14,7 +15,7 @@ use Rattle.simulation.specs.declared.Check.the-variants as check
 use Rattle.simulation.specs.declared.Progress.{Progress}
 use Rattle.simulation.specs.declared.Answer.{Answer}
 use Rattle.simulation.specs.declared.Answer.the-variants as answer
-use Rattle.simulation.specs.State.{State}
+use Rattle.simulation.specs.State.{State, Lists}
 use Rattle.simulation.specs.Rules.{Rules, rulesOf}
 use Rattle.simulation.specs.Turn.{next}
 use Rattle.simulation.specs.Entry.{Inputs, checked}
@@ -62,3 +63,8 @@ module _ (R : Rules) where
 -- and by the rules of the inputs
 abbrev pub simulated : Inputs → State → Result
 simulated i = simulatedBy (rulesFor i) i
+
+-- an answer and lists are those of a result
+pub record Done (x : Result) (r : Answer) (cards : List (List Float)) (counts rows days : List (List ℕ)) (sums : List (List Float)) (due : List ℕ) (keys : List (List ℕ)) (intervals : List Float) : Type 0 where
+  pub answer : r ≡ x .answer
+  pub lists : Lists (x .state) cards counts rows days sums due keys intervals

@@ -1,4 +1,4 @@
--- What the steps of a turn leave, as their contracts say it. Definitions only.
+-- What the steps of a turn, the loop and the joining of a card leave, as the contracts of private functions say it: no caller of the run needs it. Definitions only.
 use Prim.Native.Nat.{ℕ}
 use mathlib.Core.Bool.{Bool, true, false}
 use mathlib.Core.List.{List, []}
@@ -21,11 +21,9 @@ use Rattle.simulation.specs.declared.Reach.{Reach}
 use Rattle.simulation.specs.declared.Stop.{Stop}
 use Rattle.simulation.specs.declared.Stop.the-variants as stop
 use Rattle.simulation.specs.declared.Refusal.the-variants as refusal
-use Rattle.simulation.specs.declared.Answer.{Answer}
 use Rattle.simulation.specs.declared.Outcome.the-variants as outcome
 use Rattle.simulation.specs.State.{State, Lists, keyOf}
 use Rattle.simulation.specs.Rules.{Rules}
-use Rattle.simulation.specs.Simulate.{Result}
 use Rattle.simulation.specs.Turn.{putOffCard, holdCard, next}
 
 -- the stop of a turn that was not taken
@@ -88,8 +86,3 @@ pub record Joined (k : Card) (len : ℕ) (cards : List (List Float)) (counts row
   pub cards-are : cards′ ≡ writeFloats cards len k
   pub counts-are : counts′ ≡ writeCounts counts len k
   pub queue-is : queue rows′ r ≡ pushed (queue rows len) len (keyOf k)
-
--- ---- the answer: an answer and lists are those of a result
-pub record Done (x : Result) (r : Answer) (cards : List (List Float)) (counts rows days : List (List ℕ)) (sums : List (List Float)) (due : List ℕ) (keys : List (List ℕ)) (intervals : List Float) : Type 0 where
-  pub answer : r ≡ x .answer
-  pub lists : Lists (x .state) cards counts rows days sums due keys intervals

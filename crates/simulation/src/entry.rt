@@ -6,13 +6,13 @@ use cards::SimulatorConfig;
 ghost use mathlib.Core.Path.{_≡_};
 ghost use mathlib.Core.Bool.{not, _&&_};
 ghost use Prim.Native.Nat.{_+_, _/_};
-ghost use lib.ListN.{length, getD};
-ghost use lib.Ieee.{nan};
+ghost use mathlib.Core.List.{List};
+ghost use lib.ListN.{getD};
+ghost use lib.Ieee.{Float, nan};
 ghost use Rattle.cards.specs.Cards.{isKept, cardOk};
-ghost use Rattle.days.specs.Sums.{costColumn};
 ghost use Rattle.simulation.specs.State.{state};
 ghost use Rattle.simulation.specs.declared.Check.the-variants as check;
-ghost use Rattle.simulation.specs.Entry.{inputs, firstWhere, notFinite, notOk, checkParameters, lengthsOk, checkFirst, checked};
+ghost use Rattle.simulation.specs.Entry.{inputs, firstWhere, notFinite, notOk, checkParameters, listsOk, checkFirst, checked};
 
 fn parameter(w: &[f32], i: u32) -> f32
     ensures { λ r. ⌜ r ≡ getD (now (w .entry)) i nan ⌝ }
@@ -100,14 +100,15 @@ fn lists_ok(
     intervals: &[f32],
     existing: &[[f32; 6]],
     existing_counts: &[[u32; 2]],
-    deck_size: u32,
-    learn_span: u32,
+    config: SimulatorConfig,
 ) -> bool
-    ensures { λ r. ⌜ r ≡ lengthsOk «deck_size» «learn_span» (length (now (existing .entry))) (length (now («existing_counts» .entry))) (length (now (keys .entry))) (length (now (intervals .entry)))
-        (length (now (cards .entry))) (length (now (counts .entry))) (length (now (rows .entry))) (length (now (days .entry))) (length (costColumn (now (sums .entry)))) (length (now (due .entry))) ⌝ }
+    ensures { λ r. ⌜ ((w : List Float) (retention : Float) →
+        r ≡ listsOk
+        (inputs config w retention 0 (now (existing .entry)) (now («existing_counts» .entry)))
+        (state (now (cards .entry)) (now (counts .entry)) (now (rows .entry)) (now (days .entry)) (now (sums .entry)) (now (due .entry)) (now (keys .entry)) (now (intervals .entry)) 0 0)) ⌝ }
 {
-    let deck = deck_size as usize;
-    let span = learn_span as usize;
+    let deck = config.deck_size as usize;
+    let span = config.learn_span as usize;
     if existing.len() != existing_counts.len() {
         return false;
     }
@@ -129,7 +130,7 @@ fn lists_ok(
     if sums.len() < span {
         return false;
     }
-    due_days(learn_span) <= due.len()
+    due_days(config.learn_span) <= due.len()
 }
 
 pub(crate) fn check_entry(
@@ -184,8 +185,7 @@ pub(crate) fn check_entry(
         intervals,
         existing,
         existing_counts,
-        config.deck_size,
-        config.learn_span,
+        config,
     ) {
         return Check::Failed(Refusal::Lists);
     }

@@ -1,12 +1,8 @@
 // The run: the types of its answer, and the entry. Its parts are entry (the tests), set_up, turn and run.
 use cards::SimulatorConfig;
-ghost use Rattle.events.specs.Scalars.{plain};
 ghost use Rattle.simulation.specs.State.{state};
-ghost use Rattle.simulation.specs.Rules.{rulesOf};
-ghost use Rattle.simulation.specs.Steps.{Done};
 ghost use Rattle.simulation.specs.Entry.{inputs};
-ghost use Rattle.simulation.specs.Simulate.{simulated};
-ghost use Rattle.simulation.specs.Demands.{Finished, DemandThree};
+ghost use Rattle.simulation.specs.Demands.{RunContract};
 
 mod entry;
 mod run;
@@ -82,16 +78,11 @@ pub fn simulate(
     retention: f32,
     seed: u64,
 ) -> Answer
-    ensures { λ r. ⌜ Done
-        (simulated
-        (inputs config (now (parameters .entry)) retention seed (now (existing .entry)) (now («existing_counts» .entry)))
-        (state (now (cards .entry)) (now (counts .entry)) (now (rows .entry)) (now (days .entry)) (now (sums .entry)) (now (due .entry)) (now (keys .entry)) (now (intervals .entry)) 0 seed))
-        r
-        (now (cards .exit)) (now (counts .exit)) (now (rows .exit)) (now (days .exit)) (now (sums .exit)) (now (due .exit)) (now (keys .exit)) (now (intervals .exit)) ⌝ }
-    ensures { λ r. ⌜ (Finished r → DemandThree (rulesOf config (plain (now (parameters .entry))))
-        (inputs config (now (parameters .entry)) retention seed (now (existing .entry)) (now («existing_counts» .entry)))
-        (state (now (cards .entry)) (now (counts .entry)) (now (rows .entry)) (now (days .entry)) (now (sums .entry)) (now (due .entry)) (now (keys .entry)) (now (intervals .entry)) 0 seed)
-        (now (counts .exit)) (now (days .exit))) ⌝ }
+    ensures { λ r. ⌜ (
+        let i = inputs config (now (parameters .entry)) retention seed (now (existing .entry)) (now («existing_counts» .entry)) in
+        let s = state (now (cards .entry)) (now (counts .entry)) (now (rows .entry)) (now (days .entry)) (now (sums .entry)) (now (due .entry)) (now (keys .entry)) (now (intervals .entry)) 0 seed in
+        RunContract i s r
+        (now (cards .exit)) (now (counts .exit)) (now (rows .exit)) (now (days .exit)) (now (sums .exit)) (now (due .exit)) (now (keys .exit)) (now (intervals .exit))) ⌝ }
 {
     let entry = entry::check_entry(
         cards,

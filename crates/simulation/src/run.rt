@@ -12,11 +12,11 @@ ghost use Rattle.model.specs.Kept as Kept;
 ghost use Rattle.events.specs.Scalars.{kept};
 ghost use Rattle.simulation.specs.State.{state, mostCards, mostDays};
 ghost use Rattle.simulation.specs.Rules.{rulesOf};
-ghost use Rattle.simulation.specs.Steps.{stopIn, Ran, Done};
+ghost use Rattle.simulation.specs.Steps.{stopIn, Ran};
 ghost use Rattle.simulation.specs.declared.Check.the-variants as check;
 ghost use Rattle.simulation.specs.Entry.{inputs, checked};
 ghost use Rattle.simulation.specs.SetUp.{setUp};
-ghost use Rattle.simulation.specs.Simulate.{progress, answerOf, finished};
+ghost use Rattle.simulation.specs.Simulate.{progress, answerOf, finished, Done};
 
 // The stop of a turn that was not taken.
 fn stop_in(o: Outcome) -> Stop

@@ -3,7 +3,7 @@ use mathlib.Core.Path.{refl, sym, _∙_}
 use Rattle.simulation.specs.State.{state}
 use Rattle.simulation.specs.Entry.{inputs}
 use Rattle.simulation.proofs.Turning.{lists-of}
-use Rattle.simulation.proofs.Claims.{same-check, refused-is, not-finished, accepted-is, three-is}
+use Rattle.simulation.proofs.Claims.{same-check, refused-is, accepted-is}
 use borrow.Author.Needs.{needs}
 use Rattle.simulation.proofs.simulate.Statement.{statement}
 use Rattle.simulation.proofs.simulate.Tie as tie
@@ -57,7 +57,7 @@ returns c =
     let a = at-check-entry .before .before .before .before .before .before .before .before .before .before .before .before .args in
     let i = inputs (a .config) (a .parameters .now) (a .retention) (a .seed) (a .existing .now) (a .existing-counts .now) in
     let s = state (a .cards .now) (a .counts .now) (a .rows .now) (a .days .now) (a .sums .now) (a .due .now) (a .keys .now) (a .intervals .now) 0 (a .seed) in
-    (refused-is i s _ (sym (same-check i s (at-check-entry .check-entry .ensures)) ∙ at-entry .entry .given .1) (lists-of s (a .cards .now) (a .counts .now) (a .rows .now) (a .days .now) (a .sums .now) (a .due .now) (a .keys .now) (a .intervals .now) 0 (a .seed) refl), λ f. absurd (not-finished _ _ f))
+    refused-is i s _ (sym (same-check i s (at-check-entry .check-entry .ensures)) ∙ at-entry .entry .given .1) (lists-of s (a .cards .now) (a .counts .now) (a .rows .now) (a .days .now) (a .sums .now) (a .due .now) (a .keys .now) (a .intervals .now) 0 (a .seed) refl)
 
 same-length-9 : tie.Need-same-length-9
 same-length-9 c = search needs
@@ -92,7 +92,7 @@ returns-2 c =
     let i = inputs (a .config) (a .parameters .now) (a .retention) (a .seed) (a .existing .now) (a .existing-counts .now) in
     let s = state (a .cards .now) (a .counts .now) (a .rows .now) (a .days .now) (a .sums .now) (a .due .now) (a .keys .now) (a .intervals .now) 0 (a .seed) in
     let e = sym (same-check i s (at-check-entry .check-entry .ensures)) ∙ at-enum-told .enum-told .given .1 in
-    (accepted-is i s e (at-start .start .ensures), λ f. three-is i s e (at-start .start .ensures))
+    accepted-is i s e (at-start .start .ensures)
 
 pub simulate-spec : {M : Type 1} → statement M
 simulate-spec =

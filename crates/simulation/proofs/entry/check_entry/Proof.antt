@@ -115,7 +115,7 @@ returns-8 c =
     let start = at-check-parameters .before .before .before .before in
     let e : checkParameters (start .args .parameters .now) check.Passed ≡ check.Passed = sym (at-check-parameters .check-parameters .ensures) ∙
     at-enum-told .enum-told .given .1 in rw
-    (parameters-pass, ne-eqb _ _ (at-if1 .if1 .left), le-ltb _ _ (at-if2 .if2 .left), ne-eqb _ _ (at-if3 .if3 .left), le-ltb _ _ (at-if4 .if4 .left), ← at-config-ok .config-ok .ensures, not-false (at-config-ok .config-ok .result) (at-if5 .if5 .left), ← at-is-finite .is-finite .ensures, not-false (at-is-finite .is-finite .result) (c .before .before .if6 .left), ← c .before .lists-ok .ensures, not-true (c .before .lists-ok .result) (c .if7 .taken))
+    (parameters-pass, ne-eqb _ _ (at-if1 .if1 .left), le-ltb _ _ (at-if2 .if2 .left), ne-eqb _ _ (at-if3 .if3 .left), le-ltb _ _ (at-if4 .if4 .left), ← at-config-ok .config-ok .ensures, not-false (at-config-ok .config-ok .result) (at-if5 .if5 .left), ← at-is-finite .is-finite .ensures, not-false (at-is-finite .is-finite .result) (c .before .before .if6 .left), ← c .before .lists-ok .ensures (start .args .parameters .now) (start .args .retention), not-true (c .before .lists-ok .result) (c .if7 .taken))
 
 cast-if8 : tie.Need-cast-if8
 cast-if8 c = search needs
@@ -137,7 +137,7 @@ returns-9 c =
     let start = at-check-parameters .before .before .before .before in
     let e : checkParameters (start .args .parameters .now) check.Passed ≡ check.Passed = sym (at-check-parameters .check-parameters .ensures) ∙
     at-enum-told .enum-told .given .1 in rw
-    (parameters-pass, ne-eqb _ _ (at-if1 .if1 .left), le-ltb _ _ (at-if2 .if2 .left), ne-eqb _ _ (at-if3 .if3 .left), le-ltb _ _ (at-if4 .if4 .left), ← at-config-ok .config-ok .ensures, not-false (at-config-ok .config-ok .result) (at-if5 .if5 .left), ← at-is-finite .is-finite .ensures, not-false (at-is-finite .is-finite .result) (at-if6 .if6 .left), ← at-lists-ok .lists-ok .ensures, not-false (at-lists-ok .lists-ok .result) (c .before .before .if7 .left), lt-ltb _ _ (c .if8 .taken))
+    (parameters-pass, ne-eqb _ _ (at-if1 .if1 .left), le-ltb _ _ (at-if2 .if2 .left), ne-eqb _ _ (at-if3 .if3 .left), le-ltb _ _ (at-if4 .if4 .left), ← at-config-ok .config-ok .ensures, not-false (at-config-ok .config-ok .result) (at-if5 .if5 .left), ← at-is-finite .is-finite .ensures, not-false (at-is-finite .is-finite .result) (at-if6 .if6 .left), ← at-lists-ok .lists-ok .ensures (start .args .parameters .now) (start .args .retention), not-false (at-lists-ok .lists-ok .result) (c .before .before .if7 .left), lt-ltb _ _ (c .if8 .taken))
 
 cast-check-cards : tie.Need-cast-check-cards
 cast-check-cards c = search needs
@@ -163,7 +163,7 @@ returns-10 c =
     let start = at-check-parameters .before .before .before .before in
     let e : checkParameters (start .args .parameters .now) check.Passed ≡ check.Passed = sym (at-check-parameters .check-parameters .ensures) ∙
     at-enum-told .enum-told .given .1 in rw
-    (parameters-pass, ne-eqb _ _ (at-if1 .if1 .left), le-ltb _ _ (at-if2 .if2 .left), ne-eqb _ _ (at-if3 .if3 .left), le-ltb _ _ (at-if4 .if4 .left), ← at-config-ok .config-ok .ensures, not-false (at-config-ok .config-ok .result) (at-if5 .if5 .left), ← at-is-finite .is-finite .ensures, not-false (at-is-finite .is-finite .result) (at-if6 .if6 .left), ← at-lists-ok .lists-ok .ensures, not-false (at-lists-ok .lists-ok .result) (at-if7 .if7 .left), le-ltb _ _ (c .before .if8 .left))
+    (parameters-pass, ne-eqb _ _ (at-if1 .if1 .left), le-ltb _ _ (at-if2 .if2 .left), ne-eqb _ _ (at-if3 .if3 .left), le-ltb _ _ (at-if4 .if4 .left), ← at-config-ok .config-ok .ensures, not-false (at-config-ok .config-ok .result) (at-if5 .if5 .left), ← at-is-finite .is-finite .ensures, not-false (at-is-finite .is-finite .result) (at-if6 .if6 .left), ← at-lists-ok .lists-ok .ensures (start .args .parameters .now) (start .args .retention), not-false (at-lists-ok .lists-ok .result) (at-if7 .if7 .left), le-ltb _ _ (c .before .if8 .left))
     (c .check-cards .ensures)
 
 pub check-entry-spec : {M : Type 1} → statement M

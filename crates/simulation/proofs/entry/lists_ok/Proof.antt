@@ -3,44 +3,50 @@ use mathlib.Core.List.{List}
 use lib.ListN.{getD, length-map}
 use lib.Ieee.{Float, nan}
 use borrow.Author.Tests.{le-leb, lt-leb, eq-eqb, ne-eqb}
-use Rattle.simulation.specs.Entry.{lengthsOk}
+use Rattle.simulation.specs.Entry.{listsOk}
 use borrow.Author.Needs.{needs}
 use Rattle.simulation.proofs.entry.lists_ok.Statement.{statement}
 use Rattle.simulation.proofs.entry.lists_ok.Tie as tie
 
+cast-deck : tie.Need-cast-deck
+cast-deck c = search needs
+
+cast-span : tie.Need-cast-span
+cast-span c = search needs
+
 returns : tie.Need-returns
-unfolding lengthsOk
-returns c = rw (ne-eqb _ _ (c .if1 .taken))
+unfolding listsOk
+returns c = λ w retention. rw (ne-eqb _ _ (c .if1 .taken))
 
 returns-2 : tie.Need-returns-2
-unfolding lengthsOk
-returns-2 c = rw (eq-eqb _ _ (c .before .if1 .left), ne-eqb _ _ (c .if2 .taken))
+unfolding listsOk
+returns-2 c = λ w retention. rw (eq-eqb _ _ (c .before .if1 .left), ne-eqb _ _ (c .if2 .taken))
 
 returns-3 : tie.Need-returns-3
-unfolding lengthsOk
-returns-3 c = rw (eq-eqb _ _ (c .before .before .if1 .left), eq-eqb _ _ (c .before .if2 .left), lt-leb _ _ (c .if3 .taken))
+unfolding listsOk
+returns-3 c = λ w retention. rw (eq-eqb _ _ (c .before .before .if1 .left), eq-eqb _ _ (c .before .if2 .left), lt-leb _ _ (c .if3 .taken))
 
 returns-4 : tie.Need-returns-4
-unfolding lengthsOk
-returns-4 c = rw (eq-eqb _ _ (c .before .before .before .if1 .left), eq-eqb _ _ (c .before .before .if2 .left), le-leb _ _ (c .before .if3 .left), lt-leb _ _ (c .if4 .taken))
+unfolding listsOk
+returns-4 c = λ w retention. rw (eq-eqb _ _ (c .before .before .before .if1 .left), eq-eqb _ _ (c .before .before .if2 .left), le-leb _ _ (c .before .if3 .left), lt-leb _ _ (c .if4 .taken))
 
 returns-5 : tie.Need-returns-5
-unfolding lengthsOk
-returns-5 c = rw (eq-eqb _ _ (c .before .before .before .before .if1 .left), eq-eqb _ _ (c .before .before .before .if2 .left), le-leb _ _ (c .before .before .if3 .left), le-leb _ _ (c .before .if4 .left), lt-leb _ _ (c .if5 .taken))
+unfolding listsOk
+returns-5 c = λ w retention. rw (eq-eqb _ _ (c .before .before .before .before .if1 .left), eq-eqb _ _ (c .before .before .before .if2 .left), le-leb _ _ (c .before .before .if3 .left), le-leb _ _ (c .before .if4 .left), lt-leb _ _ (c .if5 .taken))
 
 returns-6 : tie.Need-returns-6
-unfolding lengthsOk
-returns-6 c = rw (eq-eqb _ _ (c .before .before .before .before .before .if1 .left), eq-eqb _ _ (c .before .before .before .before .if2 .left), le-leb _ _ (c .before .before .before .if3 .left), le-leb _ _ (c .before .before .if4 .left), le-leb _ _ (c .before .if5 .left), lt-leb _ _ (c .if6 .taken))
+unfolding listsOk
+returns-6 c = λ w retention. rw (eq-eqb _ _ (c .before .before .before .before .before .if1 .left), eq-eqb _ _ (c .before .before .before .before .if2 .left), le-leb _ _ (c .before .before .before .if3 .left), le-leb _ _ (c .before .before .if4 .left), le-leb _ _ (c .before .if5 .left), lt-leb _ _ (c .if6 .taken))
 
 returns-7 : tie.Need-returns-7
-unfolding lengthsOk
+unfolding listsOk
 returns-7 c =
     let at-if4 = c .before .before .before in
     let at-if3 = at-if4 .before in
     let at-if2 = at-if3 .before in
     let at-if1 = at-if2 .before in
-    rw (
-      length-map (at-if1 .before .before .before .args .sums .now) (λ (row : List Float). getD row 0 nan),
+    λ w retention. rw (
+      length-map (at-if1 .before .before .before .before .before .args .sums .now) (λ (row : List Float). getD row 0 nan),
       eq-eqb _ _ (at-if1 .if1 .left),
       eq-eqb _ _ (at-if2 .if2 .left),
       le-leb _ _ (at-if3 .if3 .left),
@@ -54,15 +60,15 @@ due-days-requires : tie.Need-due-days-requires
 due-days-requires c κs = search needs
 
 returns-8 : tie.Need-returns-8
-unfolding lengthsOk
+unfolding listsOk
 returns-8 c =
     let at-if5 = c .before .before .before in
     let at-if4 = at-if5 .before in
     let at-if3 = at-if4 .before in
     let at-if2 = at-if3 .before in
     let at-if1 = at-if2 .before in
-    rw (
-      length-map (at-if1 .before .before .before .args .sums .now) (λ (row : List Float). getD row 0 nan),
+    λ w retention. rw (
+      length-map (at-if1 .before .before .before .before .before .args .sums .now) (λ (row : List Float). getD row 0 nan),
       eq-eqb _ _ (at-if1 .if1 .left),
       eq-eqb _ _ (at-if2 .if2 .left),
       le-leb _ _ (at-if3 .if3 .left),
@@ -77,6 +83,8 @@ pub lists-ok-spec : {M : Type 1} → statement M
 lists-ok-spec =
     tie.close
     (tie.spec
+    cast-deck
+    cast-span
     returns
     returns-2
     returns-3
