@@ -9,7 +9,7 @@ use Rattle.simulation.specs.declared.Progress.{Progress}
 use Rattle.simulation.specs.declared.Answer.{Answer}
 use Rattle.simulation.specs.declared.Answer.the-variants as answer
 use Rattle.simulation.specs.Refusals.{numberOf, secondOf}
-use Rattle.simulation.specs.State.{Lists}
+use Rattle.simulation.specs.State.{Lent, Lists}
 use Rattle.simulation.specs.Simulate.{Result}
 
 abbrev pub numbersFrom : ℕ → ℕ → Progress → List ℕ
@@ -20,6 +20,6 @@ numbersOf (answer.Finished p) = numbersFrom 0 0 p
 numbersOf (answer.Refused r p) = numbersFrom (numberOf r) (secondOf r) p
 
 -- the numbers and the lists are those of a result
-pub record Told (x : Result) (numbers : List ℕ) (cards : List (List Float)) (counts queue days : List (List ℕ)) (sums : List (List Float)) (due : List ℕ) (keys : List (List ℕ)) (intervals : List Float) : Type 0 where
+pub record Told (x : Result) (numbers : List ℕ) (l : Lent) : Type 0 where
   pub answer : numbers ≡ numbersOf (x .answer)
-  pub lists : Lists (x .state) cards counts queue days sums due keys intervals
+  pub lists : Lists (x .state) l

@@ -4,7 +4,7 @@ use simulation::Answer;
 use simulation::Progress;
 use simulation::Refusal;
 ghost use Rattle.simulation.specs.Refusals.{numberOf, secondOf};
-ghost use Rattle.simulation.specs.State.{state};
+ghost use Rattle.simulation.specs.State.{lent, state};
 ghost use Rattle.simulation.specs.Entry.{inputs};
 ghost use Rattle.simulation.specs.Simulate.{simulated};
 ghost use Rattle.capi.specs.Answer.{numbersFrom, numbersOf, Told};
@@ -126,9 +126,9 @@ pub extern "C" fn drill_simulate(
         (simulated
         (inputs (configOf (now (numbers .entry)) «max_cost_perday» «max_ivl» (now (first .entry)) (now (review .entry)) (now (learning .entry)) (now (relearning .entry)) (now (costs .entry)))
         (now (parameters .entry)) «desired_retention» seed (now (existing .entry)) (now («existing_counts» .entry)))
-        (state (now (cards .entry)) (now (counts .entry)) (now (queue .entry)) (now (days .entry)) (now (sums .entry)) (now (due .entry)) (now (keys .entry)) (now (intervals .entry)) 0 seed))
+        (state (lent (now (cards .entry)) (now (counts .entry)) (now (queue .entry)) (now (days .entry)) (now (sums .entry)) (now (due .entry)) (now (keys .entry)) (now (intervals .entry))) 0 seed))
         (now (answer .exit))
-        (now (cards .exit)) (now (counts .exit)) (now (queue .exit)) (now (days .exit)) (now (sums .exit)) (now (due .exit)) (now (keys .exit)) (now (intervals .exit)) ⌝ }
+        (lent (now (cards .exit)) (now (counts .exit)) (now (queue .exit)) (now (days .exit)) (now (sums .exit)) (now (due .exit)) (now (keys .exit)) (now (intervals .exit))) ⌝ }
 {
     let config = config_of(
         numbers,

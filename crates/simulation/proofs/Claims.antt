@@ -29,7 +29,7 @@ use Rattle.simulation.specs.declared.Progress.{Progress}
 use Rattle.simulation.specs.declared.Answer.{Answer}
 use Rattle.simulation.specs.declared.Answer.the-variants as answer
 use Rattle.simulation.specs.declared.Stop.{Stop}
-use Rattle.simulation.specs.State.{State, Lists, withDraws}
+use Rattle.simulation.specs.State.{State, Lent, Lists, withDraws}
 use Rattle.simulation.specs.Rules.{Rules, rulesWith, rulesOf}
 use Rattle.simulation.specs.Turn.{next}
 use Rattle.simulation.specs.Entry.{Inputs, inputs, listsOk, checked}
@@ -135,23 +135,23 @@ module _ (i : Inputs) (s : State) where
   same-check e = e
 
   pub refused-is : (r : Refusal) → checked i s ≡ check.Failed r
-      → {c′ : List (List Float)} {n′ r′ d′ : List (List ℕ)} {u′ : List (List Float)} {v′ : List ℕ} {k′ : List (List ℕ)} {t′ : List Float} → Lists s c′ n′ r′ d′ u′ v′ k′ t′
-      → RunContract i s (answer.Refused r (progress 0 0 (i .seed))) c′ n′ r′ d′ u′ v′ k′ t′
+      → {l′ : Lent} → Lists s l′
+      → RunContract i s (answer.Refused r (progress 0 0 (i .seed))) l′
   unfolding simulatedBy
   refused-is r e l = record { result = rw e (record { answer = refl; lists = l }); daily-rules = λ f. absurd (not-finished r (progress 0 0 (i .seed)) f) }
 
-  module _ (e : checked i s ≡ check.Passed) {r : Answer} {c′ : List (List Float)} {n′ r′ d′ : List (List ℕ)} {u′ : List (List Float)} {v′ : List ℕ} {k′ : List (List ℕ)} {t′ : List Float}
-      (d : Done (finished (rulesOf (i .config) (kept (Kept.newOf (i .parameters)))) (setUp i s)) r c′ n′ r′ d′ u′ v′ k′ t′) where
-    plainly : Done (finished (rulesFor i) (setUp i s)) r c′ n′ r′ d′ u′ v′ k′ t′
-    plainly = subst (λ (x : Scalars). Done (finished (rulesOf (i .config) x) (setUp i s)) r c′ n′ r′ d′ u′ v′ k′ t′) (kept-is (i .parameters)) d
+  module _ (e : checked i s ≡ check.Passed) {r : Answer} {l′ : Lent}
+      (d : Done (finished (rulesOf (i .config) (kept (Kept.newOf (i .parameters)))) (setUp i s)) r l′) where
+    plainly : Done (finished (rulesFor i) (setUp i s)) r l′
+    plainly = subst (λ (x : Scalars). Done (finished (rulesOf (i .config) x) (setUp i s)) r l′) (kept-is (i .parameters)) d
 
-    done : Done (simulated i s) r c′ n′ r′ d′ u′ v′ k′ t′
+    done : Done (simulated i s) r l′
     unfolding simulatedBy
     done = rw e plainly
 
-    three : DemandThree (rulesFor i) i s n′ d′
+    three : DemandThree (rulesFor i) i s (l′ .counts) (l′ .days)
     unfolding finished
-    three = demand-three (rulesFor i) i s (accepted i s e) (suits splitMix i s (accepted i s e)) n′ d′ (plainly .lists .counts-are) (plainly .lists .days-are)
+    three = demand-three (rulesFor i) i s (accepted i s e) (suits splitMix i s (accepted i s e)) (l′ .counts) (l′ .days) (plainly .lists .counts-are) (plainly .lists .days-are)
 
-    pub accepted-is : RunContract i s r c′ n′ r′ d′ u′ v′ k′ t′
+    pub accepted-is : RunContract i s r l′
     accepted-is = record { result = done; daily-rules = λ f. three }

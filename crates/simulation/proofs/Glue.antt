@@ -33,10 +33,11 @@ use Rattle.simulation.specs.declared.Outcome.{Outcome}
 use Rattle.simulation.specs.declared.Outcome.the-variants as outcome
 use Rattle.simulation.specs.declared.Refusal.the-variants as refusal
 use Rattle.simulation.specs.declared.Stop.the-variants as stop
-use Rattle.simulation.specs.State.{State, Lists, state, keyOf}
+use Rattle.simulation.specs.State.{State, Lent, Lists, lent, state, keyOf}
 use Rattle.simulation.specs.Rules.{Rules}
 use Rattle.simulation.specs.Turn.{refuses, turnAs, eventTurn, eventCard, retired, postponed, handled, handleAs, handle, orElse, act, next}
 use Rattle.simulation.specs.Steps.{Turned, PutOff, PutOffStep, RetireStep, DaysWritten, CardWritten}
+use Rattle.simulation.proofs.Turning.{lists-same}
 
 -- neither variant but the second
 pub not-happened : (e : Event) → OneOf (1 ∷ []) (tagOf event-type.the-type e) → e ≡ event.Chance
@@ -69,78 +70,91 @@ module _ (R : Rules) (r : State) (c : ℕ) (k : Card) (new : Bool) (d : ℕ) (y 
   handle-some (slot.Enter p a b v) e = refl
   handle-some slot.Full e = absurd (true≢false e)
 
-module _ (R : Rules) (cards : List (List Float)) (counts rows days : List (List ℕ)) (sums : List (List Float)) (due : List ℕ) (keys : List (List ℕ)) (intervals : List Float) (len draws : ℕ) where
+module _ (R : Rules) (l : Lent) (len draws : ℕ) where
   abbrev st : State
-  st = state cards counts rows days sums due keys intervals len draws
+  st = state l len draws
 
-  same : Lists st cards counts rows days sums due keys intervals
-  same = record { cards-are = refl; counts-are = refl; rows-are = refl; days-are = refl; costs-are = refl; held-are = refl; due-are = refl; table-is = refl }
+  -- a refusal leaves the lists
+  same : Lists st l
+  same = lists-same l len draws
 
   -- ---- an event
   module _ (c : ℕ) (k : Card) (new : Bool) (d : ℕ) where
-    pub chance-is : (e : Event) → e ≡ R .model .event (R .draw) k new d draws → e ≡ event.Chance → Turned (handle R st c k new d) st (outcome.Stopped (stop.Refused (refusal.Chance c))) cards counts rows days sums due keys intervals
+    pub chance-is : (e : Event) → e ≡ R .model .event (R .draw) k new d draws → e ≡ event.Chance → Turned (handle R st c k new d) st (outcome.Stopped (stop.Refused (refusal.Chance c))) l
     unfolding handle
     chance-is e p q =
         let x : R .model .event (R .draw) k new d draws ≡ event.Chance = sym p ∙ q in
         rw x (record { outcome = refl; lists = same })
 
-    module _ (e : Event) (x : Memory) (p : e ≡ R .model .event (R .draw) k new d draws) (q : e ≡ event.Happened x) (t : Slot) (z : t ≡ R .model .slot (table keys intervals) (x .stability) (k .«desired_retention»)) where
+    module _ (e : Event) (x : Memory) (p : e ≡ R .model .event (R .draw) k new d draws) (q : e ≡ event.Happened x) (t : Slot) (z : t ≡ R .model .slot (table (l .keys) (l .intervals)) (x .stability) (k .«desired_retention»)) where
       handles : handle R st c k new d ≡ handleAs R st c k new d x t
       unfolding handle
       handles =
           let y : R .model .event (R .draw) k new d draws ≡ event.Happened x = sym p ∙ q in
           rw (y, z)
 
-      pub full-is : (f : Bool) → f ≡ isFull t → f ≡ true → Turned (handle R st c k new d) st (outcome.Stopped (stop.Refused (refusal.TableFull c))) cards counts rows days sums due keys intervals
+      pub full-is : (f : Bool) → f ≡ isFull t → f ≡ true → Turned (handle R st c k new d) st (outcome.Stopped (stop.Refused (refusal.TableFull c))) l
       full-is f u y = rw (handles ∙ handle-full R st c k new d x t (sym u ∙ y)) (record { outcome = refl; lists = same })
 
       pub handled-is : (f : Bool) → f ≡ isFull t → f ≡ false
           → (v : Float) → v ≡ intervalOf t
           → (k′ : Card) → k′ ≡ eventCard k new x d v
           → (day : ℕ) → day ≡ dayOf (k′ .due)
-          → (cards′ : List (List Float)) (counts′ rows′ days′ : List (List ℕ)) (sums′ : List (List Float)) (due′ : List ℕ) (keys′ : List (List ℕ)) (intervals′ : List Float)
-          → CardWritten c k′ len cards counts rows cards′ counts′ rows′
-          → DaysWritten R k new d x days sums days′ sums′
+          → (l′ : Lent)
+          → CardWritten c k′ len (l .cards) (l .counts) (l .rows) (l′ .cards) (l′ .counts) (l′ .rows)
+          → DaysWritten R k new d x (l .days) (l .sums) (l′ .days) (l′ .sums)
           → x .cost ≡ R .costs .cost (eventTurn R st c k new d x)
-          → due′ ≡ addDue (R .span) due day
-          → table keys′ intervals′ ≡ entered (table keys intervals) t
-          → Turned (handle R st c k new d) st (outcome.Took len (x .draws)) cards′ counts′ rows′ days′ sums′ due′ keys′ intervals′
+          → l′ .due ≡ addDue (R .span) (l .due) day
+          → table (l′ .keys) (l′ .intervals) ≡ entered (table (l .keys) (l .intervals)) t
+          → Turned (handle R st c k new d) st (outcome.Took len (x .draws)) l′
       unfolding handled
-      handled-is f u y v ev k′ ek day ed cards′ counts′ rows′ days′ sums′ due′ keys′ intervals′ cw dw pw du tw =
+      handled-is f u y v ev k′ ek day ed l′ cw dw pw du tw =
           let kk : eventCard k new x d (intervalOf t) ≡ k′ = sym (ek ∙ ap (λ (w : Float). eventCard k new x d w) ev) in
-          let q′ : frontChanged (queue rows len) (keyOf k′) ≡ queue rows′ len = sym (cw .queue-is) in
+          let q′ : frontChanged (queue (l .rows) len) (keyOf k′) ≡ queue (l′ .rows) len = sym (cw .queue-is) in
           rw (handles ∙ handle-some R st c k new d x t (sym u ∙ y))
           (rw (kk, q′)
           (record {
             outcome = refl;
-            lists = record { cards-are = cw .cards-are; counts-are = cw .counts-are; rows-are = refl; days-are = dw .days-are; costs-are = dw .sums-are .costs-are ∙ ap (λ (z : Float). payOn (R .costs .plus) (costColumn sums) d z) pw; held-are = dw .sums-are .held-are; due-are = du ∙ ap (addDue (R .span) due) ed; table-is = tw };
+            lists = record {
+              cards-are = cw .cards-are;
+              counts-are = cw .counts-are;
+              rows-are = refl;
+              days-are = dw .days-are;
+              costs-are = dw .sums-are .costs-are ∙ ap (λ (z : Float). payOn (R .costs .plus) (costColumn (l .sums)) d z) pw;
+              held-are = dw .sums-are .held-are;
+              due-are = du ∙ ap (addDue (R .span) (l .due)) ed;
+              table-is = tw;
+            };
           }))
 
   -- ---- the turn
-  pub ended-is : len ≡ 0 → Turned (next R st) st (outcome.Stopped stop.Ended) cards counts rows days sums due keys intervals
+  pub ended-is : len ≡ 0 → Turned (next R st) st (outcome.Stopped stop.Ended) l
   unfolding next
   ended-is e = rw (eq-eqb len 0 e) (record { outcome = refl; lists = same })
 
-  module _ (ne : len ≢ 0) (c : ℕ) (k : Card) (d l r : ℕ) (x : Float) (ch : Choice) (ec : c ≡ front (queue rows len)) (ek : k ≡ cardAt cards counts c) (ed : d ≡ dayOf (k .due))
-      (el : l ≡ learnedAt days d) (er : r ≡ reviewedAt days d) (ex : x ≡ costAt (costColumn sums) d) (eh : ch ≡ choiceOf (R .span) (R .lapse-limit) (R .limits) d k l r x) where
+  module _ (ne : len ≢ 0) (c : ℕ) (k : Card) (d m r : ℕ) (x : Float) (ch : Choice) (ec : c ≡ front (queue (l .rows) len)) (ek : k ≡ cardAt (l .cards) (l .counts) c) (ed : d ≡ dayOf (k .due))
+      (el : m ≡ learnedAt (l .days) d) (er : r ≡ reviewedAt (l .days) d) (ex : x ≡ costAt (costColumn (l .sums)) d) (eh : ch ≡ choiceOf (R .span) (R .lapse-limit) (R .limits) d k m r x) where
     next-is : next R st ≡ act R st c k d ch
     unfolding next
     next-is = rw (ne-eqb len 0 ne, ← ec, ← ek, ← ed, ← el, ← er, ← ex, ← eh)
 
-    pub retired-is : (o : Outcome) (sums′ : List (List Float)) (rows′ : List (List ℕ)) → ch ≡ choice.Retire → RetireStep R k len draws sums rows o sums′ rows′
-        → Turned (next R st) st o cards counts rows′ days sums′ due keys intervals
+    pub retired-is : (o : Outcome) (sums′ : List (List Float)) (rows′ : List (List ℕ)) → ch ≡ choice.Retire → RetireStep R k len draws (l .sums) (l .rows) o sums′ rows′
+        → Turned (next R st) st o (lent (l .cards) (l .counts) rows′ (l .days) sums′ (l .due) (l .keys) (l .intervals))
     unfolding retired
     retired-is o sums′ rows′ e p =
         rw (next-is ∙ ap (act R st c k d) e)
-        (record { outcome = p .outcome; lists = record { cards-are = refl; counts-are = refl; rows-are = p .rows-are; days-are = refl; costs-are = p .sums-are .costs-are; held-are = p .sums-are .held-are; due-are = refl; table-is = refl } })
+        (record {
+          outcome = p .outcome;
+          lists = record { cards-are = refl; counts-are = refl; rows-are = p .rows-are; days-are = refl; costs-are = p .sums-are .costs-are; held-are = p .sums-are .held-are; due-are = refl; table-is = refl };
+        })
 
-    pub put-off-is : (o : Outcome) (cards′ : List (List Float)) (rows′ : List (List ℕ)) (due′ : List ℕ) → ch ≡ choice.PutOff → PutOffStep (R .span) c k d len draws cards rows due o cards′ rows′ due′
-        → Turned (next R st) st o cards′ counts rows′ days sums due′ keys intervals
+    pub put-off-is : (o : Outcome) (cards′ : List (List Float)) (rows′ : List (List ℕ)) (due′ : List ℕ) → ch ≡ choice.PutOff → PutOffStep (R .span) c k d len draws (l .cards) (l .rows) (l .due) o cards′ rows′ due′
+        → Turned (next R st) st o (lent cards′ (l .counts) rows′ (l .days) (l .sums) due′ (l .keys) (l .intervals))
     unfolding postponed
-    put-off-is o cards′ rows′ due′ e p = rw (next-is ∙ ap (act R st c k d) e) (go (noneDue due (newOf (k .«last_date»)) d) refl)
+    put-off-is o cards′ rows′ due′ e p = rw (next-is ∙ ap (act R st c k d) e) (go (noneDue (l .due) (newOf (k .«last_date»)) d) refl)
       where
-        go : (b : Bool) → noneDue due (newOf (k .«last_date»)) d ≡ b
-            → Turned (orElse b (refuses (refusal.DueCount c)) (takes (turnAs c d putOff) (postponed R st c k d))) st o cards′ counts rows′ days sums due′ keys intervals
+        go : (b : Bool) → noneDue (l .due) (newOf (k .«last_date»)) d ≡ b
+            → Turned (orElse b (refuses (refusal.DueCount c)) (takes (turnAs c d putOff) (postponed R st c k d))) st o (lent cards′ (l .counts) rows′ (l .days) (l .sums) due′ (l .keys) (l .intervals))
         go true y =
             let h = p .refused y in
             record { outcome = h .0; lists = record { cards-are = h .1 .cards-are; counts-are = refl; rows-are = h .1 .rows-are; days-are = refl; costs-are = refl; held-are = refl; due-are = h .1 .due-are; table-is = refl } }
@@ -149,8 +163,5 @@ module _ (R : Rules) (cards : List (List Float)) (counts rows days : List (List 
             rw (sym (h .1 .queue-is))
             (record { outcome = h .0; lists = record { cards-are = h .1 .cards-are; counts-are = refl; rows-are = refl; days-are = refl; costs-are = refl; held-are = refl; due-are = h .1 .due-are; table-is = refl } })
 
-    pub event-is : (new : Bool) (o : Outcome) (cards′ : List (List Float)) (counts′ rows′ days′ : List (List ℕ)) (sums′ : List (List Float)) (due′ : List ℕ) (keys′ : List (List ℕ)) (intervals′ : List Float)
-        → act R st c k d ch ≡ handle R st c k new d
-        → Turned (handle R st c k new d) st o cards′ counts′ rows′ days′ sums′ due′ keys′ intervals′
-        → Turned (next R st) st o cards′ counts′ rows′ days′ sums′ due′ keys′ intervals′
-    event-is new o cards′ counts′ rows′ days′ sums′ due′ keys′ intervals′ e p = rw (next-is ∙ e) p
+    pub event-is : (new : Bool) (o : Outcome) (l′ : Lent) → act R st c k d ch ≡ handle R st c k new d → Turned (handle R st c k new d) st o l′ → Turned (next R st) st o l′
+    event-is new o l′ e p = rw (next-is ∙ e) p

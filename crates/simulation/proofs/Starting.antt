@@ -22,7 +22,7 @@ use Rattle.simulation.specs.declared.Check.{Check}
 use Rattle.simulation.specs.declared.Check.the-variants as check
 use Rattle.simulation.specs.declared.Reach.{Reach}
 use Rattle.simulation.specs.declared.Stop.the-variants as stop
-use Rattle.simulation.specs.State.{State, state}
+use Rattle.simulation.specs.State.{State, Lent, lent, state}
 use Rattle.simulation.specs.Rules.{Rules}
 use Rattle.simulation.specs.Steps.{Ran}
 use Rattle.simulation.specs.Entry.{Inputs, inputs, firstWhere, notFinite, failIf, checkParameters, checked}
@@ -87,7 +87,7 @@ module _ (g : SimulatorConfig) (w : List Float) (retention : Float) (seed : ℕ)
   i = inputs g w retention seed es ns
 
   abbrev s : State
-  s = state cards counts rows days sums due keys intervals 0 seed
+  s = state (lent cards counts rows days sums due keys intervals) 0 seed
 
   with-due : deck c₄ n₄ r₄ due₂ len ≡ create retention (g .«learn_limit») more (deck c₂ n₂ r₂ due₂ kept)
   unfolding withDue
@@ -99,7 +99,7 @@ module _ (g : SimulatorConfig) (w : List Float) (retention : Float) (seed : ℕ)
       let a : deck c₂ n₂ r₂ due₂ kept ≡ retain (g .«learn_span») es ns (length es) (deck cards counts rows (filled 0 (dueDays (g .«learn_span»)) due) 0) = e₂ ∙ rw (e₁, en, ed) in
       with-due ∙ rw (e₃, ← a)
 
-  pub set-up-is : state c₄ n₄ r₄ days′ sums′ due₂ keys intervals′ len seed ≡ setUp i s
+  pub set-up-is : state (lent c₄ n₄ r₄ days′ sums′ due₂ keys intervals′) len seed ≡ setUp i s
   unfolding setUp
   set-up-is = rw (← dealt-is, e₅, ek, en, e₆, filled-column (λ (row : List Float). getD row 0 nan) firstSums (g .«learn_span») sums, filled-column (λ (row : List Float). getD row 1 nan) firstSums (g .«learn_span») sums, e₇)
 
@@ -112,15 +112,15 @@ module _ (i : Inputs) (s : State) {s₁ : State} (up : s₁ ≡ setUp i s) where
       let l : s₁ .queue .len ≡ setUp i s .queue .len = ap (λ (z : State). z .queue .len) up in
       (omega (arith, few, l, ok .deck-most), ok .span-most)
 
-  pub done-is : (R : Rules) {b : ℕ} {x : Reach} {c′ : List (List Float)} {n′ r′ d′ : List (List ℕ)} {u′ : List (List Float)} {v′ : List ℕ} {k′ : List (List ℕ)} {t′ : List Float}
+  pub done-is : (R : Rules) {b : ℕ} {x : Reach} {l′ : Lent}
       → b ≡ bound R s₁
-      → Ran R s₁ b x c′ n′ r′ d′ u′ v′ k′ t′
-      → Done (finished R (setUp i s)) (answerOf (x .stop) (progress (x .turns) (s₁ .queue .len) (x .draws))) c′ n′ r′ d′ u′ v′ k′ t′
+      → Ran R s₁ b x l′
+      → Done (finished R (setUp i s)) (answerOf (x .stop) (progress (x .turns) (s₁ .queue .len) (x .draws))) l′
   unfolding finished ran
-  done-is R {b = b} {x = x} {c′ = c′} {n′ = n′} {r′ = r′} {d′ = d′} {u′ = u′} {v′ = v′} {k′ = k′} {t′ = t′} eb r =
-      subst (λ (z : State). Done (finished R z) (answerOf (x .stop) (progress (x .turns) (s₁ .queue .len) (x .draws))) c′ n′ r′ d′ u′ v′ k′ t′) up (go (subst (λ (z : ℕ). Ran R s₁ z x c′ n′ r′ d′ u′ v′ k′ t′) eb r))
+  done-is R {b = b} {x = x} {l′ = l′} eb r =
+      subst (λ (z : State). Done (finished R z) (answerOf (x .stop) (progress (x .turns) (s₁ .queue .len) (x .draws))) l′) up (go (subst (λ (z : ℕ). Ran R s₁ z x l′) eb r))
     where
-      go : Ran R s₁ (bound R s₁) x c′ n′ r′ d′ u′ v′ k′ t′ → Done (finished R s₁) (answerOf (x .stop) (progress (x .turns) (s₁ .queue .len) (x .draws))) c′ n′ r′ d′ u′ v′ k′ t′
+      go : Ran R s₁ (bound R s₁) x l′ → Done (finished R s₁) (answerOf (x .stop) (progress (x .turns) (s₁ .queue .len) (x .draws))) l′
       go r₁ = record { answer = rw (r₁ .stop-is, r₁ .turns, r₁ .draws); lists = r₁ .lists }
 
 pub bound-fits : (len span : ℕ) → len ≤ 65536 → span ≤ 36500 → len * (span + 1) ≤ 2392129536

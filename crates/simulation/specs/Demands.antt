@@ -21,7 +21,7 @@ use Rattle.simulation.specs.declared.Stop.the-variants as stop
 use Rattle.simulation.specs.declared.Progress.{Progress}
 use Rattle.simulation.specs.declared.Answer.{Answer}
 use Rattle.simulation.specs.declared.Answer.the-variants as answer
-use Rattle.simulation.specs.State.{State, withTable}
+use Rattle.simulation.specs.State.{State, Lent, withTable}
 use Rattle.simulation.specs.Invariant.{lapsesIn}
 use Rattle.simulation.specs.Rules.{Rules}
 use Rattle.simulation.specs.Turn.{next}
@@ -67,9 +67,9 @@ pub record SameRun (r r′ : Result) : Type 0 where
   pub draws-are : r′ .state .draws ≡ r .state .draws
 
 -- WHAT A CALL OF THE RUN PROMISES: the answer and the lists are those of the definition, and where it ends Ok demand 3 holds of them
-pub record RunContract (i : Inputs) (s : State) (r : Answer) (cards : List (List Float)) (counts rows days : List (List ℕ)) (sums : List (List Float)) (due : List ℕ) (keys : List (List ℕ)) (intervals : List Float) : Type 0 where
-  pub result : Done (simulated i s) r cards counts rows days sums due keys intervals
-  pub daily-rules : Finished r → DemandThree (rulesFor i) i s counts days
+pub record RunContract (i : Inputs) (s : State) (r : Answer) (l : Lent) : Type 0 where
+  pub result : Done (simulated i s) r l
+  pub daily-rules : Finished r → DemandThree (rulesFor i) i s (l .counts) (l .days)
 
 -- THE DEMANDS beside the contract, of a run by rules R: `demands` has them at any way to draw
 pub record Demands (R : Rules) (i : Inputs) (s : State) : Type 0 where

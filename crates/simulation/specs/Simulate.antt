@@ -15,7 +15,7 @@ use Rattle.simulation.specs.declared.Check.the-variants as check
 use Rattle.simulation.specs.declared.Progress.{Progress}
 use Rattle.simulation.specs.declared.Answer.{Answer}
 use Rattle.simulation.specs.declared.Answer.the-variants as answer
-use Rattle.simulation.specs.State.{State, Lists}
+use Rattle.simulation.specs.State.{State, Lent, Lists}
 use Rattle.simulation.specs.Rules.{Rules, rulesOf}
 use Rattle.simulation.specs.Turn.{next}
 use Rattle.simulation.specs.Entry.{Inputs, checked}
@@ -65,6 +65,6 @@ abbrev pub simulated : Inputs → State → Result
 simulated i = simulatedBy (rulesFor i) i
 
 -- an answer and lists are those of a result
-pub record Done (x : Result) (r : Answer) (cards : List (List Float)) (counts rows days : List (List ℕ)) (sums : List (List Float)) (due : List ℕ) (keys : List (List ℕ)) (intervals : List Float) : Type 0 where
+pub record Done (x : Result) (r : Answer) (l : Lent) : Type 0 where
   pub answer : r ≡ x .answer
-  pub lists : Lists (x .state) cards counts rows days sums due keys intervals
+  pub lists : Lists (x .state) l

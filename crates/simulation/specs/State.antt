@@ -36,30 +36,44 @@ cardIn s c = cardAt (s .cards) (s .counts) c
 abbrev pub keyOf : Card → ℕ
 keyOf k = cardPriority (dayOf (k .due)) (newOf (k .«last_date»)) (k .difficulty)
 
--- the state of lists, of a queue's length and of the draws
-abbrev pub state : List (List Float) → List (List ℕ) → List (List ℕ) → List (List ℕ) → List (List Float) → List ℕ → List (List ℕ) → List Float → ℕ → ℕ → State
-state cards counts rows days sums due keys intervals len draws = record {
-  cards = cards;
-  counts = counts;
-  queue = queue rows len;
-  days = days;
-  costs = costColumn sums;
-  held = heldColumn sums;
-  due = due;
-  table = table keys intervals;
+-- THE LENT LISTS, as a caller has them: rows of cards and of their counts, of the queue, of days' counts and sums, the due counts, and the interval table
+pub record Lent : Type 0 where
+  pub cards : List (List Float)
+  pub counts : List (List ℕ)
+  pub rows : List (List ℕ)
+  pub days : List (List ℕ)
+  pub sums : List (List Float)
+  pub due : List ℕ
+  pub keys : List (List ℕ)
+  pub intervals : List Float
+
+abbrev pub lent : List (List Float) → List (List ℕ) → List (List ℕ) → List (List ℕ) → List (List Float) → List ℕ → List (List ℕ) → List Float → Lent
+lent cards counts rows days sums due keys intervals = record { cards = cards; counts = counts; rows = rows; days = days; sums = sums; due = due; keys = keys; intervals = intervals }
+
+-- the state of lent lists, of a queue's length and of the draws
+abbrev pub state : Lent → ℕ → ℕ → State
+state l len draws = record {
+  cards = l .cards;
+  counts = l .counts;
+  queue = queue (l .rows) len;
+  days = l .days;
+  costs = costColumn (l .sums);
+  held = heldColumn (l .sums);
+  due = l .due;
+  table = table (l .keys) (l .intervals);
   draws = draws;
 }
 
--- the lists are those of a state
-pub record Lists (s : State) (cards : List (List Float)) (counts rows days : List (List ℕ)) (sums : List (List Float)) (due : List ℕ) (keys : List (List ℕ)) (intervals : List Float) : Type 0 where
-  pub cards-are : cards ≡ s .cards
-  pub counts-are : counts ≡ s .counts
-  pub rows-are : rows ≡ s .queue .rows
-  pub days-are : days ≡ s .days
-  pub costs-are : costColumn sums ≡ s .costs
-  pub held-are : heldColumn sums ≡ s .held
-  pub due-are : due ≡ s .due
-  pub table-is : table keys intervals ≡ s .table
+-- lent lists are those of a state
+pub record Lists (s : State) (l : Lent) : Type 0 where
+  pub cards-are : l .cards ≡ s .cards
+  pub counts-are : l .counts ≡ s .counts
+  pub rows-are : l .rows ≡ s .queue .rows
+  pub days-are : l .days ≡ s .days
+  pub costs-are : costColumn (l .sums) ≡ s .costs
+  pub held-are : heldColumn (l .sums) ≡ s .held
+  pub due-are : l .due ≡ s .due
+  pub table-is : table (l .keys) (l .intervals) ≡ s .table
 
 -- the same state with another interval table
 abbrev pub withTable : State → Table → State

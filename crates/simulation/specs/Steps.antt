@@ -22,7 +22,7 @@ use Rattle.simulation.specs.declared.Stop.{Stop}
 use Rattle.simulation.specs.declared.Stop.the-variants as stop
 use Rattle.simulation.specs.declared.Refusal.the-variants as refusal
 use Rattle.simulation.specs.declared.Outcome.the-variants as outcome
-use Rattle.simulation.specs.State.{State, Lists, keyOf}
+use Rattle.simulation.specs.State.{State, Lent, Lists, keyOf}
 use Rattle.simulation.specs.Rules.{Rules}
 use Rattle.simulation.specs.Turn.{putOffCard, holdCard, next}
 
@@ -41,9 +41,9 @@ afterOf s (takes t s′) = s′
 afterOf s (stops x) = s
 
 -- the outcome, and the lists as the turn leaves them: untouched where it stops
-pub record Turned (n : Next (Turn Drawn) State Stop) (s : State) (r : Outcome) (cards : List (List Float)) (counts rows days : List (List ℕ)) (sums : List (List Float)) (due : List ℕ) (keys : List (List ℕ)) (intervals : List Float) : Type 0 where
+pub record Turned (n : Next (Turn Drawn) State Stop) (s : State) (r : Outcome) (l : Lent) : Type 0 where
   pub outcome : r ≡ outcomeOf n
-  pub lists : Lists (afterOf s n) cards counts rows days sums due keys intervals
+  pub lists : Lists (afterOf s n) l
 
 -- ---- the steps that write few lists, by those
 pub record PutOff (span c : ℕ) (k : Card) (d len : ℕ) (cards : List (List Float)) (rows : List (List ℕ)) (due : List ℕ) (cards′ : List (List Float)) (rows′ : List (List ℕ)) (due′ : List ℕ) : Type 0 where
@@ -75,11 +75,11 @@ pub record CardWritten (c : ℕ) (k : Card) (len : ℕ) (cards : List (List Floa
   pub queue-is : queue rows′ len ≡ frontChanged (queue rows len) (keyOf k)
 
 -- what the loop over turns leaves, from a state and for at most n turns
-pub record Ran (R : Rules) (s : State) (n : ℕ) (r : Reach) (cards : List (List Float)) (counts rows days : List (List ℕ)) (sums : List (List Float)) (due : List ℕ) (keys : List (List ℕ)) (intervals : List Float) : Type 0 where
+pub record Ran (R : Rules) (s : State) (n : ℕ) (r : Reach) (l : Lent) : Type 0 where
   pub stop-is : r .stop ≡ stopOf (next R) stop.Ended n s
   pub turns : r .turns ≡ length ((run (next R) n [] s) .turns)
   pub draws : r .draws ≡ (run (next R) n [] s) .state .draws
-  pub lists : Lists ((run (next R) n [] s) .state) cards counts rows days sums due keys intervals
+  pub lists : Lists ((run (next R) n [] s) .state) l
 
 -- ---- set-up
 pub record Joined (k : Card) (len : ℕ) (cards : List (List Float)) (counts rows : List (List ℕ)) (r : ℕ) (cards′ : List (List Float)) (counts′ rows′ : List (List ℕ)) : Type 0 where

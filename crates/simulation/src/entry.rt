@@ -10,7 +10,7 @@ ghost use mathlib.Core.List.{List};
 ghost use lib.ListN.{getD};
 ghost use lib.Ieee.{Float, nan};
 ghost use Rattle.cards.specs.Cards.{isKept, cardOk};
-ghost use Rattle.simulation.specs.State.{state};
+ghost use Rattle.simulation.specs.State.{lent, state};
 ghost use Rattle.simulation.specs.declared.Check.the-variants as check;
 ghost use Rattle.simulation.specs.Entry.{inputs, firstWhere, notFinite, notOk, checkParameters, listsOk, checkFirst, checked};
 
@@ -105,7 +105,7 @@ fn lists_ok(
     ensures { λ r. ⌜ ((w : List Float) (retention : Float) →
         r ≡ listsOk
         (inputs config w retention 0 (now (existing .entry)) (now («existing_counts» .entry)))
-        (state (now (cards .entry)) (now (counts .entry)) (now (rows .entry)) (now (days .entry)) (now (sums .entry)) (now (due .entry)) (now (keys .entry)) (now (intervals .entry)) 0 0)) ⌝ }
+        (state (lent (now (cards .entry)) (now (counts .entry)) (now (rows .entry)) (now (days .entry)) (now (sums .entry)) (now (due .entry)) (now (keys .entry)) (now (intervals .entry))) 0 0)) ⌝ }
 {
     let deck = config.deck_size as usize;
     let span = config.learn_span as usize;
@@ -150,7 +150,7 @@ pub(crate) fn check_entry(
 ) -> Check
     ensures { λ r. ⌜ r ≡ checked
         (inputs config (now (parameters .entry)) retention 0 (now (existing .entry)) (now («existing_counts» .entry)))
-        (state (now (cards .entry)) (now (counts .entry)) (now (rows .entry)) (now (days .entry)) (now (sums .entry)) (now (due .entry)) (now (keys .entry)) (now (intervals .entry)) 0 0) ⌝ }
+        (state (lent (now (cards .entry)) (now (counts .entry)) (now (rows .entry)) (now (days .entry)) (now (sums .entry)) (now (due .entry)) (now (keys .entry)) (now (intervals .entry))) 0 0) ⌝ }
 {
     let first = check_parameters(parameters);
     let Check::Passed = first else {

@@ -1,6 +1,6 @@
 // The run: the types of its answer, and the entry. Its parts are entry (the tests), set_up, turn and run.
 use cards::SimulatorConfig;
-ghost use Rattle.simulation.specs.State.{state};
+ghost use Rattle.simulation.specs.State.{lent, state};
 ghost use Rattle.simulation.specs.Entry.{inputs};
 ghost use Rattle.simulation.specs.Demands.{RunContract};
 
@@ -80,9 +80,9 @@ pub fn simulate(
 ) -> Answer
     ensures { λ r. ⌜ (
         let i = inputs config (now (parameters .entry)) retention seed (now (existing .entry)) (now («existing_counts» .entry)) in
-        let s = state (now (cards .entry)) (now (counts .entry)) (now (rows .entry)) (now (days .entry)) (now (sums .entry)) (now (due .entry)) (now (keys .entry)) (now (intervals .entry)) 0 seed in
+        let s = state (lent (now (cards .entry)) (now (counts .entry)) (now (rows .entry)) (now (days .entry)) (now (sums .entry)) (now (due .entry)) (now (keys .entry)) (now (intervals .entry))) 0 seed in
         RunContract i s r
-        (now (cards .exit)) (now (counts .exit)) (now (rows .exit)) (now (days .exit)) (now (sums .exit)) (now (due .exit)) (now (keys .exit)) (now (intervals .exit))) ⌝ }
+        (lent (now (cards .exit)) (now (counts .exit)) (now (rows .exit)) (now (days .exit)) (now (sums .exit)) (now (due .exit)) (now (keys .exit)) (now (intervals .exit)))) ⌝ }
 {
     let entry = entry::check_entry(
         cards,

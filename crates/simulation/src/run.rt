@@ -10,7 +10,7 @@ ghost use mathlib.Core.Path.{_≡_};
 ghost use Prim.Native.Nat.{suc, _*_, _≤_};
 ghost use Rattle.model.specs.Kept as Kept;
 ghost use Rattle.events.specs.Scalars.{kept};
-ghost use Rattle.simulation.specs.State.{state, mostCards, mostDays};
+ghost use Rattle.simulation.specs.State.{lent, state, mostCards, mostDays};
 ghost use Rattle.simulation.specs.Rules.{rulesOf};
 ghost use Rattle.simulation.specs.Steps.{stopIn, Ran};
 ghost use Rattle.simulation.specs.declared.Check.the-variants as check;
@@ -44,8 +44,8 @@ fn run_turns(
     seed: u64,
     bound: u32,
 ) -> Reach
-    ensures { λ r. ⌜ Ran (rulesOf config (kept m)) (state (now (cards .entry)) (now (counts .entry)) (now (rows .entry)) (now (days .entry)) (now (sums .entry)) (now (due .entry)) (now (keys .entry)) (now (intervals .entry)) len seed) bound r
-        (now (cards .exit)) (now (counts .exit)) (now (rows .exit)) (now (days .exit)) (now (sums .exit)) (now (due .exit)) (now (keys .exit)) (now (intervals .exit)) ⌝ }
+    ensures { λ r. ⌜ Ran (rulesOf config (kept m)) (state (lent (now (cards .entry)) (now (counts .entry)) (now (rows .entry)) (now (days .entry)) (now (sums .entry)) (now (due .entry)) (now (keys .entry)) (now (intervals .entry))) len seed) bound r
+        (lent (now (cards .exit)) (now (counts .exit)) (now (rows .exit)) (now (days .exit)) (now (sums .exit)) (now (due .exit)) (now (keys .exit)) (now (intervals .exit))) ⌝ }
 {
     let mut n = len;
     let mut draws = seed;
@@ -124,13 +124,13 @@ pub(crate) fn start(
 ) -> Answer
     requires { ⌜ checked
         (inputs config (now parameters) retention seed (now existing) (now «existing_counts»))
-        (state (now cards) (now counts) (now rows) (now days) (now sums) (now due) (now keys) (now intervals) 0 seed) ≡ check.Passed ⌝ }
+        (state (lent (now cards) (now counts) (now rows) (now days) (now sums) (now due) (now keys) (now intervals)) 0 seed) ≡ check.Passed ⌝ }
     ensures { λ r. ⌜ Done
         (finished (rulesOf config (kept (Kept.newOf (now (parameters .entry)))))
         (setUp (inputs config (now (parameters .entry)) retention seed (now (existing .entry)) (now («existing_counts» .entry)))
-        (state (now (cards .entry)) (now (counts .entry)) (now (rows .entry)) (now (days .entry)) (now (sums .entry)) (now (due .entry)) (now (keys .entry)) (now (intervals .entry)) 0 seed)))
+        (state (lent (now (cards .entry)) (now (counts .entry)) (now (rows .entry)) (now (days .entry)) (now (sums .entry)) (now (due .entry)) (now (keys .entry)) (now (intervals .entry))) 0 seed)))
         r
-        (now (cards .exit)) (now (counts .exit)) (now (rows .exit)) (now (days .exit)) (now (sums .exit)) (now (due .exit)) (now (keys .exit)) (now (intervals .exit)) ⌝ }
+        (lent (now (cards .exit)) (now (counts .exit)) (now (rows .exit)) (now (days .exit)) (now (sums .exit)) (now (due .exit)) (now (keys .exit)) (now (intervals .exit))) ⌝ }
 {
     let len = super::set_up::set_up(
         cards,

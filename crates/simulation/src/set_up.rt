@@ -12,7 +12,7 @@ ghost use Rattle.turns.specs.Sums.{bit};
 ghost use Rattle.days.specs.Counts.{dayRow};
 ghost use Rattle.cards.specs.Day as Day;
 ghost use Rattle.cards.specs.Cards.{isKept};
-ghost use Rattle.simulation.specs.State.{state, mostCards, mostDays};
+ghost use Rattle.simulation.specs.State.{lent, state, mostCards, mostDays};
 ghost use Rattle.simulation.specs.Entry.{inputs};
 ghost use Rattle.simulation.specs.Steps.{Joined};
 ghost use Rattle.simulation.specs.SetUp.{deck, filled, newCard, retainCard, retain, known, create, newCards, firstSums, setUp};
@@ -239,9 +239,9 @@ pub(crate) fn set_up(
 ) -> u32
     requires { ⌜ (length (now existing) ≤ mostCards) × (config .«learn_span» ≤ mostDays) ⌝ }
     ensures { λ r. ⌜ ((w : List Float) (seed : ℕ) (keys : List (List ℕ)) →
-        state (now (cards .exit)) (now (counts .exit)) (now (rows .exit)) (now (days .exit)) (now (sums .exit)) (now (due .exit)) keys (now (intervals .exit)) r seed
+        state (lent (now (cards .exit)) (now (counts .exit)) (now (rows .exit)) (now (days .exit)) (now (sums .exit)) (now (due .exit)) keys (now (intervals .exit))) r seed
         ≡ setUp (inputs config w retention seed (now (existing .entry)) (now («existing_counts» .entry)))
-        (state (now (cards .entry)) (now (counts .entry)) (now (rows .entry)) (now (days .entry)) (now (sums .entry)) (now (due .entry)) keys (now (intervals .entry)) 0 seed)) ⌝ }
+        (state (lent (now (cards .entry)) (now (counts .entry)) (now (rows .entry)) (now (days .entry)) (now (sums .entry)) (now (due .entry)) keys (now (intervals .entry))) 0 seed)) ⌝ }
 {
     let span = config.learn_span;
     let n = existing.len() as u32;

@@ -17,7 +17,7 @@ ghost use Rattle.days.specs.Counts.{raised};
 ghost use Rattle.days.specs.Sums.{Summed, costColumn, heldColumn};
 ghost use Rattle.events.specs.Scalars.{kept};
 ghost use Rattle.events.specs.Events.{eventOf};
-ghost use Rattle.simulation.specs.State.{keyOf, state};
+ghost use Rattle.simulation.specs.State.{lent, keyOf, state};
 ghost use Rattle.simulation.specs.Model.{modelOf, curveFor};
 ghost use Rattle.simulation.specs.Rules.{rulesOf};
 ghost use Rattle.simulation.specs.Turn.{putOffCard, eventCard, holdCard, handle, next};
@@ -256,11 +256,11 @@ fn event_step(
 ) -> Outcome
     ensures { λ r. ⌜ Turned
         (handle (rulesOf config (kept m))
-        (state (now (cards .entry)) (now (counts .entry)) (now (rows .entry)) (now (days .entry)) (now (sums .entry)) (now (due .entry)) (now (keys .entry)) (now (intervals .entry)) len draws)
+        (state (lent (now (cards .entry)) (now (counts .entry)) (now (rows .entry)) (now (days .entry)) (now (sums .entry)) (now (due .entry)) (now (keys .entry)) (now (intervals .entry))) len draws)
         c card new d)
-        (state (now (cards .entry)) (now (counts .entry)) (now (rows .entry)) (now (days .entry)) (now (sums .entry)) (now (due .entry)) (now (keys .entry)) (now (intervals .entry)) len draws)
+        (state (lent (now (cards .entry)) (now (counts .entry)) (now (rows .entry)) (now (days .entry)) (now (sums .entry)) (now (due .entry)) (now (keys .entry)) (now (intervals .entry))) len draws)
         r
-        (now (cards .exit)) (now (counts .exit)) (now (rows .exit)) (now (days .exit)) (now (sums .exit)) (now (due .exit)) (now (keys .exit)) (now (intervals .exit)) ⌝ }
+        (lent (now (cards .exit)) (now (counts .exit)) (now (rows .exit)) (now (days .exit)) (now (sums .exit)) (now (due .exit)) (now (keys .exit)) (now (intervals .exit))) ⌝ }
 {
     let curve = m.curve(card.stability);
     let drawn = event_of(config, m, curve, card, new, d, draws);
@@ -301,9 +301,9 @@ pub(crate) fn turn(
     draws: u64,
 ) -> Outcome
     ensures { λ r. ⌜ (
-        let before = state (now (cards .entry)) (now (counts .entry)) (now (rows .entry)) (now (days .entry)) (now (sums .entry)) (now (due .entry)) (now (keys .entry)) (now (intervals .entry)) len draws in
+        let before = state (lent (now (cards .entry)) (now (counts .entry)) (now (rows .entry)) (now (days .entry)) (now (sums .entry)) (now (due .entry)) (now (keys .entry)) (now (intervals .entry))) len draws in
         Turned (next (rulesOf config (kept m)) before) before r
-        (now (cards .exit)) (now (counts .exit)) (now (rows .exit)) (now (days .exit)) (now (sums .exit)) (now (due .exit)) (now (keys .exit)) (now (intervals .exit))) ⌝ }
+        (lent (now (cards .exit)) (now (counts .exit)) (now (rows .exit)) (now (days .exit)) (now (sums .exit)) (now (due .exit)) (now (keys .exit)) (now (intervals .exit)))) ⌝ }
 {
     if len == 0 {
         return Outcome::Stopped(Stop::Ended);

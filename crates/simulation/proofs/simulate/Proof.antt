@@ -1,8 +1,8 @@
 -- A call that an entry test fails is turned away as it came; any other is set up and run.
-use mathlib.Core.Path.{refl, sym, _∙_}
-use Rattle.simulation.specs.State.{state}
+use mathlib.Core.Path.{sym, _∙_}
+use Rattle.simulation.specs.State.{lent, state}
 use Rattle.simulation.specs.Entry.{inputs}
-use Rattle.simulation.proofs.Turning.{lists-of}
+use Rattle.simulation.proofs.Turning.{lists-same}
 use Rattle.simulation.proofs.Claims.{same-check, refused-is, accepted-is}
 use borrow.Author.Needs.{needs}
 use Rattle.simulation.proofs.simulate.Statement.{statement}
@@ -23,7 +23,7 @@ start-requires c κs =
     let at-check-entry = at-enum-told .before .before in
     let a = at-check-entry .before .before .before .before .before .before .before .before .before .before .before .before .args in
     let i = inputs (a .config) (a .parameters .now) (a .retention) (a .seed) (a .existing .now) (a .existing-counts .now) in
-    let s = state (a .cards .now) (a .counts .now) (a .rows .now) (a .days .now) (a .sums .now) (a .due .now) (a .keys .now) (a .intervals .now) 0 (a .seed) in
+    let s = state (lent (a .cards .now) (a .counts .now) (a .rows .now) (a .days .now) (a .sums .now) (a .due .now) (a .keys .now) (a .intervals .now)) 0 (a .seed) in
     sym (same-check i s (at-check-entry .check-entry .ensures)) ∙ at-enum-told .enum-told .given .1
 
 same-length : tie.Need-same-length
@@ -56,8 +56,8 @@ returns c =
     let at-check-entry = at-entry .before .before in
     let a = at-check-entry .before .before .before .before .before .before .before .before .before .before .before .before .args in
     let i = inputs (a .config) (a .parameters .now) (a .retention) (a .seed) (a .existing .now) (a .existing-counts .now) in
-    let s = state (a .cards .now) (a .counts .now) (a .rows .now) (a .days .now) (a .sums .now) (a .due .now) (a .keys .now) (a .intervals .now) 0 (a .seed) in
-    refused-is i s _ (sym (same-check i s (at-check-entry .check-entry .ensures)) ∙ at-entry .entry .given .1) (lists-of s (a .cards .now) (a .counts .now) (a .rows .now) (a .days .now) (a .sums .now) (a .due .now) (a .keys .now) (a .intervals .now) 0 (a .seed) refl)
+    let s = state (lent (a .cards .now) (a .counts .now) (a .rows .now) (a .days .now) (a .sums .now) (a .due .now) (a .keys .now) (a .intervals .now)) 0 (a .seed) in
+    refused-is i s _ (sym (same-check i s (at-check-entry .check-entry .ensures)) ∙ at-entry .entry .given .1) (lists-same (lent (a .cards .now) (a .counts .now) (a .rows .now) (a .days .now) (a .sums .now) (a .due .now) (a .keys .now) (a .intervals .now)) 0 (a .seed))
 
 same-length-9 : tie.Need-same-length-9
 same-length-9 c = search needs
@@ -90,7 +90,7 @@ returns-2 c =
     let at-check-entry = at-enum-told .before .before in
     let a = at-check-entry .before .before .before .before .before .before .before .before .before .before .before .before .args in
     let i = inputs (a .config) (a .parameters .now) (a .retention) (a .seed) (a .existing .now) (a .existing-counts .now) in
-    let s = state (a .cards .now) (a .counts .now) (a .rows .now) (a .days .now) (a .sums .now) (a .due .now) (a .keys .now) (a .intervals .now) 0 (a .seed) in
+    let s = state (lent (a .cards .now) (a .counts .now) (a .rows .now) (a .days .now) (a .sums .now) (a .due .now) (a .keys .now) (a .intervals .now)) 0 (a .seed) in
     let e = sym (same-check i s (at-check-entry .check-entry .ensures)) ∙ at-enum-told .enum-told .given .1 in
     accepted-is i s e (at-start .start .ensures)
 

@@ -1,24 +1,25 @@
--- The invariant of its loop, `Going`: after k turns the lists are the state of `run k`, and what is left stops as the whole does; `Long`: the lists are as long
+-- The invariant of its loop, `Going`: after k turns the lists are the state of `run k`, and what is left stops as the whole does; `SameLengths`: the lists are as long
 -- as they came. The measure is the bound less the turns.
 use Prim.Native.Nat.{_-_}
 use native.Mathlib.Omega.{arith}
 use mathlib.Core.Path.{refl, _∙_}
 use Rattle.events.specs.Scalars.{kept}
 use Rattle.simulation.specs.Rules.{rulesOf}
-use Rattle.simulation.specs.State.{state}
-use Rattle.simulation.proofs.Turning.{Going, going-start, going-on, going-stops, going-spent, Long}
+use Rattle.simulation.specs.State.{lent, state}
+use Rattle.simulation.proofs.Turning.{Going, going-start, going-on, going-stops, going-spent, SameLengths}
 use Rattle.simulation.proofs.run.run_turns.Statement.{statement}
 use Rattle.simulation.proofs.run.run_turns.Tie as tie
 use borrow.Author.Needs.{needs}
 
 abbrev Inv-loop : tie.InvT-loop
-Inv-loop cards₀ counts₀ rows₀ days₀ sums₀ due₀ keys₀ intervals₀ config m len seed bound n₀ draws₀ turns₀ cards counts rows days sums due keys intervals n draws turns = Going (rulesOf config (kept m)) (state cards₀ counts₀ rows₀ days₀ sums₀ due₀ keys₀ intervals₀ len seed) bound (state cards counts rows days sums due keys intervals n draws) turns × Long cards₀ counts₀ rows₀ days₀ sums₀ due₀ keys₀ intervals₀ cards counts rows days sums due keys intervals
+Inv-loop cards₀ counts₀ rows₀ days₀ sums₀ due₀ keys₀ intervals₀ config m len seed bound n₀ draws₀ turns₀ cards counts rows days sums due keys intervals n draws turns = Going (rulesOf config (kept m)) (state (lent cards₀ counts₀ rows₀ days₀ sums₀ due₀ keys₀ intervals₀) len seed) bound (state (lent cards counts rows days sums due keys intervals) n draws) turns
+    × SameLengths (lent cards₀ counts₀ rows₀ days₀ sums₀ due₀ keys₀ intervals₀) (lent cards counts rows days sums due keys intervals)
 
 abbrev μ-loop : tie.MeasureT-loop
 μ-loop cards₀ counts₀ rows₀ days₀ sums₀ due₀ keys₀ intervals₀ config m len seed bound n₀ draws₀ turns₀ cards counts rows days sums due keys intervals n draws turns = bound - turns
 
 loop-holds : tie.Need-loop-holds Inv-loop μ-loop
-loop-holds c = (going-start (rulesOf (c .before .before .args .config) (kept (c .before .before .args .m))) (c .before .before .args .bound) _, record { k0 = refl; k1 = refl; k2 = refl; k3 = refl; k4 = refl; k5 = refl; k6 = refl; k7 = refl })
+loop-holds c = (going-start (rulesOf (c .before .before .args .config) (kept (c .before .before .args .m))) (c .before .before .args .bound) _, record { cards = refl; counts = refl; rows = refl; days = refl; sums = refl; due = refl; keys = refl; intervals = refl })
 
 turn-requires : tie.Need-turn-requires Inv-loop μ-loop
 turn-requires c κs = tt
@@ -36,49 +37,49 @@ same-length : tie.Need-same-length Inv-loop μ-loop
 same-length c =
     let at-turn = c .before .before .before .before .before .before .before .before .before .before .before .before .before in
     let at-loop = at-turn .before .before .before .before .before .before .before .before .before .before in
-    at-turn .turn .kept .0 ∙ at-loop .loop .inv .1 .k0
+    at-turn .turn .kept .0 ∙ at-loop .loop .inv .1 .cards
 
 same-length-2 : tie.Need-same-length-2 Inv-loop μ-loop
 same-length-2 c =
     let at-turn = c .before .before .before .before .before .before .before .before .before .before .before .before .before in
     let at-loop = at-turn .before .before .before .before .before .before .before .before .before .before in
-    at-turn .turn .kept .1 .0 ∙ at-loop .loop .inv .1 .k1
+    at-turn .turn .kept .1 .0 ∙ at-loop .loop .inv .1 .counts
 
 same-length-3 : tie.Need-same-length-3 Inv-loop μ-loop
 same-length-3 c =
     let at-turn = c .before .before .before .before .before .before .before .before .before .before .before .before .before in
     let at-loop = at-turn .before .before .before .before .before .before .before .before .before .before in
-    at-turn .turn .kept .1 .1 .0 ∙ at-loop .loop .inv .1 .k2
+    at-turn .turn .kept .1 .1 .0 ∙ at-loop .loop .inv .1 .rows
 
 same-length-4 : tie.Need-same-length-4 Inv-loop μ-loop
 same-length-4 c =
     let at-turn = c .before .before .before .before .before .before .before .before .before .before .before .before .before in
     let at-loop = at-turn .before .before .before .before .before .before .before .before .before .before in
-    at-turn .turn .kept .1 .1 .1 .0 ∙ at-loop .loop .inv .1 .k3
+    at-turn .turn .kept .1 .1 .1 .0 ∙ at-loop .loop .inv .1 .days
 
 same-length-5 : tie.Need-same-length-5 Inv-loop μ-loop
 same-length-5 c =
     let at-turn = c .before .before .before .before .before .before .before .before .before .before .before .before .before in
     let at-loop = at-turn .before .before .before .before .before .before .before .before .before .before in
-    at-turn .turn .kept .1 .1 .1 .1 .0 ∙ at-loop .loop .inv .1 .k4
+    at-turn .turn .kept .1 .1 .1 .1 .0 ∙ at-loop .loop .inv .1 .sums
 
 same-length-6 : tie.Need-same-length-6 Inv-loop μ-loop
 same-length-6 c =
     let at-turn = c .before .before .before .before .before .before .before .before .before .before .before .before .before in
     let at-loop = at-turn .before .before .before .before .before .before .before .before .before .before in
-    at-turn .turn .kept .1 .1 .1 .1 .1 .0 ∙ at-loop .loop .inv .1 .k5
+    at-turn .turn .kept .1 .1 .1 .1 .1 .0 ∙ at-loop .loop .inv .1 .due
 
 same-length-7 : tie.Need-same-length-7 Inv-loop μ-loop
 same-length-7 c =
     let at-turn = c .before .before .before .before .before .before .before .before .before .before .before .before .before in
     let at-loop = at-turn .before .before .before .before .before .before .before .before .before .before in
-    at-turn .turn .kept .1 .1 .1 .1 .1 .1 .0 ∙ at-loop .loop .inv .1 .k6
+    at-turn .turn .kept .1 .1 .1 .1 .1 .1 .0 ∙ at-loop .loop .inv .1 .keys
 
 same-length-8 : tie.Need-same-length-8 Inv-loop μ-loop
 same-length-8 c =
     let at-turn = c .before .before .before .before .before .before .before .before .before .before .before .before .before in
     let at-loop = at-turn .before .before .before .before .before .before .before .before .before .before in
-    at-turn .turn .kept .1 .1 .1 .1 .1 .1 .1 .0 ∙ at-loop .loop .inv .1 .k7
+    at-turn .turn .kept .1 .1 .1 .1 .1 .1 .1 .0 ∙ at-loop .loop .inv .1 .intervals
 
 returns : tie.Need-returns Inv-loop μ-loop
 returns c =
@@ -88,7 +89,7 @@ returns c =
     let at-loop = at-loop-test .before in
     let start = at-loop .before .before .before in
     going-stops (rulesOf (start .args .config) (kept (start .args .m)))
-    (state (start .args .cards .now) (start .args .counts .now) (start .args .rows .now) (start .args .days .now) (start .args .sums .now) (start .args .due .now) (start .args .keys .now) (start .args .intervals .now) (start .args .len) (start .args .seed))
+    (state (lent (start .args .cards .now) (start .args .counts .now) (start .args .rows .now) (start .args .days .now) (start .args .sums .now) (start .args .due .now) (start .args .keys .now) (start .args .intervals .now)) (start .args .len) (start .args .seed))
     (start .args .bound) (at-loop .loop .inv .0) (at-turn .turn .ensures) (at-loop-test .loop-test .taken)
     (at-match .match .keys2) (c .stop-in .result) (c .stop-in .ensures)
 
@@ -107,37 +108,37 @@ loop-again c =
     let at-loop-test = at-turn .before .before .before .before .before .before .before .before .before in
     let at-loop = at-loop-test .before in
     let start = at-loop .before .before .before in
-    (going-on (rulesOf (start .args .config) (kept (start .args .m))) (state (start .args .cards .now) (start .args .counts .now) (start .args .rows .now) (start .args .days .now) (start .args .sums .now) (start .args .due .now) (start .args .keys .now) (start .args .intervals .now) (start .args .len) (start .args .seed)) (start .args .bound) (at-loop .loop .inv .0) (at-turn .turn .ensures) (at-loop-test .loop-test .taken) _ _ (c .before .o .given .1), record { k0 = at-turn .turn .kept .0 ∙ at-loop .loop .inv .1 .k0; k1 = at-turn .turn .kept .1 .0 ∙ at-loop .loop .inv .1 .k1; k2 = at-turn .turn .kept .1 .1 .0 ∙ at-loop .loop .inv .1 .k2; k3 = at-turn .turn .kept .1 .1 .1 .0 ∙ at-loop .loop .inv .1 .k3; k4 = at-turn .turn .kept .1 .1 .1 .1 .0 ∙ at-loop .loop .inv .1 .k4; k5 = at-turn .turn .kept .1 .1 .1 .1 .1 .0 ∙ at-loop .loop .inv .1 .k5; k6 = at-turn .turn .kept .1 .1 .1 .1 .1 .1 .0 ∙ at-loop .loop .inv .1 .k6; k7 = at-turn .turn .kept .1 .1 .1 .1 .1 .1 .1 .0 ∙ at-loop .loop .inv .1 .k7 })
+    (going-on (rulesOf (start .args .config) (kept (start .args .m))) (state (lent (start .args .cards .now) (start .args .counts .now) (start .args .rows .now) (start .args .days .now) (start .args .sums .now) (start .args .due .now) (start .args .keys .now) (start .args .intervals .now)) (start .args .len) (start .args .seed)) (start .args .bound) (at-loop .loop .inv .0) (at-turn .turn .ensures) (at-loop-test .loop-test .taken) _ _ (c .before .o .given .1), record { cards = at-turn .turn .kept .0 ∙ at-loop .loop .inv .1 .cards; counts = at-turn .turn .kept .1 .0 ∙ at-loop .loop .inv .1 .counts; rows = at-turn .turn .kept .1 .1 .0 ∙ at-loop .loop .inv .1 .rows; days = at-turn .turn .kept .1 .1 .1 .0 ∙ at-loop .loop .inv .1 .days; sums = at-turn .turn .kept .1 .1 .1 .1 .0 ∙ at-loop .loop .inv .1 .sums; due = at-turn .turn .kept .1 .1 .1 .1 .1 .0 ∙ at-loop .loop .inv .1 .due; keys = at-turn .turn .kept .1 .1 .1 .1 .1 .1 .0 ∙ at-loop .loop .inv .1 .keys; intervals = at-turn .turn .kept .1 .1 .1 .1 .1 .1 .1 .0 ∙ at-loop .loop .inv .1 .intervals })
 
 same-length-9 : tie.Need-same-length-9 Inv-loop μ-loop
-same-length-9 c = c .before .loop .inv .1 .k0
+same-length-9 c = c .before .loop .inv .1 .cards
 
 same-length-10 : tie.Need-same-length-10 Inv-loop μ-loop
-same-length-10 c = c .before .loop .inv .1 .k1
+same-length-10 c = c .before .loop .inv .1 .counts
 
 same-length-11 : tie.Need-same-length-11 Inv-loop μ-loop
-same-length-11 c = c .before .loop .inv .1 .k2
+same-length-11 c = c .before .loop .inv .1 .rows
 
 same-length-12 : tie.Need-same-length-12 Inv-loop μ-loop
-same-length-12 c = c .before .loop .inv .1 .k3
+same-length-12 c = c .before .loop .inv .1 .days
 
 same-length-13 : tie.Need-same-length-13 Inv-loop μ-loop
-same-length-13 c = c .before .loop .inv .1 .k4
+same-length-13 c = c .before .loop .inv .1 .sums
 
 same-length-14 : tie.Need-same-length-14 Inv-loop μ-loop
-same-length-14 c = c .before .loop .inv .1 .k5
+same-length-14 c = c .before .loop .inv .1 .due
 
 same-length-15 : tie.Need-same-length-15 Inv-loop μ-loop
-same-length-15 c = c .before .loop .inv .1 .k6
+same-length-15 c = c .before .loop .inv .1 .keys
 
 same-length-16 : tie.Need-same-length-16 Inv-loop μ-loop
-same-length-16 c = c .before .loop .inv .1 .k7
+same-length-16 c = c .before .loop .inv .1 .intervals
 
 returns-2 : tie.Need-returns-2 Inv-loop μ-loop
 returns-2 c =
     let start = c .before .before .before .before in
     going-spent (rulesOf (start .args .config) (kept (start .args .m)))
-    (state (start .args .cards .now) (start .args .counts .now) (start .args .rows .now) (start .args .days .now) (start .args .sums .now) (start .args .due .now) (start .args .keys .now) (start .args .intervals .now) (start .args .len) (start .args .seed))
+    (state (lent (start .args .cards .now) (start .args .counts .now) (start .args .rows .now) (start .args .days .now) (start .args .sums .now) (start .args .due .now) (start .args .keys .now) (start .args .intervals .now)) (start .args .len) (start .args .seed))
     (start .args .bound) (c .before .loop .inv .0) (c .loop-test .left)
 
 pub run-turns-spec : {M : Type 1} → statement M

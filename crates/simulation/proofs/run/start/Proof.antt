@@ -2,7 +2,7 @@
 use native.Mathlib.Omega.{arith}
 use mathlib.Core.Path.{_∙_}
 use Rattle.events.specs.Scalars.{kept}
-use Rattle.simulation.specs.State.{state}
+use Rattle.simulation.specs.State.{lent, state}
 use Rattle.simulation.specs.Rules.{rulesOf}
 use Rattle.simulation.specs.Entry.{inputs}
 use Rattle.simulation.proofs.Accepted.{accepted}
@@ -17,7 +17,7 @@ set-up-requires c κs =
     let a = start .args in
     let ok = accepted
     (inputs (a .config) (a .parameters .now) (a .retention) (a .seed) (a .existing .now) (a .existing-counts .now))
-    (state (a .cards .now) (a .counts .now) (a .rows .now) (a .days .now) (a .sums .now) (a .due .now) (a .keys .now) (a .intervals .now) 0 (a .seed))
+    (state (lent (a .cards .now) (a .counts .now) (a .rows .now) (a .days .now) (a .sums .now) (a .due .now) (a .keys .now) (a .intervals .now)) 0 (a .seed))
     (start .pre) in
     (omega (arith, ok .existing-few, ok .deck-most), ok .span-most)
 
@@ -31,7 +31,7 @@ bound-of-requires c κs =
     let a = start .args in
     few-cards
     (inputs (a .config) (a .parameters .now) (a .retention) (a .seed) (a .existing .now) (a .existing-counts .now))
-    (state (a .cards .now) (a .counts .now) (a .rows .now) (a .days .now) (a .sums .now) (a .due .now) (a .keys .now) (a .intervals .now) 0 (a .seed))
+    (state (lent (a .cards .now) (a .counts .now) (a .rows .now) (a .days .now) (a .sums .now) (a .due .now) (a .keys .now) (a .intervals .now)) 0 (a .seed))
     (at-set-up .set-up .ensures (a .parameters .now) (a .seed) (a .keys .now)) (start .pre)
 
 run-turns-requires : tie.Need-run-turns-requires
@@ -90,7 +90,7 @@ returns c =
     rw (c .answer-of .ensures, ← at-new .new .ensures)
     (done-is
     (inputs (a .config) (a .parameters .now) (a .retention) (a .seed) (a .existing .now) (a .existing-counts .now))
-    (state (a .cards .now) (a .counts .now) (a .rows .now) (a .days .now) (a .sums .now) (a .due .now) (a .keys .now) (a .intervals .now) 0 (a .seed))
+    (state (lent (a .cards .now) (a .counts .now) (a .rows .now) (a .days .now) (a .sums .now) (a .due .now) (a .keys .now) (a .intervals .now)) 0 (a .seed))
     (at-set-up .set-up .ensures (a .parameters .now) (a .seed) (a .keys .now))
     (rulesOf (a .config) (kept (at-new .new .result))) (at-bound-of .bound-of .ensures) (at-run-turns .run-turns .ensures))
 

@@ -1,5 +1,6 @@
 -- `simulation::turn::event_step` meets its contract.
 use Rattle.events.specs.Scalars.{kept}
+use Rattle.simulation.specs.State.{lent}
 use Rattle.simulation.specs.Rules.{rulesOf}
 use Rattle.intervals.specs.Schedule.{slotOf}
 use Rattle.simulation.proofs.Glue.{not-happened, chance-is, full-is, handled-is}
@@ -25,9 +26,9 @@ enum-told c = search needs
 returns : tie.Need-returns
 returns c =
     let start = c .before .before .before .before .before .before in
-    chance-is (rulesOf (start .args .config) (kept (start .args .m))) (start .args .cards .now) (start .args .counts .now)
+    chance-is (rulesOf (start .args .config) (kept (start .args .m))) (lent (start .args .cards .now) (start .args .counts .now)
     (start .args .rows .now) (start .args .days .now) (start .args .sums .now) (start .args .due .now) (start .args .keys .now)
-    (start .args .intervals .now) (start .args .len) (start .args .draws) (start .args .c) (start .args .card) (start .args .new) (start .args .d) _
+    (start .args .intervals .now)) (start .args .len) (start .args .draws) (start .args .c) (start .args .card) (start .args .new) (start .args .d) _
     (c .before .before .event-of .ensures) (not-happened _ (c .before .match .keys2))
 
 scheduled-interval-requires : tie.Need-scheduled-interval-requires
@@ -48,9 +49,9 @@ returns-2 c =
     let at-drawn = c .before .before .before .before .before .before in
     let at-event-of = at-drawn .before .before in
     let start = at-event-of .before .before .before .before in
-    full-is (rulesOf (start .args .config) (kept (start .args .m))) (start .args .cards .now) (start .args .counts .now)
+    full-is (rulesOf (start .args .config) (kept (start .args .m))) (lent (start .args .cards .now) (start .args .counts .now)
     (start .args .rows .now) (start .args .days .now) (start .args .sums .now) (start .args .due .now) (start .args .keys .now)
-    (start .args .intervals .now) (start .args .len) (start .args .draws) (start .args .c) (start .args .card) (start .args .new) (start .args .d) _ _
+    (start .args .intervals .now)) (start .args .len) (start .args .draws) (start .args .c) (start .args .card) (start .args .new) (start .args .d) _ _
     (at-event-of .event-of .ensures) (at-drawn .drawn .given .1) _ (c .before .before .scheduled-interval .ensures) _ (c .before .is-full .ensures)
     (c .if1 .taken)
 
@@ -115,11 +116,11 @@ returns-3 c =
     let at-drawn = at-scheduled-interval .before .before .before .before in
     let at-event-of = at-drawn .before .before in
     let start = at-event-of .before .before .before .before in
-    handled-is (rulesOf (start .args .config) (kept (start .args .m))) (start .args .cards .now) (start .args .counts .now)
+    handled-is (rulesOf (start .args .config) (kept (start .args .m))) (lent (start .args .cards .now) (start .args .counts .now)
     (start .args .rows .now) (start .args .days .now) (start .args .sums .now) (start .args .due .now) (start .args .keys .now)
-    (start .args .intervals .now) (start .args .len) (start .args .draws) (start .args .c) (start .args .card) (start .args .new) (start .args .d) _ _
+    (start .args .intervals .now)) (start .args .len) (start .args .draws) (start .args .c) (start .args .card) (start .args .new) (start .args .d) _ _
     (at-event-of .event-of .ensures) (at-drawn .drawn .given .1) _ (at-scheduled-interval .scheduled-interval .ensures) _ (at-is-full .is-full .ensures)
-    (at-if1 .if1 .left) _ (at-interval-in .interval-in .ensures) _ (at-event-card .event-card .ensures) _ (at-day-of .day-of .ensures) _ _ _ _ _ _ _ _
+    (at-if1 .if1 .left) _ (at-interval-in .interval-in .ensures) _ (at-event-card .event-card .ensures) _ (at-day-of .day-of .ensures) _
     (at-write-card .write-card .ensures) (at-write-days .write-days .ensures)
     (event-cost splitMix (start .args .config) (kept (start .args .m)) (start .args .card) (start .args .new) (start .args .d) (start .args .draws) _ (sym (at-event-of .event-of .ensures) ∙ at-drawn .drawn .given .1)) (at-add-due .add-due .ensures) (at-enter-slot .enter-slot .ensures)
 

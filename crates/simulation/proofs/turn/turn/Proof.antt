@@ -3,7 +3,7 @@ use mathlib.Core.Bool.{true, false}
 use mathlib.Core.Path.{ap}
 use Rattle.events.specs.Scalars.{kept}
 use Rattle.simulation.specs.Rules.{rulesOf}
-use Rattle.simulation.specs.State.{state}
+use Rattle.simulation.specs.State.{lent, state}
 use Rattle.simulation.specs.Turn.{act}
 use Rattle.simulation.proofs.Glue.{ended-is, retired-is, put-off-is, event-is}
 use borrow.Author.Needs.{needs}
@@ -13,9 +13,9 @@ use Rattle.simulation.proofs.turn.turn.Tie as tie
 returns : tie.Need-returns
 returns c =
     let start = c .before .before .before in
-    ended-is (rulesOf (start .args .config) (kept (start .args .m))) (start .args .cards .now) (start .args .counts .now)
+    ended-is (rulesOf (start .args .config) (kept (start .args .m))) (lent (start .args .cards .now) (start .args .counts .now)
     (start .args .rows .now) (start .args .days .now) (start .args .sums .now) (start .args .due .now) (start .args .keys .now)
-    (start .args .intervals .now) (start .args .len) (start .args .draws) (c .if1 .taken)
+    (start .args .intervals .now)) (start .args .len) (start .args .draws) (c .if1 .taken)
 
 peek-index-requires : tie.Need-peek-index-requires
 peek-index-requires c κs = search needs
@@ -95,9 +95,9 @@ returns-2 c =
     let at-peek-index = at-card-at .before .before .before in
     let at-if1 = at-peek-index .before .before in
     let start = at-if1 .before .before .before in
-    retired-is (rulesOf (start .args .config) (kept (start .args .m))) (start .args .cards .now) (start .args .counts .now)
+    retired-is (rulesOf (start .args .config) (kept (start .args .m))) (lent (start .args .cards .now) (start .args .counts .now)
     (start .args .rows .now) (start .args .days .now) (start .args .sums .now) (start .args .due .now) (start .args .keys .now)
-    (start .args .intervals .now) (start .args .len) (start .args .draws) (at-if1 .if1 .left) _ _ _ _ _ _ _ (at-peek-index .peek-index .ensures)
+    (start .args .intervals .now)) (start .args .len) (start .args .draws) (at-if1 .if1 .left) _ _ _ _ _ _ _ (at-peek-index .peek-index .ensures)
     (at-card-at .card-at .ensures) (at-day-of .day-of .ensures) (at-learned-at .learned-at .ensures) (at-reviewed-at .reviewed-at .ensures)
     (at-cost-at .cost-at .ensures) (at-decide .decide .ensures (at-day-of .day-of .result)) _ _ _ (at-enum-told .enum-told .given .1) (c .before .before .retire-step .ensures)
 
@@ -132,9 +132,9 @@ returns-3 c =
     let at-peek-index = at-card-at .before .before .before in
     let at-if1 = at-peek-index .before .before in
     let start = at-if1 .before .before .before in
-    put-off-is (rulesOf (start .args .config) (kept (start .args .m))) (start .args .cards .now) (start .args .counts .now)
+    put-off-is (rulesOf (start .args .config) (kept (start .args .m))) (lent (start .args .cards .now) (start .args .counts .now)
     (start .args .rows .now) (start .args .days .now) (start .args .sums .now) (start .args .due .now) (start .args .keys .now)
-    (start .args .intervals .now) (start .args .len) (start .args .draws) (at-if1 .if1 .left) _ _ _ _ _ _ _ (at-peek-index .peek-index .ensures)
+    (start .args .intervals .now)) (start .args .len) (start .args .draws) (at-if1 .if1 .left) _ _ _ _ _ _ _ (at-peek-index .peek-index .ensures)
     (at-card-at .card-at .ensures) (at-day-of .day-of .ensures) (at-learned-at .learned-at .ensures) (at-reviewed-at .reviewed-at .ensures)
     (at-cost-at .cost-at .ensures) (at-decide .decide .ensures (at-day-of .day-of .result)) _ _ _ _ (at-enum-told2 .enum-told2 .given .1) (at-put-off-step .put-off-step .ensures)
 
@@ -176,12 +176,12 @@ returns-4 c =
     let at-peek-index = at-card-at .before .before .before in
     let at-if1 = at-peek-index .before .before in
     let start = at-if1 .before .before .before in
-    event-is (rulesOf (start .args .config) (kept (start .args .m))) (start .args .cards .now) (start .args .counts .now)
+    event-is (rulesOf (start .args .config) (kept (start .args .m))) (lent (start .args .cards .now) (start .args .counts .now)
     (start .args .rows .now) (start .args .days .now) (start .args .sums .now) (start .args .due .now) (start .args .keys .now)
-    (start .args .intervals .now) (start .args .len) (start .args .draws) (at-if1 .if1 .left) _ _ _ _ _ _ _ (at-peek-index .peek-index .ensures)
+    (start .args .intervals .now)) (start .args .len) (start .args .draws) (at-if1 .if1 .left) _ _ _ _ _ _ _ (at-peek-index .peek-index .ensures)
     (at-card-at .card-at .ensures) (at-day-of .day-of .ensures) (at-learned-at .learned-at .ensures) (at-reviewed-at .reviewed-at .ensures)
-    (at-cost-at .cost-at .ensures) (at-decide .decide .ensures (at-day-of .day-of .result)) true _ _ _ _ _ _ _ _ _
-    (ap (act (rulesOf (start .args .config) (kept (start .args .m))) (state (start .args .cards .now) (start .args .counts .now) (start .args .rows .now) (start .args .days .now) (start .args .sums .now) (start .args .due .now) (start .args .keys .now) (start .args .intervals .now) (start .args .len) (start .args .draws)) _ _ _) (at-enum-told3 .enum-told3 .given .1))
+    (at-cost-at .cost-at .ensures) (at-decide .decide .ensures (at-day-of .day-of .result)) true _ _
+    (ap (act (rulesOf (start .args .config) (kept (start .args .m))) (state (lent (start .args .cards .now) (start .args .counts .now) (start .args .rows .now) (start .args .days .now) (start .args .sums .now) (start .args .due .now) (start .args .keys .now) (start .args .intervals .now)) (start .args .len) (start .args .draws)) _ _ _) (at-enum-told3 .enum-told3 .given .1))
     (rw (at-copy-of .copy-of .ensures) at (at-event-step .event-step .ensures))
 
 same-length-20 : tie.Need-same-length-20
@@ -222,12 +222,12 @@ returns-5 c =
     let at-peek-index = at-card-at .before .before .before in
     let at-if1 = at-peek-index .before .before in
     let start = at-if1 .before .before .before in
-    event-is (rulesOf (start .args .config) (kept (start .args .m))) (start .args .cards .now) (start .args .counts .now)
+    event-is (rulesOf (start .args .config) (kept (start .args .m))) (lent (start .args .cards .now) (start .args .counts .now)
     (start .args .rows .now) (start .args .days .now) (start .args .sums .now) (start .args .due .now) (start .args .keys .now)
-    (start .args .intervals .now) (start .args .len) (start .args .draws) (at-if1 .if1 .left) _ _ _ _ _ _ _ (at-peek-index .peek-index .ensures)
+    (start .args .intervals .now)) (start .args .len) (start .args .draws) (at-if1 .if1 .left) _ _ _ _ _ _ _ (at-peek-index .peek-index .ensures)
     (at-card-at .card-at .ensures) (at-day-of .day-of .ensures) (at-learned-at .learned-at .ensures) (at-reviewed-at .reviewed-at .ensures)
-    (at-cost-at .cost-at .ensures) (at-decide .decide .ensures (at-day-of .day-of .result)) false _ _ _ _ _ _ _ _ _
-    (ap (act (rulesOf (start .args .config) (kept (start .args .m))) (state (start .args .cards .now) (start .args .counts .now) (start .args .rows .now) (start .args .days .now) (start .args .sums .now) (start .args .due .now) (start .args .keys .now) (start .args .intervals .now) (start .args .len) (start .args .draws)) _ _ _) (at-enum-told4 .enum-told4 .given .1))
+    (at-cost-at .cost-at .ensures) (at-decide .decide .ensures (at-day-of .day-of .result)) false _ _
+    (ap (act (rulesOf (start .args .config) (kept (start .args .m))) (state (lent (start .args .cards .now) (start .args .counts .now) (start .args .rows .now) (start .args .days .now) (start .args .sums .now) (start .args .due .now) (start .args .keys .now) (start .args .intervals .now)) (start .args .len) (start .args .draws)) _ _ _) (at-enum-told4 .enum-told4 .given .1))
     (rw (at-copy-of2 .copy-of2 .ensures) at (at-event-step2 .event-step2 .ensures))
 
 pub turn-spec : {M : Type 1} → statement M
