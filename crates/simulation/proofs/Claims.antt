@@ -37,11 +37,11 @@ use Rattle.simulation.specs.SetUp.{known, setUp}
 use Rattle.simulation.specs.Simulate.{Done, progress, rulesFor, bound, ran, finished, simulatedBy, simulated}
 use Rattle.simulation.specs.Demands.{Finished, cardsOf, turnsOf, DemandThree, RunContract}
 use Rattle.simulation.specs.Invariant.{RunBounds, StateInvariant}
-use Rattle.simulation.proofs.Slots.{Slots, table-slots}
-use Rattle.simulation.proofs.Views.{columns}
-use Rattle.simulation.proofs.Accepted.{Accepted, accepted, both}
-use Rattle.simulation.proofs.Joining.{set-up-few, set-up-start, set-up-good}
-use Rattle.simulation.proofs.Lawful.{turns-demand, turns-rows, ends}
+use Rattle.simulation.proofs.turn.Slots.{Slots, table-slots}
+use Rattle.simulation.proofs.turn.Views.{columns}
+use Rattle.simulation.proofs.entry.Accepted.{Accepted, accepted, both}
+use Rattle.simulation.proofs.set_up.Invariant.{set-up-few, set-up-start, set-up-good}
+use Rattle.simulation.proofs.turn.Lawful.{turns-demand, turns-rows, ends}
 
 -- ---- a scheduled interval is 1 to 36,500
 most-is : ofBits binary32 0x470E_9400 ≡ ofInt binary32 (pos 36500)

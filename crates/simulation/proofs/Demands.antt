@@ -33,10 +33,10 @@ use Rattle.simulation.specs.Entry.{Inputs, checked}
 use Rattle.simulation.specs.SetUp.{emptied, setUp}
 use Rattle.simulation.specs.Simulate.{Result, progress, answerOf, bound, ran, finished, simulatedBy}
 use Rattle.simulation.specs.Demands.{Demands, Finished, cardsOf, turnsOf, LongerTable, SameRun}
-use Rattle.simulation.proofs.Accepted.{Accepted, accepted}
+use Rattle.simulation.proofs.entry.Accepted.{Accepted, accepted}
 use Rattle.simulation.proofs.Claims.{Suits, suits, demand-three, has-stopped, few-turns}
-use Rattle.simulation.proofs.Tables.{run-sound}
-use Rattle.simulation.proofs.Longer.{Alike, run-longer}
+use Rattle.simulation.proofs.run.Table.{run-sound}
+use Rattle.simulation.proofs.run.LongerTable.{Alike, run-longer}
 
 -- DEMAND 1: an entry refusal, exactly by the table, writes nothing and takes no turn
 entry-refusal : (R : Rules) (i : Inputs) (s : State) (r : Refusal) → checked i s ≡ check.Failed r → simulatedBy R i s ≡ record { answer = answer.Refused r (progress 0 0 (i .seed)); state = s }

@@ -1,16 +1,2 @@
-pub mod Views
-pub mod Slots
-pub mod Good
-pub mod Handled
-pub mod Lawful
-pub mod First
-pub mod Accepted
-pub mod Joining
-pub mod Longer
-pub mod Tables
-pub mod Glue
-pub mod Turning
-pub mod Dealing
-pub mod Starting
 pub mod Claims
 pub mod Demands

@@ -4,7 +4,7 @@ use mathlib.Core.Path.{_≡_, sym, _∙_}
 use Rattle.cards.proofs.Basics.{not-true, not-false}
 use Rattle.simulation.specs.declared.Check.the-variants as check
 use Rattle.simulation.specs.Entry.{checkParameters, checked}
-use Rattle.simulation.proofs.Starting.{parameters-pass, parameters-fail}
+use Rattle.simulation.proofs.entry.Parameters.{parameters-pass, parameters-fail}
 use borrow.Author.Needs.{needs}
 use Rattle.simulation.proofs.entry.check_entry.Statement.{statement}
 use Rattle.simulation.proofs.entry.check_entry.Tie as tie

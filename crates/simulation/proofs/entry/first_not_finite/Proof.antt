@@ -4,7 +4,7 @@ use Prim.Native.Nat.{ℕ, _-_, _≤_}
 use native.Mathlib.Omega.{arith}
 use mathlib.Core.Path.{_≡_, sym, ap, _∙_}
 use Rattle.simulation.specs.Entry.{firstWhere, notFinite}
-use Rattle.simulation.proofs.First.{first-here, first-on, first-end}
+use Rattle.simulation.proofs.entry.FirstWhere.{first-here, first-on, first-end}
 use Rattle.float32.specs.Float32.{isFinite}
 use Rattle.simulation.proofs.entry.first_not_finite.Statement.{statement}
 use Rattle.simulation.proofs.entry.first_not_finite.Tie as tie

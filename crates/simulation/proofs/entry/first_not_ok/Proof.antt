@@ -6,7 +6,7 @@ use mathlib.Core.Path.{_≡_, sym, ap, _∙_}
 use Rattle.cards.specs.declared.Card.{Card}
 use Rattle.cards.specs.Cards.{isKept, cardOk}
 use Rattle.simulation.specs.Entry.{firstWhere, notOk}
-use Rattle.simulation.proofs.First.{first-here, first-on, first-end}
+use Rattle.simulation.proofs.entry.FirstWhere.{first-here, first-on, first-end}
 use Rattle.simulation.proofs.entry.first_not_ok.Statement.{statement}
 use Rattle.simulation.proofs.entry.first_not_ok.Tie as tie
 

@@ -1,6 +1,6 @@
 -- `simulation::run::bound_of` meets its contract.
 use native.Mathlib.Omega.{arith}
-use Rattle.simulation.proofs.Starting.{bound-fits}
+use Rattle.simulation.proofs.run.Answer.{bound-fits}
 use borrow.Author.Needs.{needs}
 use Rattle.simulation.proofs.run.bound_of.Statement.{statement}
 use Rattle.simulation.proofs.run.bound_of.Tie as tie

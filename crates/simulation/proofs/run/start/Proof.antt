@@ -5,8 +5,8 @@ use Rattle.events.specs.Scalars.{kept}
 use Rattle.simulation.specs.State.{lent, state}
 use Rattle.simulation.specs.Rules.{rulesOf}
 use Rattle.simulation.specs.Entry.{inputs}
-use Rattle.simulation.proofs.Accepted.{accepted}
-use Rattle.simulation.proofs.Starting.{few-cards, done-is}
+use Rattle.simulation.proofs.entry.Accepted.{accepted}
+use Rattle.simulation.proofs.run.Answer.{few-cards, done-is}
 use borrow.Author.Needs.{needs}
 use Rattle.simulation.proofs.run.start.Statement.{statement}
 use Rattle.simulation.proofs.run.start.Tie as tie

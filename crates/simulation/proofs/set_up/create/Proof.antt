@@ -5,7 +5,7 @@ use lib.ListN.{length}
 use native.Mathlib.Omega.{arith}
 use mathlib.Core.Path.{_≡_, refl, ap, _∙_}
 use Rattle.simulation.specs.SetUp.{deck, create}
-use Rattle.simulation.proofs.Dealing.{joined-is, create-next}
+use Rattle.simulation.proofs.set_up.Loops.{joined-is, create-next}
 use Rattle.simulation.proofs.set_up.create.Statement.{statement}
 use Rattle.simulation.proofs.set_up.create.Tie as tie
 

@@ -3,7 +3,7 @@ use Prim.Native.Nat.{ℕ, _-_, _≤_}
 use native.Mathlib.Omega.{arith}
 use mathlib.Core.Path.{_≡_, refl, ap, _∙_}
 use Rattle.simulation.specs.SetUp.{known}
-use Rattle.simulation.proofs.Dealing.{known-next, known-le}
+use Rattle.simulation.proofs.set_up.Loops.{known-next, known-le}
 use Rattle.simulation.proofs.set_up.known.Statement.{statement}
 use Rattle.simulation.proofs.set_up.known.Tie as tie
 

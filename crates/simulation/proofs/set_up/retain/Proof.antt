@@ -4,7 +4,7 @@ use lib.ListN.{length}
 use native.Mathlib.Omega.{arith}
 use mathlib.Core.Path.{_≡_, refl, ap, _∙_}
 use Rattle.simulation.specs.SetUp.{deck, retain}
-use Rattle.simulation.proofs.Dealing.{retain-next}
+use Rattle.simulation.proofs.set_up.Loops.{retain-next}
 use Rattle.simulation.proofs.set_up.retain.Statement.{statement}
 use Rattle.simulation.proofs.set_up.retain.Tie as tie
 

@@ -1,5 +1,5 @@
 -- `simulation::set_up::retain_card` meets its contract.
-use Rattle.simulation.proofs.Dealing.{retained-is, dropped-is}
+use Rattle.simulation.proofs.set_up.Loops.{retained-is, dropped-is}
 use borrow.Author.Needs.{needs}
 use Rattle.simulation.proofs.set_up.retain_card.Statement.{statement}
 use Rattle.simulation.proofs.set_up.retain_card.Tie as tie

@@ -3,7 +3,7 @@ use Rattle.events.specs.Scalars.{kept}
 use Rattle.simulation.specs.State.{lent}
 use Rattle.simulation.specs.Rules.{rulesOf}
 use Rattle.intervals.specs.Schedule.{slotOf}
-use Rattle.simulation.proofs.Glue.{not-happened, chance-is, full-is, handled-is}
+use Rattle.simulation.proofs.turn.Calls.{not-happened, chance-is, full-is, handled-is}
 use mathlib.Core.Path.{sym, _∙_}
 use Rattle.draws.specs.Draws.{splitMix}
 use Rattle.events.proofs.Costs.{event-cost}

@@ -5,7 +5,7 @@ use Rattle.events.specs.Scalars.{kept}
 use Rattle.simulation.specs.Rules.{rulesOf}
 use Rattle.simulation.specs.State.{lent, state}
 use Rattle.simulation.specs.Turn.{act}
-use Rattle.simulation.proofs.Glue.{ended-is, retired-is, put-off-is, event-is}
+use Rattle.simulation.proofs.turn.Calls.{ended-is, retired-is, put-off-is, event-is}
 use borrow.Author.Needs.{needs}
 use Rattle.simulation.proofs.turn.turn.Statement.{statement}
 use Rattle.simulation.proofs.turn.turn.Tie as tie

@@ -39,8 +39,8 @@ use Rattle.simulation.specs.State.{State, cardIn, keyOf}
 use Rattle.simulation.specs.Turn.{eventCard, turnAs, eventTurn, handled}
 use Rattle.simulation.specs.Rules.{Rules}
 use Rattle.simulation.specs.Invariant.{dayIn, newIn, keyIn, lapsesIn, RunBounds, StateInvariant}
-use Rattle.simulation.proofs.Views.{view, columns}
-use Rattle.simulation.proofs.Good.{write-long, else-key, else-day, else-new, own-day, own-new, own-key, is-card, has-row, first-is}
+use Rattle.simulation.proofs.turn.Views.{view, columns}
+use Rattle.simulation.proofs.turn.Invariant.{write-long, else-key, else-day, else-new, own-day, own-new, own-key, is-card, has-row, first-is}
 
 -- a whole number is no minus infinity
 new-of : (x : Float) (n : ℕ) → HasValue x false n 1 → newOf x ≡ false

@@ -38,10 +38,10 @@ use Rattle.simulation.specs.State.{State, cardIn}
 use Rattle.simulation.specs.Turn.{refuses, turnAs, eventTurn, postponed, handled, handleAs, eventAs, handle, orElse, act, turnOf, next}
 use Rattle.simulation.specs.Rules.{Rules}
 use Rattle.simulation.specs.Invariant.{RunBounds, StateInvariant}
-use Rattle.simulation.proofs.Views.{view, columns}
-use Rattle.simulation.proofs.Slots.{Slots}
-use Rattle.simulation.proofs.Good.{in-span, step-put, good-put, step-retire, good-retire}
-use Rattle.simulation.proofs.Handled.{step-learn, good-learn, step-review, good-review}
+use Rattle.simulation.proofs.turn.Views.{view, columns}
+use Rattle.simulation.proofs.turn.Slots.{Slots}
+use Rattle.simulation.proofs.turn.Invariant.{in-span, step-put, good-put, step-retire, good-retire}
+use Rattle.simulation.proofs.turn.Events.{step-learn, good-learn, step-review, good-review}
 
 or-left : (a b : Bool) → (a || b) ≡ false → a ≡ false
 or-left true b e = e

@@ -14,7 +14,7 @@ use Rattle.simulation.specs.declared.Refusal.{Refusal}
 use Rattle.simulation.specs.declared.Check.{Check}
 use Rattle.simulation.specs.declared.Check.the-variants as check
 use Rattle.simulation.specs.State.{State}
-use Rattle.simulation.proofs.First.{none-before}
+use Rattle.simulation.proofs.entry.FirstWhere.{none-before}
 use Rattle.simulation.specs.Entry.{Inputs, firstWhere, notFinite, notOk, failIf, checkParameters, listsOk, checkFirst, checked}
 
 pub record Accepted (i : Inputs) (s : State) : Type 0 where

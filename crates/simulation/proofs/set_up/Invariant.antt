@@ -35,10 +35,10 @@ use Rattle.simulation.specs.State.{State}
 use Rattle.simulation.specs.Entry.{Inputs}
 use Rattle.simulation.specs.SetUp.{Deck, filled, newCard, joined, retained, retainCard, retain, known, create, newCards, emptied, dealt, firstCounts, setUp}
 use Rattle.simulation.specs.Invariant.{dayIn, newIn, keyIn, lapsesIn, StateInvariant}
-use Rattle.simulation.proofs.Views.{columns}
-use Rattle.simulation.proofs.Good.{write-long, else-key, else-day, else-new, own-day, own-new, own-key}
-use Rattle.simulation.proofs.Handled.{counts-long, own-lapses, else-lapses}
-use Rattle.simulation.proofs.Accepted.{Accepted, both}
+use Rattle.simulation.proofs.turn.Views.{columns}
+use Rattle.simulation.proofs.turn.Invariant.{write-long, else-key, else-day, else-new, own-day, own-new, own-key}
+use Rattle.simulation.proofs.turn.Events.{counts-long, own-lapses, else-lapses}
+use Rattle.simulation.proofs.entry.Accepted.{Accepted, both}
 
 -- ---- a list with its first places filled
 pub filled-long : {A : Type 0} (x : A) (n : ℕ) (l : List A) → length (filled x n l) ≡ length l

@@ -37,7 +37,7 @@ use Rattle.simulation.specs.State.{State, Lent, Lists, lent, state, keyO
 use Rattle.simulation.specs.Rules.{Rules}
 use Rattle.simulation.specs.Turn.{refuses, turnAs, eventTurn, eventCard, retired, postponed, handled, handleAs, handle, orElse, act, next}
 use Rattle.simulation.specs.Steps.{Turned, PutOff, PutOffStep, RetireStep, DaysWritten, CardWritten}
-use Rattle.simulation.proofs.Turning.{lists-same}
+use Rattle.simulation.proofs.run.Loop.{lists-same}
 
 -- neither variant but the second
 pub not-happened : (e : Event) → OneOf (1 ∷ []) (tagOf event-type.the-type e) → e ≡ event.Chance

@@ -32,7 +32,7 @@ use Rattle.simulation.specs.State.{State, cardIn, keyOf}
 use Rattle.simulation.specs.Turn.{putOffCard, postponed, retired, turnAs}
 use Rattle.simulation.specs.Rules.{Rules}
 use Rattle.simulation.specs.Invariant.{difficultyIn, dayIn, newIn, keyIn, RunBounds, StateInvariant}
-use Rattle.simulation.proofs.Views.{view, columns}
+use Rattle.simulation.proofs.turn.Views.{view, columns}
 
 bits-same : (b : Bool) → key.bit b ≡ bit b
 bits-same true = refl

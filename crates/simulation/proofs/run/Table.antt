@@ -31,7 +31,7 @@ use Rattle.simulation.specs.declared.Stop.the-variants as stop
 use Rattle.simulation.specs.State.{State, cardIn}
 use Rattle.simulation.specs.Rules.{Rules}
 use Rattle.simulation.specs.Turn.{refuses, turnAs, postponed, retired, handled, handleAs, eventAs, handle, orElse, act, turnOf, next}
-use Rattle.simulation.proofs.Slots.{Slots}
+use Rattle.simulation.proofs.turn.Slots.{Slots}
 
 module _ (R : Rules) (laws : Slots (R .model)) where
   -- what a turn leaves of the table

@@ -33,7 +33,7 @@ use Rattle.simulation.specs.declared.Stop.the-variants as stop
 use Rattle.simulation.specs.State.{State, cardIn, withTable}
 use Rattle.simulation.specs.Rules.{Rules}
 use Rattle.simulation.specs.Turn.{refuses, turnAs, eventTurn, retired, postponed, handled, handleAs, eventAs, handle, orElse, act, turnOf, next}
-use Rattle.simulation.proofs.Slots.{Slots}
+use Rattle.simulation.proofs.turn.Slots.{Slots}
 
 -- the same state but for the table, which holds the same and is as long or longer
 pub record Alike (s s′ : State) : Type 0 where

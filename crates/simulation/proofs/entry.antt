@@ -1,0 +1,3 @@
+pub mod FirstWhere
+pub mod Accepted
+pub mod Parameters

@@ -1,0 +1,4 @@
+pub mod Loop
+pub mod Table
+pub mod LongerTable
+pub mod Answer

@@ -1,0 +1,39 @@
+-- From the state that set-up leaves to the answer: the bound fits a u32, and what the loop leaves is what `finished` says.
+use mathlib.Core.Path.{_≡_, ap, subst}
+use Prim.Native.Nat.{ℕ, _+_, _*_, _≤_}
+use native.Mathlib.Nat.{mul-le-mul}
+use native.Mathlib.Omega.{arith}
+use Rattle.turns.specs.Run.{run}
+use Rattle.simulation.specs.declared.Check.the-variants as check
+use Rattle.simulation.specs.declared.Reach.{Reach}
+use Rattle.simulation.specs.State.{State, Lent, state}
+use Rattle.simulation.specs.Rules.{Rules}
+use Rattle.simulation.specs.Steps.{Ran}
+use Rattle.simulation.specs.Entry.{Inputs, checked}
+use Rattle.simulation.specs.SetUp.{setUp}
+use Rattle.simulation.specs.Simulate.{Done, progress, answerOf, bound, ran, finished}
+use Rattle.simulation.proofs.entry.Accepted.{accepted}
+use Rattle.simulation.proofs.set_up.Invariant.{set-up-few}
+
+-- ---- the answer of a run from that state
+module _ (i : Inputs) (s : State) {s₁ : State} (up : s₁ ≡ setUp i s) where
+  pub few-cards : checked i s ≡ check.Passed → (s₁ .queue .len ≤ 65536) × (i .config .«learn_span» ≤ 36500)
+  few-cards e =
+      let ok = accepted i s e in
+      let few = set-up-few i s ok in
+      let l : s₁ .queue .len ≡ setUp i s .queue .len = ap (λ (z : State). z .queue .len) up in
+      (omega (arith, few, l, ok .deck-most), ok .span-most)
+
+  pub done-is : (R : Rules) {b : ℕ} {x : Reach} {l′ : Lent}
+      → b ≡ bound R s₁
+      → Ran R s₁ b x l′
+      → Done (finished R (setUp i s)) (answerOf (x .stop) (progress (x .turns) (s₁ .queue .len) (x .draws))) l′
+  unfolding finished ran
+  done-is R {b = b} {x = x} {l′ = l′} eb r =
+      subst (λ (z : State). Done (finished R z) (answerOf (x .stop) (progress (x .turns) (s₁ .queue .len) (x .draws))) l′) up (go (subst (λ (z : ℕ). Ran R s₁ z x l′) eb r))
+    where
+      go : Ran R s₁ (bound R s₁) x l′ → Done (finished R s₁) (answerOf (x .stop) (progress (x .turns) (s₁ .queue .len) (x .draws))) l′
+      go r₁ = record { answer = rw (r₁ .stop-is, r₁ .turns, r₁ .draws); lists = r₁ .lists }
+
+pub bound-fits : (len span : ℕ) → len ≤ 65536 → span ≤ 36500 → len * (span + 1) ≤ 2392129536
+bound-fits len span h l = let k : span + 1 ≤ 36501 = omega arith in mul-le-mul h k

@@ -1,0 +1,3 @@
+pub mod Loops
+pub mod Invariant
+pub mod State

@@ -1,0 +1,58 @@
+-- What the calls of set-up leave, put together over plain lists: the state of `setUp`.
+use mathlib.Core.Path.{_≡_, refl, sym, ap, _∙_}
+use mathlib.Core.List.{List, [], map}
+use Prim.Native.Nat.{ℕ, zero, suc}
+use lib.ListN.{length, getD, set, replicate}
+use lib.Ieee.{Float, nan, ofBits, binary32}
+use Rattle.cards.specs.declared.SimulatorConfig.{SimulatorConfig}
+use Rattle.days.specs.Counts.{dayRow}
+use Rattle.days.specs.Due.{dueDays}
+use Rattle.days.proofs.Laws.{map-set}
+use Rattle.simulation.specs.State.{State, lent, state}
+use Rattle.simulation.specs.Entry.{Inputs, inputs}
+use Rattle.simulation.specs.SetUp.{Deck, deck, filled, joined, retain, known, create, newCards, emptied, dealt, firstSums, setUp}
+
+-- ---- new cards change no due count
+withDue : Deck → List ℕ → Deck
+withDue s due = record { cards = s .cards; counts = s .counts; queue = s .queue; due = due }
+
+create-due : (retention : Float) (limit n : ℕ) (s : Deck) (due : List ℕ) → create retention limit n (withDue s due) ≡ withDue (create retention limit n s) due
+unfolding create joined withDue
+create-due retention limit zero s due = refl
+create-due retention limit (suc n) s due = rw (create-due retention limit n s due)
+
+-- ---- columns of filled rows are filled
+filled-column : (f : List Float → Float) (x : List Float) (n : ℕ) (l : List (List Float)) → map f (filled x n l) ≡ filled (f x) n (map f l)
+unfolding filled
+filled-column f x zero l = refl
+filled-column f x (suc n) l = map-set f (filled x n l) n x ∙ ap (λ (z : List Float). set z n (f x)) (filled-column f x n l)
+
+-- ---- the state that set-up leaves
+module _ (g : SimulatorConfig) (w : List Float) (retention : Float) (seed : ℕ) (es : List (List Float)) (ns : List (List ℕ))
+    (cards : List (List Float)) (counts rows days : List (List ℕ)) (sums : List (List Float)) (due : List ℕ) (keys : List (List ℕ)) (intervals : List Float)
+    (n dd : ℕ) (en : n ≡ length es) (ed : dd ≡ dueDays (g .«learn_span»)) {due₁ : List ℕ} (e₁ : due₁ ≡ filled 0 dd due)
+    {c₂ : List (List Float)} {n₂ r₂ : List (List ℕ)} {due₂ : List ℕ} {kept : ℕ} (e₂ : deck c₂ n₂ r₂ due₂ kept ≡ retain (g .«learn_span») es ns n (deck cards counts rows due₁ 0))
+    {more : ℕ} (e₃ : more ≡ newCards g kept)
+    {c₄ : List (List Float)} {n₄ r₄ : List (List ℕ)} {len : ℕ} (e₄ : deck c₄ n₄ r₄ [] len ≡ create retention (g .«learn_limit») more (deck c₂ n₂ r₂ [] kept))
+    {k : ℕ} (ek : k ≡ known es ns n) {days′ : List (List ℕ)} (e₅ : days′ ≡ filled (dayRow 0 0 0 k) (g .«learn_span») days)
+    {sums′ : List (List Float)} (e₆ : sums′ ≡ filled firstSums (g .«learn_span») sums)
+    {intervals′ : List Float} (e₇ : intervals′ ≡ replicate (length intervals) (ofBits binary32 0)) where
+  abbrev i : Inputs
+  i = inputs g w retention seed es ns
+
+  abbrev s : State
+  s = state (lent cards counts rows days sums due keys intervals) 0 seed
+
+  with-due : deck c₄ n₄ r₄ due₂ len ≡ create retention (g .«learn_limit») more (deck c₂ n₂ r₂ due₂ kept)
+  unfolding withDue
+  with-due = ap (λ (z : Deck). withDue z due₂) e₄ ∙ sym (create-due retention (g .«learn_limit») more (deck c₂ n₂ r₂ [] kept) due₂)
+
+  dealt-is : deck c₄ n₄ r₄ due₂ len ≡ dealt i (emptied i s)
+  unfolding dealt emptied
+  dealt-is =
+      let a : deck c₂ n₂ r₂ due₂ kept ≡ retain (g .«learn_span») es ns (length es) (deck cards counts rows (filled 0 (dueDays (g .«learn_span»)) due) 0) = e₂ ∙ rw (e₁, en, ed) in
+      with-due ∙ rw (e₃, ← a)
+
+  pub set-up-is : state (lent c₄ n₄ r₄ days′ sums′ due₂ keys intervals′) len seed ≡ setUp i s
+  unfolding setUp
+  set-up-is = rw (← dealt-is, e₅, ek, en, e₆, filled-column (λ (row : List Float). getD row 0 nan) firstSums (g .«learn_span») sums, filled-column (λ (row : List Float). getD row 1 nan) firstSums (g .«learn_span») sums, e₇)

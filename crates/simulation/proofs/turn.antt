@@ -1,0 +1,6 @@
+pub mod Views
+pub mod Slots
+pub mod Invariant
+pub mod Events
+pub mod Lawful
+pub mod Calls
