@@ -59,7 +59,7 @@ fn number_of(refusal: Refusal) -> u64
         Refusal::Lists => 6,
         Refusal::TooManyCards => 2,
         Refusal::ExistingCard(_) => 5,
-        Refusal::Chance(_) => 7,
+        Refusal::ChanceOutOfRange(_) => 7,
         Refusal::TableFull(_) => 8,
         Refusal::DueCount(_) => 9,
     }
@@ -76,7 +76,7 @@ fn second_of(refusal: Refusal) -> u64
         Refusal::Lists => 0,
         Refusal::TooManyCards => 1,
         Refusal::ExistingCard(i) => wide(i),
-        Refusal::Chance(c) => wide(c),
+        Refusal::ChanceOutOfRange(c) => wide(c),
         Refusal::TableFull(c) => wide(c),
         Refusal::DueCount(c) => wide(c),
     }

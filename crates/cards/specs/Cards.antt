@@ -7,7 +7,7 @@ use lib.ListN.{getD, set}
 use lib.Ieee.{Float, nan, ofBits, binary32, neg, lt, le}
 use Rattle.float32.specs.Float32.{isFinite}
 use Rattle.cards.specs.declared.Card.{Card}
-use Rattle.cards.specs.Day.{newOf}
+use Rattle.cards.specs.Day.{isNew}
 
 -- the card of a row of floats and a row of counts
 abbrev pub cardOf : List Float → List ℕ → Card
@@ -56,7 +56,7 @@ dateOk x = le (neg (ofBits binary32 0x4B80_0000)) x && le x (ofBits binary32 0x4
 
 -- a last date is minus infinity, or a date with a difficulty
 abbrev pub historyOk : Card → Bool
-historyOk k = newOf (k .«last_date») || (dateOk (k .«last_date») && isFinite (k .difficulty))
+historyOk k = isNew (k .«last_date») || (dateOk (k .«last_date») && isFinite (k .difficulty))
 
 -- refusal 5 turns away a kept card that is not so
 unfoldable pub cardOk : Card → Bool

@@ -9,7 +9,7 @@ use Rattle.cards.specs.declared.SimulatorConfig.{SimulatorConfig}
 use Rattle.cards.specs.declared.Card.{Card}
 use Rattle.cards.specs.declared.Choice.{Choice}
 use Rattle.cards.specs.declared.Choice.the-variants as choice
-use Rattle.cards.specs.Day.{newOf}
+use Rattle.cards.specs.Day.{isNew}
 
 -- due at or past the span, or as many lapses as the lapse limit
 unfoldable pub retires : ℕ → ℕ → Card → Bool
@@ -43,4 +43,4 @@ choose false false false = choice.Review
 -- of a card on day d, with so many learnings and reviews and such a cost so far
 unfoldable pub choiceOf : {C : Type 0} → ℕ → ℕ → Limits C → ℕ → Card → ℕ → ℕ → C → Choice
 choiceOf span most l d k learned reviewed cost =
-    choose (retires span most k) (blocked l d (newOf (k .«last_date»)) learned reviewed cost) (newOf (k .«last_date»))
+    choose (retires span most k) (blocked l d (isNew (k .«last_date»)) learned reviewed cost) (isNew (k .«last_date»))

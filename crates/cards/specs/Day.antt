@@ -14,8 +14,8 @@ abbrev pub nextDue : ℕ → Float
 nextDue d = add binary32 (ofInt binary32 (pos d)) (ofBits binary32 0x3F80_0000)
 
 -- a card is new while its last date is minus infinity
-unfoldable pub newOf : Float → Bool
-newOf lastDate = eq lastDate (inf true)
+unfoldable pub isNew : Float → Bool
+isNew lastDate = eq lastDate (inf true)
 
 -- an interval is 1 to 36,500
 pub record IntervalInRange (v : Float) : Type 0 where

@@ -5,7 +5,7 @@ ghost use mathlib.Core.Bool.{not, _&&_};
 ghost use lib.ListN.{getD};
 ghost use lib.Ieee.{ofBits, binary32, eq};
 ghost use Rattle.float32.specs.Float32.{isFinite};
-ghost use Rattle.cards.specs.Day.{dayOf, nextDue, newOf};
+ghost use Rattle.cards.specs.Day.{dayOf, nextDue, isNew};
 ghost use Rattle.cards.specs.Cards.{noFloats, noCounts, cardAt, writeFloats, writeCounts, isKept, dateOk, historyOk, cardOk};
 ghost use Rattle.cards.specs.Config.{rowOf, threeOf, amountOk, amountsOk, weightsOk, transitionsOk, costsOk, intervalOk, configOk};
 ghost use Rattle.cards.specs.Choices.{limits, retires, blocked, choiceOf};
@@ -67,7 +67,7 @@ pub fn day_after(d: u32) -> u32
 }
 
 pub fn is_new(last_date: f32) -> bool
-    ensures { λ r. ⌜ r ≡ newOf «last_date» ⌝ }
+    ensures { λ r. ⌜ r ≡ isNew «last_date» ⌝ }
 {
     let never: f32 = -1.0 / 0.0;
     last_date == never

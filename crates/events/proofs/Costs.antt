@@ -39,7 +39,7 @@ module _ (w : DrawRule) (g : SimulatorConfig) (x : Scalars) where
   -- of an event that came about
   abbrev Costs : Bool → Drawn → Event → Type 0
   Costs new rs (event.Happened m) = m .cost ≡ costOf g (kindAs new (m .recalled) rs)
-  Costs new rs event.Chance = Unit {0}
+  Costs new rs event.ChanceOutOfRange = Unit {0}
 
   learning-cost : (state : ℕ) → Costs true (learningRatings w g x state) (event.Happened (learning w g x state))
   unfolding learning memoryOf
@@ -63,7 +63,7 @@ module _ (w : DrawRule) (g : SimulatorConfig) (x : Scalars) where
     where
       go : (a b : Bool)
           → Costs false (cond b (successRating w g x (w .after state) ∷ []) (lapseRatings w g x k chance (w .after state)))
-          (pickEvent a (pickEvent b (event.Happened (success w g x k chance (w .after state))) (event.Happened (lapse w g x k chance (w .after state)))) event.Chance)
+          (pickEvent a (pickEvent b (event.Happened (success w g x k chance (w .after state))) (event.Happened (lapse w g x k chance (w .after state)))) event.ChanceOutOfRange)
       go true true = success-cost k chance (w .after state)
       go true false = lapse-cost k chance (w .after state)
       go false b = tt

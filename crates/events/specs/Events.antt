@@ -139,7 +139,7 @@ module _ (w : DrawRule) (g : SimulatorConfig) (x : Scalars) where
       let draws = w .after state in
       pickEvent (chanceOk chance)
       (pickEvent (recalled chance (w .word state)) (event.Happened (success k chance draws)) (event.Happened (lapse k chance draws)))
-      event.Chance
+      event.ChanceOutOfRange
 
   -- a learning of a new card, or a review at a chance
   unfoldable pub eventAt : Card → Bool → Float → ℕ → Event

@@ -23,7 +23,7 @@ pub struct Memory {
 // An event, or refusal 7: the chance to recall is not within 0 to 1.
 pub enum Event {
     Happened(Memory),
-    Chance,
+    ChanceOutOfRange,
 }
 
 // Where the short-term steps have come to.
@@ -232,7 +232,7 @@ fn reviewing(config: SimulatorConfig, m: Fsrs7, card: Card, chance: f32, state: 
         }
         return Event::Happened(lapse(config, m, card, chance, generator.state));
     }
-    Event::Chance
+    Event::ChanceOutOfRange
 }
 
 // A learning of a new card, or a review at a chance to recall, from a state of the draws.

@@ -47,7 +47,7 @@ fn second_of(refusal: Refusal) -> u32 {
     match refusal {
         Refusal::Parameters(i) => i,
         Refusal::ExistingCard(i) => i,
-        Refusal::Chance(c) => c,
+        Refusal::ChanceOutOfRange(c) => c,
         Refusal::TableFull(c) => c,
         Refusal::DueCount(c) => c,
         Refusal::TooManyCards => 1,
@@ -67,7 +67,7 @@ fn number_of(refusal: Refusal) -> u32 {
         Refusal::Config => 4,
         Refusal::ExistingCard(_) => 5,
         Refusal::Lists => 6,
-        Refusal::Chance(_) => 7,
+        Refusal::ChanceOutOfRange(_) => 7,
         Refusal::TableFull(_) => 8,
         Refusal::DueCount(_) => 9,
     }

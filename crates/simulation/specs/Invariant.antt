@@ -8,7 +8,7 @@ use lib.Dec.{ltb}
 use lib.ListN.{length, getD}
 use lib.Ieee.{Float, nan}
 use Rattle.turns.specs.Sums.{bit, sumTo}
-use Rattle.cards.specs.Day.{dayOf, newOf, IntervalInRange}
+use Rattle.cards.specs.Day.{dayOf, isNew, IntervalInRange}
 use Rattle.cards.specs.Cards.{noFloats}
 use Rattle.days.specs.Counts.{learnedAt, reviewedAt, correctAt, introducedAt}
 use Rattle.queue.specs.Key.{cardPriority}
@@ -30,7 +30,7 @@ abbrev pub dayIn : List (List Float) → ℕ → ℕ
 dayIn cards c = dayOf (dueIn cards c)
 
 abbrev pub newIn : List (List Float) → ℕ → Bool
-newIn cards c = newOf (lastIn cards c)
+newIn cards c = isNew (lastIn cards c)
 
 abbrev pub keyIn : List (List Float) → ℕ → ℕ
 keyIn cards c = cardPriority (dayIn cards c) (newIn cards c) (difficultyIn cards c)

@@ -11,7 +11,7 @@ numberOf refusal.Config = 4
 numberOf refusal.Lists = 6
 numberOf refusal.TooManyCards = 2
 numberOf (refusal.ExistingCard i) = 5
-numberOf (refusal.Chance c) = 7
+numberOf (refusal.ChanceOutOfRange c) = 7
 numberOf (refusal.TableFull c) = 8
 numberOf (refusal.DueCount c) = 9
 
@@ -23,6 +23,6 @@ secondOf refusal.Config = 0
 secondOf refusal.Lists = 0
 secondOf refusal.TooManyCards = 1
 secondOf (refusal.ExistingCard i) = i
-secondOf (refusal.Chance c) = c
+secondOf (refusal.ChanceOutOfRange c) = c
 secondOf (refusal.TableFull c) = c
 secondOf (refusal.DueCount c) = c

@@ -9,7 +9,7 @@ use lib.Ieee.{Float, inf, ofBits, binary32, ofInt}
 use Rattle.turns.specs.Sums.{bit}
 use Rattle.cards.specs.declared.SimulatorConfig.{SimulatorConfig}
 use Rattle.cards.specs.declared.Card.{Card}
-use Rattle.cards.specs.Day.{dayOf, newOf}
+use Rattle.cards.specs.Day.{dayOf, isNew}
 use Rattle.cards.specs.Cards.{cardAt, writeFloats, writeCounts, isKept}
 use Rattle.days.specs.Due.{dueDays, addDue}
 use Rattle.queue.specs.Queue.{Queue, queue, pushed}
@@ -77,7 +77,7 @@ unfoldable pub known : List (List Float) → List (List ℕ) → ℕ → ℕ
 known cards counts zero = 0
 known cards counts (suc i) =
     let k = cardAt cards counts i in
-    known cards counts i + bit (isKept k && not (newOf (k .«last_date»)))
+    known cards counts i + bit (isKept k && not (isNew (k .«last_date»)))
 
 -- n new cards join
 unfoldable pub create : Float → ℕ → ℕ → Deck → Deck

@@ -4,7 +4,7 @@ use mathlib.Core.List.{List}
 use mathlib.Core.Path.{_≡_}
 use lib.Ieee.{Float}
 use Rattle.cards.specs.declared.Card.{Card}
-use Rattle.cards.specs.Day.{dayOf, newOf}
+use Rattle.cards.specs.Day.{dayOf, isNew}
 use Rattle.cards.specs.Cards.{cardAt}
 use Rattle.days.specs.Sums.{costColumn, heldColumn}
 use Rattle.queue.specs.Key.{cardPriority}
@@ -34,7 +34,7 @@ cardIn s c = cardAt (s .cards) (s .counts) c
 
 -- a card's order key in the queue: its day, reviews before new, its difficulty
 abbrev pub keyOf : Card → ℕ
-keyOf k = cardPriority (dayOf (k .due)) (newOf (k .«last_date»)) (k .difficulty)
+keyOf k = cardPriority (dayOf (k .due)) (isNew (k .«last_date»)) (k .difficulty)
 
 -- THE LENT LISTS, as a caller has them: rows of cards and of their counts, of the queue, of days' counts and sums, the due counts, and the interval table
 pub record Lent : Type 0 where

@@ -8,7 +8,7 @@ use lib.Ieee.{Float}
 use Rattle.turns.specs.Turns.{Turn}
 use Rattle.turns.specs.Run.{Next, takes, stops, run, stopOf}
 use Rattle.cards.specs.declared.Card.{Card}
-use Rattle.cards.specs.Day.{newOf}
+use Rattle.cards.specs.Day.{isNew}
 use Rattle.cards.specs.Cards.{writeFloats, writeCounts}
 use Rattle.days.specs.Counts.{countEvent}
 use Rattle.days.specs.Sums.{Summed, costColumn, heldColumn, payOn}
@@ -24,7 +24,7 @@ use Rattle.simulation.specs.declared.Refusal.the-variants as refusal
 use Rattle.simulation.specs.declared.Outcome.the-variants as outcome
 use Rattle.simulation.specs.State.{State, Lent, Lists, keyOf}
 use Rattle.simulation.specs.Rules.{Rules}
-use Rattle.simulation.specs.Turn.{putOffCard, holdCard, next}
+use Rattle.simulation.specs.Turn.{cardAfterPutOff, holdCard, next}
 
 -- the stop of a turn that was not taken
 abbrev pub stopIn : Outcome → Stop
@@ -47,9 +47,9 @@ pub record Turned (n : Next (Turn Drawn) State Stop) (s : State) (r : Outcome) (
 
 -- ---- the steps that write few lists, by those
 pub record PutOff (span c : ℕ) (k : Card) (d len : ℕ) (cards : List (List Float)) (rows : List (List ℕ)) (due : List ℕ) (cards′ : List (List Float)) (rows′ : List (List ℕ)) (due′ : List ℕ) : Type 0 where
-  pub cards-are : cards′ ≡ writeFloats cards c (putOffCard k d)
-  pub queue-is : queue rows′ len ≡ frontChanged (queue rows len) (keyOf (putOffCard k d))
-  pub due-are : due′ ≡ moveDue span due (newOf (k .«last_date»)) d
+  pub cards-are : cards′ ≡ writeFloats cards c (cardAfterPutOff k d)
+  pub queue-is : queue rows′ len ≡ frontChanged (queue rows len) (keyOf (cardAfterPutOff k d))
+  pub due-are : due′ ≡ moveDue span due (isNew (k .«last_date»)) d
 
 pub record Untouched (cards : List (List Float)) (rows : List (List ℕ)) (due : List ℕ) (cards′ : List (List Float)) (rows′ : List (List ℕ)) (due′ : List ℕ) : Type 0 where
   pub cards-are : cards′ ≡ cards
@@ -57,8 +57,8 @@ pub record Untouched (cards : List (List Float)) (rows : List (List ℕ)) (due :
   pub due-are : due′ ≡ due
 
 pub record PutOffStep (span c : ℕ) (k : Card) (d len draws : ℕ) (cards : List (List Float)) (rows : List (List ℕ)) (due : List ℕ) (r : Outcome) (cards′ : List (List Float)) (rows′ : List (List ℕ)) (due′ : List ℕ) : Type 0 where
-  pub refused : noneDue due (newOf (k .«last_date»)) d ≡ true → (r ≡ outcome.Stopped (stop.Refused (refusal.DueCount c))) × Untouched cards rows due cards′ rows′ due′
-  pub done : noneDue due (newOf (k .«last_date»)) d ≡ false → (r ≡ outcome.Took len draws) × PutOff span c k d len cards rows due cards′ rows′ due′
+  pub refused : noneDue due (isNew (k .«last_date»)) d ≡ true → (r ≡ outcome.Stopped (stop.Refused (refusal.DueCount c))) × Untouched cards rows due cards′ rows′ due′
+  pub done : noneDue due (isNew (k .«last_date»)) d ≡ false → (r ≡ outcome.Took len draws) × PutOff span c k d len cards rows due cards′ rows′ due′
 
 pub record RetireStep (R : Rules) (k : Card) (len draws : ℕ) (sums : List (List Float)) (rows : List (List ℕ)) (r : Outcome) (sums′ : List (List Float)) (rows′ : List (List ℕ)) : Type 0 where
   pub outcome : r ≡ outcome.Took (popped (queue rows len) .len) draws

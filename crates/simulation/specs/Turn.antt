@@ -10,7 +10,7 @@ use Rattle.turns.specs.Run.{Next, takes, stops}
 use Rattle.cards.specs.declared.Card.{Card}
 use Rattle.cards.specs.declared.Choice.{Choice}
 use Rattle.cards.specs.declared.Choice.the-variants as choice
-use Rattle.cards.specs.Day.{dayOf, nextDue, newOf}
+use Rattle.cards.specs.Day.{dayOf, nextDue, isNew}
 use Rattle.cards.specs.Cards.{writeFloats, writeCounts}
 use Rattle.cards.specs.Choices.{choiceOf}
 use Rattle.days.specs.Counts.{raised, learnedAt, reviewedAt, countEvent}
@@ -37,8 +37,8 @@ abbrev pub refuses : Refusal → Next (Turn Drawn) State Stop
 refuses r = stops (stop.Refused r)
 
 -- a card put off from day d
-unfoldable pub putOffCard : Card → ℕ → Card
-putOffCard k d = record {
+unfoldable pub cardAfterPutOff : Card → ℕ → Card
+cardAfterPutOff k d = record {
   difficulty = k .difficulty;
   stability = k .stability;
   «last_date» = k .«last_date»;
@@ -50,8 +50,8 @@ putOffCard k d = record {
 }
 
 -- a card after an event on day d that gives it the interval v: a review that was not recalled is a lapse
-unfoldable pub eventCard : Card → Bool → Memory → ℕ → Float → Card
-eventCard k new m d v = record {
+unfoldable pub cardAfterEvent : Card → Bool → Memory → ℕ → Float → Card
+cardAfterEvent k new m d v = record {
   difficulty = m .difficulty;
   stability = m .stability;
   «last_date» = ofInt binary32 (pos d);
@@ -68,7 +68,7 @@ turnAs c d kind = record { card = c; day = d; kind = kind }
 -- the held sums with a card's chances from its last date up to day e, which is left out; a new card has none
 unfoldable pub holdCard : Model → List Float → Card → ℕ → List Float
 holdCard m held k e =
-    cond (newOf (k .«last_date»)) held
+    cond (isNew (k .«last_date»)) held
     (let from = toUnsigned 32 (k .«last_date») in holdFrom (λ t. m .chance t (k .stability)) held (e - from) from (k .«last_date»))
 
 abbrev pub orElse : Bool → Next (Turn Drawn) State Stop → Next (Turn Drawn) State Stop → Next (Turn Drawn) State Stop
@@ -77,25 +77,25 @@ orElse false a b = b
 
 module _ (R : Rules) where
   -- the first card leaves the queue, held to the span's end
-  unfoldable pub retired : State → Card → State
-  retired s k = withQueue (popped (s .queue)) (withHeld (holdCard (R .model) (s .held) k (R .span)) s)
+  unfoldable pub afterRetire : State → Card → State
+  afterRetire s k = withQueue (popped (s .queue)) (withHeld (holdCard (R .model) (s .held) k (R .span)) s)
 
   -- the first card, c, goes from day d to the next
-  unfoldable pub postponed : State → ℕ → Card → ℕ → State
-  postponed s c k d =
-      let later = putOffCard k d in
+  unfoldable pub afterPutOff : State → ℕ → Card → ℕ → State
+  afterPutOff s c k d =
+      let later = cardAfterPutOff k d in
       withCards (writeFloats (s .cards) c later)
       (withQueue (frontChanged (s .queue) (keyOf later))
-      (withDue (moveDue (R .span) (s .due) (newOf (k .«last_date»)) d) s))
+      (withDue (moveDue (R .span) (s .due) (isNew (k .«last_date»)) d) s))
 
   -- the turn of an event of card c, k, on day d, with the ratings that are drawn
   abbrev pub eventTurn : State → ℕ → Card → Bool → ℕ → Memory → Turn Drawn
   eventTurn s c k new d x = turnAs c d (kindAs new (x .recalled) (R .model .ratings (R .draw) k new d (s .draws)))
 
   -- the first card, c, has an event on day d, which leaves the memory x and the interval of t
-  unfoldable pub handled : State → ℕ → Card → Bool → ℕ → Memory → Slot → State
-  handled s c k new d x t =
-      let k′ = eventCard k new x d (intervalOf t) in
+  unfoldable pub afterEvent : State → ℕ → Card → Bool → ℕ → Memory → Slot → State
+  afterEvent s c k new d x t =
+      let k′ = cardAfterEvent k new x d (intervalOf t) in
       record {
         cards = writeFloats (s .cards) c k′;
         counts = writeCounts (s .counts) c k′;
@@ -108,30 +108,30 @@ module _ (R : Rules) where
         draws = x .draws;
       }
 
-  abbrev pub handleAs : State → ℕ → Card → Bool → ℕ → Memory → Slot → Next (Turn Drawn) State Stop
-  handleAs s c k new d x (slot.Keep v) = takes (eventTurn s c k new d x) (handled s c k new d x (slot.Keep v))
-  handleAs s c k new d x (slot.Enter p a b v) = takes (eventTurn s c k new d x) (handled s c k new d x (slot.Enter p a b v))
-  handleAs s c k new d x slot.Full = refuses (refusal.TableFull c)
+  abbrev pub eventWithSlot : State → ℕ → Card → Bool → ℕ → Memory → Slot → Next (Turn Drawn) State Stop
+  eventWithSlot s c k new d x (slot.Keep v) = takes (eventTurn s c k new d x) (afterEvent s c k new d x (slot.Keep v))
+  eventWithSlot s c k new d x (slot.Enter p a b v) = takes (eventTurn s c k new d x) (afterEvent s c k new d x (slot.Enter p a b v))
+  eventWithSlot s c k new d x slot.Full = refuses (refusal.TableFull c)
 
-  abbrev pub eventAs : State → ℕ → Card → Bool → ℕ → Event → Next (Turn Drawn) State Stop
-  eventAs s c k new d (event.Happened x) = handleAs s c k new d x (R .model .slot (s .table) (x .stability) (k .«desired_retention»))
-  eventAs s c k new d event.Chance = refuses (refusal.Chance c)
+  abbrev pub eventWithDraw : State → ℕ → Card → Bool → ℕ → Event → Next (Turn Drawn) State Stop
+  eventWithDraw s c k new d (event.Happened x) = eventWithSlot s c k new d x (R .model .slot (s .table) (x .stability) (k .«desired_retention»))
+  eventWithDraw s c k new d event.ChanceOutOfRange = refuses (refusal.ChanceOutOfRange c)
 
-  unfoldable pub handle : State → ℕ → Card → Bool → ℕ → Next (Turn Drawn) State Stop
-  handle s c k new d = eventAs s c k new d (R .model .event (R .draw) k new d (s .draws))
+  unfoldable pub eventOn : State → ℕ → Card → Bool → ℕ → Next (Turn Drawn) State Stop
+  eventOn s c k new d = eventWithDraw s c k new d (R .model .event (R .draw) k new d (s .draws))
 
   abbrev pub act : State → ℕ → Card → ℕ → Choice → Next (Turn Drawn) State Stop
-  act s c k d choice.Retire = takes (turnAs c d retire) (retired s k)
-  act s c k d choice.PutOff = orElse (noneDue (s .due) (newOf (k .«last_date»)) d) (refuses (refusal.DueCount c)) (takes (turnAs c d putOff) (postponed s c k d))
-  act s c k d choice.Learn = handle s c k true d
-  act s c k d choice.Review = handle s c k false d
+  act s c k d choice.Retire = takes (turnAs c d retire) (afterRetire s k)
+  act s c k d choice.PutOff = orElse (noneDue (s .due) (isNew (k .«last_date»)) d) (refuses (refusal.DueCount c)) (takes (turnAs c d putOff) (afterPutOff s c k d))
+  act s c k d choice.Learn = eventOn s c k true d
+  act s c k d choice.Review = eventOn s c k false d
 
   -- the turn of card c, which is k and of day d
-  abbrev pub turnOf : State → ℕ → Card → ℕ → Next (Turn Drawn) State Stop
-  turnOf s c k d = act s c k d (choiceOf (R .span) (R .lapse-limit) (R .limits) d k (learnedAt (s .days) d) (reviewedAt (s .days) d) (costAt (s .costs) d))
+  abbrev pub turnOfCard : State → ℕ → Card → ℕ → Next (Turn Drawn) State Stop
+  turnOfCard s c k d = act s c k d (choiceOf (R .span) (R .lapse-limit) (R .limits) d k (learnedAt (s .days) d) (reviewedAt (s .days) d) (costAt (s .costs) d))
 
   -- a turn looks at the queue's first card; the run ends when the queue is empty
   unfoldable pub next : State → Next (Turn Drawn) State Stop
   next s =
       orElse (eqb (s .queue .len) 0) (stops stop.Ended)
-      (let c = front (s .queue) in let k = cardIn s c in turnOf s c k (dayOf (k .due)))
+      (let c = front (s .queue) in let k = cardIn s c in turnOfCard s c k (dayOf (k .due)))

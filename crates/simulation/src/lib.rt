@@ -18,7 +18,7 @@ pub enum Refusal {
     Lists,
     TooManyCards,
     ExistingCard(u32),
-    Chance(u32),
+    ChanceOutOfRange(u32),
     TableFull(u32),
     DueCount(u32),
 }

@@ -137,7 +137,7 @@ fn retain(
 }
 
 fn is_known(card: Card) -> bool
-    ensures { λ r. ⌜ r ≡ isKept card && not (Day.newOf (card .«last_date»)) ⌝ }
+    ensures { λ r. ⌜ r ≡ isKept card && not (Day.isNew (card .«last_date»)) ⌝ }
 {
     if cards::is_kept(card) {
         !cards::is_new(card.last_date)

@@ -20,7 +20,7 @@ ghost use Rattle.events.specs.Events.{eventOf};
 ghost use Rattle.simulation.specs.State.{lent, keyOf, state};
 ghost use Rattle.simulation.specs.Model.{modelOf, curveFor};
 ghost use Rattle.simulation.specs.Rules.{rulesOf};
-ghost use Rattle.simulation.specs.Turn.{putOffCard, eventCard, holdCard, handle, next};
+ghost use Rattle.simulation.specs.Turn.{cardAfterPutOff, cardAfterEvent, holdCard, eventOn, next};
 ghost use Rattle.simulation.specs.Steps.{Turned, PutOff, PutOffStep, RetireStep, DaysWritten, CardWritten};
 
 // ---- the turn's card
@@ -52,7 +52,7 @@ fn copy_of(card: Card) -> Card
 }
 
 fn put_off_card(card: Card, d: u32) -> Card
-    ensures { λ r. ⌜ r ≡ putOffCard card d ⌝ }
+    ensures { λ r. ⌜ r ≡ cardAfterPutOff card d ⌝ }
 {
     Card {
         difficulty: card.difficulty,
@@ -79,7 +79,7 @@ fn lapses_after(lapses: u32, new: bool, recalled: bool) -> u32
 }
 
 fn event_card(card: Card, new: bool, x: Memory, d: u32, v: f32) -> Card
-    ensures { λ r. ⌜ r ≡ eventCard card new x d v ⌝ }
+    ensures { λ r. ⌜ r ≡ cardAfterEvent card new x d v ⌝ }
 {
     let day = float32::from_u32(d);
     Card {
@@ -255,7 +255,7 @@ fn event_step(
     draws: u64,
 ) -> Outcome
     ensures { λ r. ⌜ Turned
-        (handle (rulesOf config (kept m))
+        (eventOn (rulesOf config (kept m))
         (state (lent (now (cards .entry)) (now (counts .entry)) (now (rows .entry)) (now (days .entry)) (now (sums .entry)) (now (due .entry)) (now (keys .entry)) (now (intervals .entry))) len draws)
         c card new d)
         (state (lent (now (cards .entry)) (now (counts .entry)) (now (rows .entry)) (now (days .entry)) (now (sums .entry)) (now (due .entry)) (now (keys .entry)) (now (intervals .entry))) len draws)
@@ -265,7 +265,7 @@ fn event_step(
     let curve = m.curve(card.stability);
     let drawn = event_of(config, m, curve, card, new, d, draws);
     let Event::Happened(x) = drawn else {
-        return Outcome::Stopped(Stop::Refused(Refusal::Chance(c)));
+        return Outcome::Stopped(Stop::Refused(Refusal::ChanceOutOfRange(c)));
     };
     let slot = intervals::scheduled_interval(
         m,

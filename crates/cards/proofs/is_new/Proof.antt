@@ -1,12 +1,12 @@
 -- `cards::is_new` meets its contract.
 use lib.Ieee.{ofBits, ofFields, div, neg, eq}
 use mathlib.Core.Path.{refl}
-use Rattle.cards.specs.Day.{newOf}
+use Rattle.cards.specs.Day.{isNew}
 use Rattle.cards.proofs.is_new.Statement.{statement}
 use Rattle.cards.proofs.is_new.Tie as tie
 
 returns : tie.Need-returns
-unfolding newOf eq ofBits ofFields div neg
+unfolding isNew eq ofBits ofFields div neg
 returns c = refl
 
 pub is-new-spec : {M : Type 1} → statement M

@@ -12,7 +12,7 @@ use Rattle.turns.proofs.Loop.{Follows, Same, run-follows}
 use Rattle.cards.specs.declared.Card.{Card}
 use Rattle.cards.specs.declared.Choice.{Choice}
 use Rattle.cards.specs.declared.Choice.the-variants as choice
-use Rattle.cards.specs.Day.{dayOf, newOf}
+use Rattle.cards.specs.Day.{dayOf, isNew}
 use Rattle.cards.specs.Choices.{choiceOf}
 use Rattle.days.specs.Counts.{learnedAt, reviewedAt}
 use Rattle.days.specs.Sums.{costAt}
@@ -32,7 +32,7 @@ use Rattle.simulation.specs.declared.Stop.{Stop}
 use Rattle.simulation.specs.declared.Stop.the-variants as stop
 use Rattle.simulation.specs.State.{State, cardIn, withTable}
 use Rattle.simulation.specs.Rules.{Rules}
-use Rattle.simulation.specs.Turn.{refuses, turnAs, eventTurn, retired, postponed, handled, handleAs, eventAs, handle, orElse, act, turnOf, next}
+use Rattle.simulation.specs.Turn.{refuses, turnAs, eventTurn, afterRetire, afterPutOff, afterEvent, eventWithSlot, eventWithDraw, eventOn, orElse, act, turnOfCard, next}
 use Rattle.simulation.proofs.turn.Slots.{Slots}
 
 -- the same state but for the table, which holds the same and is as long or longer
@@ -51,19 +51,19 @@ module _ (R : Rules) (laws : Slots (R .model)) where
     abbrev s′ : State
     s′ = withTable s t
 
-    handle-some : (r : State) (c : ℕ) (k : Card) (new : Bool) (d : ℕ) (y : Memory) (x : Slot) → isFull x ≡ false → handleAs R r c k new d y x ≡ takes (eventTurn R r c k new d y) (handled R r c k new d y x)
+    handle-some : (r : State) (c : ℕ) (k : Card) (new : Bool) (d : ℕ) (y : Memory) (x : Slot) → isFull x ≡ false → eventWithSlot R r c k new d y x ≡ takes (eventTurn R r c k new d y) (afterEvent R r c k new d y x)
     handle-some r c k new d y (slot.Keep v) e = refl
     handle-some r c k new d y (slot.Enter p a b v) e = refl
     handle-some r c k new d y slot.Full e = absurd (true≢false e)
 
     -- the same interval from two slots, one for each table
-    handled-alike : (c : ℕ) (k : Card) (new : Bool) (d : ℕ) (y : Memory) (x x′ : Slot) → intervalOf x ≡ intervalOf x′ → Twin (entered (s .table) x) (entered t x′) → Alike (handled R s c k new d y x) (handled R s′ c k new d y x′)
-    unfolding handled
+    handled-alike : (c : ℕ) (k : Card) (new : Bool) (d : ℕ) (y : Memory) (x x′ : Slot) → intervalOf x ≡ intervalOf x′ → Twin (entered (s .table) x) (entered t x′) → Alike (afterEvent R s c k new d y x) (afterEvent R s′ c k new d y x′)
+    unfolding afterEvent
     handled-alike c k new d y x x′ q tw = record { same = rw q; twin = tw }
 
     slots-follow : (c : ℕ) (k : Card) (new : Bool) (d : ℕ) (y : Memory) (x x′ : Slot) (b : Bool) → isFull x ≡ b
         → (isFull x ≡ false → (intervalOf x ≡ intervalOf x′) × (isFull x′ ≡ false) × Twin (entered (s .table) x) (entered t x′))
-        → Follow (handleAs R s c k new d y x) (handleAs R s′ c k new d y x′)
+        → Follow (eventWithSlot R s c k new d y x) (eventWithSlot R s′ c k new d y x′)
     slots-follow c k new d y slot.Full x′ true e h = λ z. let o : _≡_ {A = ℕ} 0 1 = cc in absurd (none o)
       where
         none : _≡_ {A = ℕ} 0 1 → ⊥
@@ -74,22 +74,22 @@ module _ (R : Rules) (laws : Slots (R .model)) where
     slots-follow c k new d y (slot.Keep v) x′ true e h = absurd (false≢true e)
     slots-follow c k new d y (slot.Enter p a b v) x′ true e h = absurd (false≢true e)
 
-    event-follows : (c : ℕ) (k : Card) (new : Bool) (d : ℕ) → Follow (handle R s c k new d) (handle R s′ c k new d)
-    unfolding handle
+    event-follows : (c : ℕ) (k : Card) (new : Bool) (d : ℕ) → Follow (eventOn R s c k new d) (eventOn R s′ c k new d)
+    unfolding eventOn
     event-follows c k new d = go (R .model .event (R .draw) k new d (s .draws))
       where
-        go : (e : Event) → Follow (eventAs R s c k new d e) (eventAs R s′ c k new d e)
-        go event.Chance = λ z. refl
+        go : (e : Event) → Follow (eventWithDraw R s c k new d e) (eventWithDraw R s′ c k new d e)
+        go event.ChanceOutOfRange = λ z. refl
         go (event.Happened y) =
             let r = k .«desired_retention» in
             slots-follow c k new d y (R .model .slot (s .table) (y .stability) r) (R .model .slot t (y .stability) r) (isFull (R .model .slot (s .table) (y .stability) r)) refl (laws .twins (s .table) t w (y .stability) r)
 
     act-follows : (c : ℕ) (k : Card) (d : ℕ) (x : Choice) → Follow (act R s c k d x) (act R s′ c k d x)
-    unfolding retired postponed
+    unfolding afterRetire afterPutOff
     act-follows c k d choice.Retire = (refl, record { same = refl; twin = w })
-    act-follows c k d choice.PutOff = go (noneDue (s .due) (newOf (k .«last_date»)) d)
+    act-follows c k d choice.PutOff = go (noneDue (s .due) (isNew (k .«last_date»)) d)
       where
-        go : (b : Bool) → Follow (orElse b (refuses (refusal.DueCount c)) (takes (turnAs c d putOff) (postponed R s c k d))) (orElse b (refuses (refusal.DueCount c)) (takes (turnAs c d putOff) (postponed R s′ c k d)))
+        go : (b : Bool) → Follow (orElse b (refuses (refusal.DueCount c)) (takes (turnAs c d putOff) (afterPutOff R s c k d))) (orElse b (refuses (refusal.DueCount c)) (takes (turnAs c d putOff) (afterPutOff R s′ c k d)))
         go true = λ z. refl
         go false = (refl, record { same = refl; twin = w })
     act-follows c k d choice.Learn = event-follows c k true d
@@ -108,7 +108,7 @@ module _ (R : Rules) (laws : Slots (R .model)) where
         d : ℕ
         d = dayOf (k .due)
 
-        go : (b : Bool) → Follow (orElse b (stops stop.Ended) (turnOf R s c k d)) (orElse b (stops stop.Ended) (turnOf R s′ c k d))
+        go : (b : Bool) → Follow (orElse b (stops stop.Ended) (turnOfCard R s c k d)) (orElse b (stops stop.Ended) (turnOfCard R s′ c k d))
         go true = λ z. refl
         go false = act-follows c k d (choiceOf (R .span) (R .lapse-limit) (R .limits) d k (learnedAt (s .days) d) (reviewedAt (s .days) d) (costAt (s .costs) d))
 

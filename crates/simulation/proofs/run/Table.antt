@@ -11,7 +11,7 @@ use Rattle.turns.proofs.Loop.{run-takes, run-stops}
 use Rattle.cards.specs.declared.Card.{Card}
 use Rattle.cards.specs.declared.Choice.{Choice}
 use Rattle.cards.specs.declared.Choice.the-variants as choice
-use Rattle.cards.specs.Day.{dayOf, newOf}
+use Rattle.cards.specs.Day.{dayOf, isNew}
 use Rattle.cards.specs.Choices.{choiceOf}
 use Rattle.days.specs.Counts.{learnedAt, reviewedAt}
 use Rattle.days.specs.Sums.{costAt}
@@ -30,7 +30,7 @@ use Rattle.simulation.specs.declared.Stop.{Stop}
 use Rattle.simulation.specs.declared.Stop.the-variants as stop
 use Rattle.simulation.specs.State.{State, cardIn}
 use Rattle.simulation.specs.Rules.{Rules}
-use Rattle.simulation.specs.Turn.{refuses, turnAs, postponed, retired, handled, handleAs, eventAs, handle, orElse, act, turnOf, next}
+use Rattle.simulation.specs.Turn.{refuses, turnAs, afterPutOff, afterRetire, afterEvent, eventWithSlot, eventWithDraw, eventOn, orElse, act, turnOfCard, next}
 use Rattle.simulation.proofs.turn.Slots.{Slots}
 
 module _ (R : Rules) (laws : Slots (R .model)) where
@@ -40,28 +40,28 @@ module _ (R : Rules) (laws : Slots (R .model)) where
   After (stops x) = Unit {0}
 
   module _ (s : State) (ok : Sound (s .table)) where
-    given : (c : ℕ) (k : Card) (new : Bool) (d : ℕ) (y : Memory) (x : Slot) → Sound (entered (s .table) x) → After (handleAs R s c k new d y x)
-    unfolding handled
+    given : (c : ℕ) (k : Card) (new : Bool) (d : ℕ) (y : Memory) (x : Slot) → Sound (entered (s .table) x) → After (eventWithSlot R s c k new d y x)
+    unfolding afterEvent
     given c k new d y slot.Full h = tt
     given c k new d y (slot.Keep v) h = h
     given c k new d y (slot.Enter p a b v) h = h
 
-    event-after : (c : ℕ) (k : Card) (new : Bool) (d : ℕ) → After (handle R s c k new d)
-    unfolding handle
+    event-after : (c : ℕ) (k : Card) (new : Bool) (d : ℕ) → After (eventOn R s c k new d)
+    unfolding eventOn
     event-after c k new d = go (R .model .event (R .draw) k new d (s .draws))
       where
-        go : (e : Event) → After (eventAs R s c k new d e)
-        go event.Chance = tt
+        go : (e : Event) → After (eventWithDraw R s c k new d e)
+        go event.ChanceOutOfRange = tt
         go (event.Happened y) =
             let r = k .«desired_retention» in
             given c k new d y (R .model .slot (s .table) (y .stability) r) (laws .sound (s .table) ok (y .stability) r)
 
     act-after : (c : ℕ) (k : Card) (d : ℕ) (x : Choice) → After (act R s c k d x)
-    unfolding retired postponed
+    unfolding afterRetire afterPutOff
     act-after c k d choice.Retire = ok
-    act-after c k d choice.PutOff = go (noneDue (s .due) (newOf (k .«last_date»)) d)
+    act-after c k d choice.PutOff = go (noneDue (s .due) (isNew (k .«last_date»)) d)
       where
-        go : (b : Bool) → After (orElse b (refuses (refusal.DueCount c)) (takes (turnAs c d putOff) (postponed R s c k d)))
+        go : (b : Bool) → After (orElse b (refuses (refusal.DueCount c)) (takes (turnAs c d putOff) (afterPutOff R s c k d)))
         go true = tt
         go false = ok
     act-after c k d choice.Learn = event-after c k true d
@@ -80,7 +80,7 @@ module _ (R : Rules) (laws : Slots (R .model)) where
         d : ℕ
         d = dayOf (k .due)
 
-        go : (b : Bool) → After (orElse b (stops stop.Ended) (turnOf R s c k d))
+        go : (b : Bool) → After (orElse b (stops stop.Ended) (turnOfCard R s c k d))
         go true = tt
         go false = act-after c k d (choiceOf (R .span) (R .lapse-limit) (R .limits) d k (learnedAt (s .days) d) (reviewedAt (s .days) d) (costAt (s .costs) d))
 

@@ -23,7 +23,7 @@ use Rattle.turns.proofs.Sums.{sum-same}
 use Rattle.turns.specs.Turns.{CostRule}
 use Rattle.turns.proofs.Columns.{SetUp}
 use Rattle.cards.specs.declared.Card.{Card}
-use Rattle.cards.specs.Day.{dayOf, newOf}
+use Rattle.cards.specs.Day.{dayOf, isNew}
 use Rattle.cards.specs.Cards.{cardAt, writeFloats, writeCounts, isKept, dateOk, historyOk, cardOk}
 use Rattle.cards.proofs.Later.{day-cut, whole-le}
 use Rattle.queue.specs.Queue.{queue, pushed}
@@ -112,7 +112,7 @@ module _ (rows : List (List ℕ)) (lc ln : ℕ) where
   at-length dated n s j = subst (λ (z : ℕ). Joining rows lc ln dated z s) (sym (j .fill .count)) j
 
   join-here : (dated : ℕ) (s : Deck) (k : Card) → Joining rows lc ln dated (s .queue .len) s → s .queue .len < lc → s .queue .len < ln → s .queue .len < length rows → s .queue .len < 65536 → dayOf (k .due) < 2147483648 → k .lapses ≤ 4000000000
-      → Joining rows lc ln (dated + bit (not (newOf (k .«last_date»)))) (suc (s .queue .len)) (joined s k)
+      → Joining rows lc ln (dated + bit (not (isNew (k .«last_date»)))) (suc (s .queue .len)) (joined s k)
   unfolding joined
   join-here dated s k j h hn r few near most = record {
     cards-are = write-long (s .cards) n k ∙ j .cards-are;
@@ -120,7 +120,7 @@ module _ (rows : List (List ℕ)) (lc ln : ℕ) where
     fill = subst (λ (key : ℕ). Filled (keyIn cs′) rows (suc n) (pushed (s .queue) n key)) (own-key (s .cards) n k row)
         (fill-next (keyIn cs′) rows n (s .queue) r (omega arith) (fill-same (keyIn (s .cards)) (keyIn cs′) rows n (s .queue) (λ c l. sym (else-key (s .cards) n k c (omega arith))) (j .fill)));
     near = λ c l. at c l (ℕ-discrete c n);
-    news = omega (arith, j .news, either (newOf (k .«last_date»)), ap bit (own-new (s .cards) n k row), sum-same n (λ c. bit (newIn cs′ c)) (λ c. bit (newIn (s .cards) c)) (λ c l. ap bit (else-new (s .cards) n k c (omega arith))));
+    news = omega (arith, j .news, either (isNew (k .«last_date»)), ap bit (own-new (s .cards) n k row), sum-same n (λ c. bit (newIn cs′ c)) (λ c. bit (newIn (s .cards) c)) (λ c l. ap bit (else-new (s .cards) n k c (omega arith))));
     lapses = λ c l. lapsed c l (ℕ-discrete c n);
   }
     where
@@ -142,10 +142,10 @@ module _ (rows : List (List ℕ)) (lc ln : ℕ) where
       lapsed c l (no e) = omega (arith, else-lapses (s .counts) n k c e, j .lapses c (omega arith))
 
   pub join : (dated n : ℕ) (s : Deck) (k : Card) → Joining rows lc ln dated n s → n < lc → n < ln → n < length rows → n < 65536 → dayOf (k .due) < 2147483648 → k .lapses ≤ 4000000000
-      → Joining rows lc ln (dated + bit (not (newOf (k .«last_date»)))) (suc n) (joined s k)
+      → Joining rows lc ln (dated + bit (not (isNew (k .«last_date»)))) (suc n) (joined s k)
   join dated n s k j h hn r few near most =
       let e : s .queue .len ≡ n = j .fill .count in
-      subst (λ (z : ℕ). Joining rows lc ln (dated + bit (not (newOf (k .«last_date»)))) (suc z) (joined s k)) e
+      subst (λ (z : ℕ). Joining rows lc ln (dated + bit (not (isNew (k .«last_date»)))) (suc z) (joined s k)) e
       (join-here dated s k (at-length dated n s j) (omega arith) (omega arith) (omega arith) (omega arith) near most)
 
 -- ---- the existing cards
@@ -194,11 +194,11 @@ module _ (i : Inputs) (s : State) (ok : Accepted i s) where
       before : Deck
       before = retain span es ns n (emptied i s)
 
-      go : (b : Bool) → isKept k ≡ b → Came (known es ns n) n before → Came (known es ns n + bit (b && not (newOf (k .«last_date»)))) (suc n) (cond b (retained span before k) before)
+      go : (b : Bool) → isKept k ≡ b → Came (known es ns n) n before → Came (known es ns n + bit (b && not (isNew (k .«last_date»)))) (suc n) (cond b (retained span before k) before)
       go true e c = record {
         cards = suc (c .cards);
         few = omega (arith, c .few);
-        joining = retained-same (known es ns n + bit (not (newOf (k .«last_date»)))) (suc (c .cards)) before k
+        joining = retained-same (known es ns n + bit (not (isNew (k .«last_date»)))) (suc (c .cards)) before k
             (join rows (length (s .cards)) (length (s .counts)) (known es ns n) (c .cards) before k (c .joining) (omega (arith, c .few, ok .existing-few, ok .cards-long)) (omega (arith, c .few, ok .existing-few, ok .counts-long)) (omega (arith, c .few, ok .existing-few, ok .queue-long)) (omega (arith, c .few, ok .existing-few, ok .deck-most)) (day-kept k (ok .cards-ok n (omega arith) e)) (lapses-kept k (ok .cards-ok n (omega arith) e)));
       }
       go false e c = record { cards = c .cards; few = omega (arith, c .few); joining = subst (λ (z : ℕ). Joining rows (length (s .cards)) (length (s .counts)) z (c .cards) before) (let z : known es ns n ≡ known es ns n + 0 = omega arith in z) (c .joining) }
@@ -218,8 +218,8 @@ module _ (i : Inputs) (s : State) (ok : Accepted i s) where
   unfolding newCard
   new-lapses n = omega arith
 
-  new-new : (n : ℕ) → newOf (newCard (i .retention) (i .config .«learn_limit») n .«last_date») ≡ true
-  unfolding newCard newOf eq
+  new-new : (n : ℕ) → isNew (newCard (i .retention) (i .config .«learn_limit») n .«last_date») ≡ true
+  unfolding newCard isNew eq
   new-new n = refl
 
   creates : (n : ℕ) → all-kept .cards + n ≤ deck → Came (known es ns (length es)) (all-kept .cards + n) (create (i .retention) (i .config .«learn_limit») n kept)
@@ -237,7 +237,7 @@ module _ (i : Inputs) (s : State) (ok : Accepted i s) where
       go c = record {
         cards = suc (c .cards);
         few = omega (arith, c .few);
-        joining = subst (λ (z : ℕ). Joining rows (length (s .cards)) (length (s .counts)) z (suc (c .cards)) (joined before k)) (let z : known es ns (length es) + bit (not (newOf (k .«last_date»))) ≡ known es ns (length es) = omega (arith, ap (λ (b : Bool). bit (not b)) (new-new n)) in z)
+        joining = subst (λ (z : ℕ). Joining rows (length (s .cards)) (length (s .counts)) z (suc (c .cards)) (joined before k)) (let z : known es ns (length es) + bit (not (isNew (k .«last_date»))) ≡ known es ns (length es) = omega (arith, ap (λ (b : Bool). bit (not b)) (new-new n)) in z)
             (join rows (length (s .cards)) (length (s .counts)) (known es ns (length es)) (c .cards) before k (c .joining) (omega (arith, c .few, h, ok .cards-long)) (omega (arith, c .few, h, ok .counts-long)) (omega (arith, c .few, h, ok .queue-long)) (omega (arith, c .few, h, ok .deck-most)) (new-day n (omega (arith, h, ok .deck-most))) (new-lapses n));
       }
 

@@ -9,7 +9,7 @@ use lib.ListN.{set}
 use lib.Ieee.{Float}
 use Rattle.turns.specs.Sums.{bit}
 use Rattle.cards.specs.declared.Card.{Card}
-use Rattle.cards.specs.Day.{dayOf, newOf}
+use Rattle.cards.specs.Day.{dayOf, isNew}
 use Rattle.cards.specs.Cards.{cardAt, isKept}
 use Rattle.days.specs.Due.{addDue}
 use Rattle.simulation.specs.SetUp.{Deck, deck, filled, newCard, joined, retained, retainCard, retain, known, create}
@@ -40,7 +40,7 @@ retain-next span es ns i s₀ s s′ k e ek h = rw (add-one i) (unfold retain in
 pub create-next : (retention : Float) (limit i : ℕ) (s₀ s s′ : Deck) (k : Card) → s ≡ create retention limit i s₀ → k ≡ newCard retention limit i → s′ ≡ joined s k → s′ ≡ create retention limit (i + 1) s₀
 create-next retention limit i s₀ s s′ k e ek h = rw (add-one i) (unfold create in (h ∙ rw (e, ek)))
 
-pub known-next : (es : List (List Float)) (ns : List (List ℕ)) (i n n′ : ℕ) (k : Card) (b : Bool) → n ≡ known es ns i → k ≡ cardAt es ns i → b ≡ (isKept k && not (newOf (k .«last_date»))) → n′ ≡ n + bit b → n′ ≡ known es ns (i + 1)
+pub known-next : (es : List (List Float)) (ns : List (List ℕ)) (i n n′ : ℕ) (k : Card) (b : Bool) → n ≡ known es ns i → k ≡ cardAt es ns i → b ≡ (isKept k && not (isNew (k .«last_date»))) → n′ ≡ n + bit b → n′ ≡ known es ns (i + 1)
 known-next es ns i n n′ k b e ek eb h = rw (add-one i) (unfold known in (h ∙ rw (e, eb, ek)))
 
 bit-le : (b : Bool) → bit b ≤ 1

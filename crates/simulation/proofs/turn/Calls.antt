@@ -14,7 +14,7 @@ use Rattle.turns.specs.Run.{takes, stops}
 use Rattle.cards.specs.declared.Card.{Card}
 use Rattle.cards.specs.declared.Choice.{Choice}
 use Rattle.cards.specs.declared.Choice.the-variants as choice
-use Rattle.cards.specs.Day.{dayOf, newOf}
+use Rattle.cards.specs.Day.{dayOf, isNew}
 use Rattle.cards.specs.Cards.{cardAt}
 use Rattle.cards.specs.Choices.{choiceOf}
 use Rattle.days.specs.Counts.{learnedAt, reviewedAt}
@@ -35,37 +35,37 @@ use Rattle.simulation.specs.declared.Refusal.the-variants as refusal
 use Rattle.simulation.specs.declared.Stop.the-variants as stop
 use Rattle.simulation.specs.State.{State, Lent, Lists, lent, state, keyOf}
 use Rattle.simulation.specs.Rules.{Rules}
-use Rattle.simulation.specs.Turn.{refuses, turnAs, eventTurn, eventCard, retired, postponed, handled, handleAs, handle, orElse, act, next}
+use Rattle.simulation.specs.Turn.{refuses, turnAs, eventTurn, cardAfterEvent, afterRetire, afterPutOff, afterEvent, eventWithSlot, eventOn, orElse, act, next}
 use Rattle.simulation.specs.Steps.{Turned, PutOff, PutOffStep, RetireStep, DaysWritten, CardWritten}
 use Rattle.simulation.proofs.run.Loop.{lists-same}
 
 -- neither variant but the second
-pub not-happened : (e : Event) → OneOf (1 ∷ []) (tagOf event-type.the-type e) → e ≡ event.Chance
+pub not-happened : (e : Event) → OneOf (1 ∷ []) (tagOf event-type.the-type e) → e ≡ event.ChanceOutOfRange
 not-happened (event.Happened x) a = absurd (omega (arith, a))
-not-happened event.Chance a = refl
+not-happened event.ChanceOutOfRange a = refl
 
 pub put-off-refused : (span c : ℕ) (k : Card) (d len draws : ℕ) (cards : List (List Float)) (rows : List (List ℕ)) (due : List ℕ) (new b : Bool)
-    → new ≡ newOf (k .«last_date») → b ≡ noneDue due new d → b ≡ true
+    → new ≡ isNew (k .«last_date») → b ≡ noneDue due new d → b ≡ true
     → PutOffStep span c k d len draws cards rows due (outcome.Stopped (stop.Refused (refusal.DueCount c))) cards rows due
 put-off-refused span c k d len draws cards rows due new b en eb t =
-    let x : noneDue due (newOf (k .«last_date»)) d ≡ true = rw (← en) (sym eb ∙ t) in
+    let x : noneDue due (isNew (k .«last_date»)) d ≡ true = rw (← en) (sym eb ∙ t) in
     record { refused = λ y. (refl, record { cards-are = refl; rows-are = refl; due-are = refl }); done = λ y. absurd (true≢false (sym x ∙ y)) }
 
 pub put-off-done : (span c : ℕ) (k : Card) (d len draws : ℕ) (cards : List (List Float)) (rows : List (List ℕ)) (due : List ℕ) (new b : Bool) (cards′ : List (List Float)) (rows′ : List (List ℕ)) (due′ : List ℕ)
-    → new ≡ newOf (k .«last_date») → b ≡ noneDue due new d → b ≡ false
+    → new ≡ isNew (k .«last_date») → b ≡ noneDue due new d → b ≡ false
     → PutOff span c k d len cards rows due cards′ rows′ due′
     → PutOffStep span c k d len draws cards rows due (outcome.Took len draws) cards′ rows′ due′
 put-off-done span c k d len draws cards rows due new b cards′ rows′ due′ en eb t p =
-    let x : noneDue due (newOf (k .«last_date»)) d ≡ false = rw (← en) (sym eb ∙ t) in
+    let x : noneDue due (isNew (k .«last_date»)) d ≡ false = rw (← en) (sym eb ∙ t) in
     record { refused = λ y. absurd (true≢false (sym y ∙ x)); done = λ y. (refl, p) }
 
 module _ (R : Rules) (r : State) (c : ℕ) (k : Card) (new : Bool) (d : ℕ) (y : Memory) where
-  handle-full : (t : Slot) → isFull t ≡ true → handleAs R r c k new d y t ≡ refuses (refusal.TableFull c)
+  handle-full : (t : Slot) → isFull t ≡ true → eventWithSlot R r c k new d y t ≡ refuses (refusal.TableFull c)
   handle-full (slot.Keep v) e = absurd (false≢true e)
   handle-full (slot.Enter p a b v) e = absurd (false≢true e)
   handle-full slot.Full e = refl
 
-  handle-some : (t : Slot) → isFull t ≡ false → handleAs R r c k new d y t ≡ takes (eventTurn R r c k new d y) (handled R r c k new d y t)
+  handle-some : (t : Slot) → isFull t ≡ false → eventWithSlot R r c k new d y t ≡ takes (eventTurn R r c k new d y) (afterEvent R r c k new d y t)
   handle-some (slot.Keep v) e = refl
   handle-some (slot.Enter p a b v) e = refl
   handle-some slot.Full e = absurd (true≢false e)
@@ -80,25 +80,25 @@ module _ (R : Rules) (l : Lent) (len draws : ℕ) where
 
   -- ---- an event
   module _ (c : ℕ) (k : Card) (new : Bool) (d : ℕ) where
-    pub chance-is : (e : Event) → e ≡ R .model .event (R .draw) k new d draws → e ≡ event.Chance → Turned (handle R st c k new d) st (outcome.Stopped (stop.Refused (refusal.Chance c))) l
-    unfolding handle
+    pub chance-is : (e : Event) → e ≡ R .model .event (R .draw) k new d draws → e ≡ event.ChanceOutOfRange → Turned (eventOn R st c k new d) st (outcome.Stopped (stop.Refused (refusal.ChanceOutOfRange c))) l
+    unfolding eventOn
     chance-is e p q =
-        let x : R .model .event (R .draw) k new d draws ≡ event.Chance = sym p ∙ q in
+        let x : R .model .event (R .draw) k new d draws ≡ event.ChanceOutOfRange = sym p ∙ q in
         rw x (record { outcome = refl; lists = same })
 
     module _ (e : Event) (x : Memory) (p : e ≡ R .model .event (R .draw) k new d draws) (q : e ≡ event.Happened x) (t : Slot) (z : t ≡ R .model .slot (table (l .keys) (l .intervals)) (x .stability) (k .«desired_retention»)) where
-      handles : handle R st c k new d ≡ handleAs R st c k new d x t
-      unfolding handle
+      handles : eventOn R st c k new d ≡ eventWithSlot R st c k new d x t
+      unfolding eventOn
       handles =
           let y : R .model .event (R .draw) k new d draws ≡ event.Happened x = sym p ∙ q in
           rw (y, z)
 
-      pub full-is : (f : Bool) → f ≡ isFull t → f ≡ true → Turned (handle R st c k new d) st (outcome.Stopped (stop.Refused (refusal.TableFull c))) l
+      pub full-is : (f : Bool) → f ≡ isFull t → f ≡ true → Turned (eventOn R st c k new d) st (outcome.Stopped (stop.Refused (refusal.TableFull c))) l
       full-is f u y = rw (handles ∙ handle-full R st c k new d x t (sym u ∙ y)) (record { outcome = refl; lists = same })
 
       pub handled-is : (f : Bool) → f ≡ isFull t → f ≡ false
           → (v : Float) → v ≡ intervalOf t
-          → (k′ : Card) → k′ ≡ eventCard k new x d v
+          → (k′ : Card) → k′ ≡ cardAfterEvent k new x d v
           → (day : ℕ) → day ≡ dayOf (k′ .due)
           → (l′ : Lent)
           → CardWritten c k′ len (l .cards) (l .counts) (l .rows) (l′ .cards) (l′ .counts) (l′ .rows)
@@ -106,10 +106,10 @@ module _ (R : Rules) (l : Lent) (len draws : ℕ) where
           → x .cost ≡ R .costs .cost (eventTurn R st c k new d x)
           → l′ .due ≡ addDue (R .span) (l .due) day
           → table (l′ .keys) (l′ .intervals) ≡ entered (table (l .keys) (l .intervals)) t
-          → Turned (handle R st c k new d) st (outcome.Took len (x .draws)) l′
-      unfolding handled
+          → Turned (eventOn R st c k new d) st (outcome.Took len (x .draws)) l′
+      unfolding afterEvent
       handled-is f u y v ev k′ ek day ed l′ cw dw pw du tw =
-          let kk : eventCard k new x d (intervalOf t) ≡ k′ = sym (ek ∙ ap (λ (w : Float). eventCard k new x d w) ev) in
+          let kk : cardAfterEvent k new x d (intervalOf t) ≡ k′ = sym (ek ∙ ap (λ (w : Float). cardAfterEvent k new x d w) ev) in
           let q′ : frontChanged (queue (l .rows) len) (keyOf k′) ≡ queue (l′ .rows) len = sym (cw .queue-is) in
           rw (handles ∙ handle-some R st c k new d x t (sym u ∙ y))
           (rw (kk, q′)
@@ -140,7 +140,7 @@ module _ (R : Rules) (l : Lent) (len draws : ℕ) where
 
     pub retired-is : (o : Outcome) (sums′ : List (List Float)) (rows′ : List (List ℕ)) → ch ≡ choice.Retire → RetireStep R k len draws (l .sums) (l .rows) o sums′ rows′
         → Turned (next R st) st o (lent (l .cards) (l .counts) rows′ (l .days) sums′ (l .due) (l .keys) (l .intervals))
-    unfolding retired
+    unfolding afterRetire
     retired-is o sums′ rows′ e p =
         rw (next-is ∙ ap (act R st c k d) e)
         (record {
@@ -150,11 +150,11 @@ module _ (R : Rules) (l : Lent) (len draws : ℕ) where
 
     pub put-off-is : (o : Outcome) (cards′ : List (List Float)) (rows′ : List (List ℕ)) (due′ : List ℕ) → ch ≡ choice.PutOff → PutOffStep (R .span) c k d len draws (l .cards) (l .rows) (l .due) o cards′ rows′ due′
         → Turned (next R st) st o (lent cards′ (l .counts) rows′ (l .days) (l .sums) due′ (l .keys) (l .intervals))
-    unfolding postponed
-    put-off-is o cards′ rows′ due′ e p = rw (next-is ∙ ap (act R st c k d) e) (go (noneDue (l .due) (newOf (k .«last_date»)) d) refl)
+    unfolding afterPutOff
+    put-off-is o cards′ rows′ due′ e p = rw (next-is ∙ ap (act R st c k d) e) (go (noneDue (l .due) (isNew (k .«last_date»)) d) refl)
       where
-        go : (b : Bool) → noneDue (l .due) (newOf (k .«last_date»)) d ≡ b
-            → Turned (orElse b (refuses (refusal.DueCount c)) (takes (turnAs c d putOff) (postponed R st c k d))) st o (lent cards′ (l .counts) rows′ (l .days) (l .sums) due′ (l .keys) (l .intervals))
+        go : (b : Bool) → noneDue (l .due) (isNew (k .«last_date»)) d ≡ b
+            → Turned (orElse b (refuses (refusal.DueCount c)) (takes (turnAs c d putOff) (afterPutOff R st c k d))) st o (lent cards′ (l .counts) rows′ (l .days) (l .sums) due′ (l .keys) (l .intervals))
         go true y =
             let h = p .refused y in
             record { outcome = h .0; lists = record { cards-are = h .1 .cards-are; counts-are = refl; rows-are = h .1 .rows-are; days-are = refl; costs-are = refl; held-are = refl; due-are = h .1 .due-are; table-is = refl } }
@@ -163,5 +163,5 @@ module _ (R : Rules) (l : Lent) (len draws : ℕ) where
             rw (sym (h .1 .queue-is))
             (record { outcome = h .0; lists = record { cards-are = h .1 .cards-are; counts-are = refl; rows-are = refl; days-are = refl; costs-are = refl; held-are = refl; due-are = h .1 .due-are; table-is = refl } })
 
-    pub event-is : (new : Bool) (o : Outcome) (l′ : Lent) → act R st c k d ch ≡ handle R st c k new d → Turned (handle R st c k new d) st o l′ → Turned (next R st) st o l′
+    pub event-is : (new : Bool) (o : Outcome) (l′ : Lent) → act R st c k d ch ≡ eventOn R st c k new d → Turned (eventOn R st c k new d) st o l′ → Turned (next R st) st o l′
     event-is new o l′ e p = rw (next-is ∙ e) p

@@ -18,7 +18,7 @@ use Rattle.turns.specs.Turns.{Turn, learn, review}
 use Rattle.turns.proofs.Sums.{sum-same, sum-at, sum-le, lt-step, and-le, bit-le}
 use Rattle.turns.proofs.Demand.{Step}
 use Rattle.cards.specs.declared.Card.{Card}
-use Rattle.cards.specs.Day.{IntervalInRange, dayOf, newOf}
+use Rattle.cards.specs.Day.{IntervalInRange, dayOf, isNew}
 use Rattle.cards.specs.Cards.{cardAt, noCounts, writeFloats, writeCounts, countsOf}
 use Rattle.cards.proofs.Basics.{getD-any}
 use Rattle.cards.proofs.Later.{day-later, day-bound}
@@ -36,20 +36,20 @@ use Rattle.intervals.specs.Schedule.{intervalOf, entered}
 use Rattle.intervals.proofs.Change.{enter-places, value-same, value-other, free-other}
 use Rattle.events.specs.Drawn.{Drawn}
 use Rattle.simulation.specs.State.{State, cardIn, keyOf}
-use Rattle.simulation.specs.Turn.{eventCard, turnAs, eventTurn, handled}
+use Rattle.simulation.specs.Turn.{cardAfterEvent, turnAs, eventTurn, afterEvent}
 use Rattle.simulation.specs.Rules.{Rules}
 use Rattle.simulation.specs.Invariant.{dayIn, newIn, keyIn, lapsesIn, RunBounds, StateInvariant}
 use Rattle.simulation.proofs.turn.Views.{view, columns}
 use Rattle.simulation.proofs.turn.Invariant.{write-long, else-key, else-day, else-new, own-day, own-new, own-key, is-card, has-row, first-is}
 
 -- a whole number is no minus infinity
-new-of : (x : Float) (n : ℕ) → HasValue x false n 1 → newOf x ≡ false
-unfolding newOf eq
+new-of : (x : Float) (n : ℕ) → HasValue x false n 1 → isNew x ≡ false
+unfolding isNew eq
 new-of nan n v = absurd v
 new-of (inf s) n v = absurd v
 new-of (fin s m e) n v = refl
 
-pub new-int : (n : ℕ) → n ≤ 16777216 → newOf (ofInt binary32 (pos n)) ≡ false
+pub new-int : (n : ℕ) → n ≤ 16777216 → isNew (ofInt binary32 (pos n)) ≡ false
 unfolding ofInt
 new-int n h = new-of (round binary32 false n 1) n (round-whole binary32 false n h)
 
@@ -99,7 +99,7 @@ module _ (R : Rules) (cards : ℕ) (fine : RunBounds (R .span) cards) (ts : List
   d = dayOf (k .due)
 
   abbrev k′ : Card
-  k′ = eventCard k new x d (intervalOf t)
+  k′ = cardAfterEvent k new x d (intervalOf t)
 
   abbrev fs′ : List (List Float)
   fs′ = writeFloats fs c k′
@@ -111,11 +111,11 @@ module _ (R : Rules) (cards : ℕ) (fine : RunBounds (R .span) cards) (ts : List
   row = has-row R cards fine ts s good some
 
   due-day : dayIn fs′ c ≡ dayOf (add binary32 (ofInt binary32 (pos d)) (intervalOf t))
-  unfolding eventCard
+  unfolding cardAfterEvent
   due-day = own-day fs c k′ row
 
   dated : newIn fs′ c ≡ false
-  unfolding eventCard
+  unfolding cardAfterEvent
   dated = own-new fs c k′ row ∙ new-int d (omega (arith, h, fine .most))
 
   onward : d < dayIn fs′ c
@@ -188,11 +188,11 @@ module _ (R : Rules) (cards : ℕ) (fine : RunBounds (R .span) cards) (ts : List
         ∙ ap (λ (n : ℕ). n + bit (ltb d (suc i))) (learn-introduced rows d i)
 
     same-lapses : lapsesIn (writeCounts (s .counts) c k′) c ≡ lapsesIn (s .counts) c
-    unfolding eventCard
+    unfolding cardAfterEvent
     same-lapses = lapses-now ∙ rw is lapses-then
 
-    pub step-learn : Step view columns (R .costs) (R .limits) cards (R .span) ts s (eventTurn R s c k true d x) (handled R s c k true d x t)
-    unfolding handled countEvent cardAt
+    pub step-learn : Step view columns (R .costs) (R .limits) cards (R .span) ts s (eventTurn R s c k true d x) (afterEvent R s c k true d x t)
+    unfolding afterEvent countEvent cardAt
     step-learn = rw (← is) (record {
       moves = record {
         is-card = mine;
@@ -217,8 +217,8 @@ module _ (R : Rules) (cards : ℕ) (fine : RunBounds (R .span) cards) (ts : List
     fewer : sumTo cards (λ i. bit (newIn fs′ i)) + 1 ≡ sumTo cards (λ i. bit (newIn fs i))
     fewer = omega (arith, sum-at cards c (λ i. bit (newIn fs i)) (λ i. bit (newIn fs′ i)) mine (λ i ne. ap bit (else-new fs c k′ i ne)), ap bit en, ap bit dated)
 
-    pub good-learn : StateInvariant cards (R .span) (handled R s c k true d x t)
-    unfolding handled countEvent
+    pub good-learn : StateInvariant cards (R .span) (afterEvent R s c k true d x t)
+    unfolding afterEvent countEvent
     good-learn = rw (← is) (record {
       lengths = record {
         cards-long = omega (arith, good .lengths .cards-long, write-long fs c k′);
@@ -258,11 +258,11 @@ module _ (R : Rules) (cards : ℕ) (fine : RunBounds (R .span) cards) (ts : List
     lapsed false n l = raised-is n l
 
     more-lapses : lapsesIn (writeCounts (s .counts) c k′) c ≡ lapsesIn (s .counts) c + bit (not (x .recalled))
-    unfolding eventCard
+    unfolding cardAfterEvent
     more-lapses = lapses-now ∙ rw is (lapsed (x .recalled) (k .lapses) (omega (arith, lapses-then-few, h, fine .most)) ∙ ap (λ (n : ℕ). n + bit (not (x .recalled))) lapses-then)
 
-    pub step-review : Step view columns (R .costs) (R .limits) cards (R .span) ts s (eventTurn R s c k false d x) (handled R s c k false d x t)
-    unfolding handled countEvent cardAt
+    pub step-review : Step view columns (R .costs) (R .limits) cards (R .span) ts s (eventTurn R s c k false d x) (afterEvent R s c k false d x t)
+    unfolding afterEvent countEvent cardAt
     step-review = rw (← is) (record {
       moves = record {
         is-card = mine;
@@ -291,8 +291,8 @@ module _ (R : Rules) (cards : ℕ) (fine : RunBounds (R .span) cards) (ts : List
         at (yes q) = rw q (dated ∙ sym en)
         at (no q) = else-new fs c k′ i q
 
-    pub good-review : StateInvariant cards (R .span) (handled R s c k false d x t)
-    unfolding handled countEvent
+    pub good-review : StateInvariant cards (R .span) (afterEvent R s c k false d x t)
+    unfolding afterEvent countEvent
     good-review = rw (← is) (record {
       lengths = record {
         cards-long = omega (arith, good .lengths .cards-long, write-long fs c k′);

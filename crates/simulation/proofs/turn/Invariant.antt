@@ -16,7 +16,7 @@ use Rattle.turns.specs.Turns.{Turn, Kind, putOff, retire}
 use Rattle.turns.proofs.Sums.{sum-same, sum-at, lt-step}
 use Rattle.turns.proofs.Demand.{Step}
 use Rattle.cards.specs.declared.Card.{Card}
-use Rattle.cards.specs.Day.{IntervalInRange, dayOf, newOf, nextDue}
+use Rattle.cards.specs.Day.{IntervalInRange, dayOf, isNew, nextDue}
 use Rattle.cards.specs.Cards.{noFloats, cardAt, floatsOf, writeFloats}
 use Rattle.cards.specs.Choices.{retires}
 use Rattle.cards.proofs.Later.{day-later, day-in-span, day-bound, one-in-range}
@@ -29,7 +29,7 @@ use Rattle.queue.proofs.Laws.{change-queued, pop-other, pop-front, front-queued
 use Rattle.intervals.specs.Table.{places, freeAt, valueAt}
 use Rattle.events.specs.Drawn.{Drawn}
 use Rattle.simulation.specs.State.{State, cardIn, keyOf}
-use Rattle.simulation.specs.Turn.{putOffCard, postponed, retired, turnAs}
+use Rattle.simulation.specs.Turn.{cardAfterPutOff, afterPutOff, afterRetire, turnAs}
 use Rattle.simulation.specs.Rules.{Rules}
 use Rattle.simulation.specs.Invariant.{difficultyIn, dayIn, newIn, keyIn, RunBounds, StateInvariant}
 use Rattle.simulation.proofs.turn.Views.{view, columns}
@@ -73,7 +73,7 @@ module _ (cards : List (List Float)) (c : ℕ) (k : Card) where
   pub own-day : c < length cards → dayIn (writeFloats cards c k) c ≡ dayOf (k .due)
   own-day h = rw (write-own h)
 
-  pub own-new : c < length cards → newIn (writeFloats cards c k) c ≡ newOf (k .«last_date»)
+  pub own-new : c < length cards → newIn (writeFloats cards c k) c ≡ isNew (k .«last_date»)
   own-new h = rw (write-own h)
 
   pub own-key : c < length cards → keyIn (writeFloats cards c k) c ≡ keyOf k
@@ -119,17 +119,17 @@ module _ (R : Rules) (cards : ℕ) (fine : RunBounds (R .span) cards) (ts : List
 
   -- ---- PUTTING OFF
   abbrev k′ : Card
-  k′ = putOffCard k d
+  k′ = cardAfterPutOff k d
 
   abbrev fs′ : List (List Float)
   fs′ = writeFloats fs c k′
 
   put-own-day : dayIn fs′ c ≡ dayOf (nextDue d)
-  unfolding putOffCard
+  unfolding cardAfterPutOff
   put-own-day = own-day fs c k′ has-row
 
   put-own-new : newIn fs′ c ≡ newIn fs c
-  unfolding putOffCard cardAt
+  unfolding cardAfterPutOff cardAt
   put-own-new = own-new fs c k′ has-row
 
   put-new : (x : ℕ) → newIn fs′ x ≡ newIn fs x
@@ -139,8 +139,8 @@ module _ (R : Rules) (cards : ℕ) (fine : RunBounds (R .span) cards) (ts : List
       at (yes e) = rw e put-own-new
       at (no e) = else-new fs c k′ x e
 
-  pub step-put : retires (R .span) (R .lapse-limit) k ≡ false → StepTo putOff (postponed R s c k d)
-  unfolding postponed cardAt
+  pub step-put : retires (R .span) (R .lapse-limit) k ≡ false → StepTo putOff (afterPutOff R s c k d)
+  unfolding afterPutOff cardAt
   step-put e =
       let h : d < R .span = in-span e in
       record {
@@ -156,8 +156,8 @@ module _ (R : Rules) (cards : ℕ) (fine : RunBounds (R .span) cards) (ts : List
         tests = tt;
       }
 
-  pub good-put : retires (R .span) (R .lapse-limit) k ≡ false → StateInvariant cards (R .span) (postponed R s c k d)
-  unfolding postponed cardAt
+  pub good-put : retires (R .span) (R .lapse-limit) k ≡ false → StateInvariant cards (R .span) (afterPutOff R s c k d)
+  unfolding afterPutOff cardAt
   good-put e = record {
     lengths = record {
       cards-long = omega (arith, good .lengths .cards-long, write-long fs c k′);
@@ -190,8 +190,8 @@ module _ (R : Rules) (cards : ℕ) (fine : RunBounds (R .span) cards) (ts : List
       at x l (no q) = omega (arith, else-day fs c k′ x q, good .order .near x l)
 
   -- ---- RETIRING
-  pub step-retire : StepTo retire (retired R s k)
-  unfolding retired cardAt
+  pub step-retire : StepTo retire (afterRetire R s k)
+  unfolding afterRetire cardAt
   step-retire = record {
     moves = record {
       is-card = is-card;
@@ -205,8 +205,8 @@ module _ (R : Rules) (cards : ℕ) (fine : RunBounds (R .span) cards) (ts : List
     tests = tt;
   }
 
-  pub good-retire : StateInvariant cards (R .span) (retired R s k)
-  unfolding retired
+  pub good-retire : StateInvariant cards (R .span) (afterRetire R s k)
+  unfolding afterRetire
   good-retire = record {
     lengths = record {
       cards-long = good .lengths .cards-long;

@@ -17,7 +17,7 @@ use Rattle.turns.proofs.Columns.{SetUp}
 use Rattle.turns.proofs.Demand.{Step, run-demand, run-rows}
 use Rattle.turns.proofs.Loop.{Lawful, run-chain, run-ends}
 use Rattle.cards.specs.declared.Card.{Card}
-use Rattle.cards.specs.Day.{IntervalInRange, dayOf, newOf}
+use Rattle.cards.specs.Day.{IntervalInRange, dayOf, isNew}
 use Rattle.cards.specs.Cards.{cardAt}
 use Rattle.cards.specs.Choices.{retires, blocked, limited, choose, choiceOf}
 use Rattle.days.specs.Counts.{learnedAt, reviewedAt}
@@ -35,7 +35,7 @@ use Rattle.simulation.specs.declared.Refusal.the-variants as refusal
 use Rattle.simulation.specs.declared.Stop.{Stop}
 use Rattle.simulation.specs.declared.Stop.the-variants as stop
 use Rattle.simulation.specs.State.{State, cardIn}
-use Rattle.simulation.specs.Turn.{refuses, turnAs, eventTurn, postponed, handled, handleAs, eventAs, handle, orElse, act, turnOf, next}
+use Rattle.simulation.specs.Turn.{refuses, turnAs, eventTurn, afterPutOff, afterEvent, eventWithSlot, eventWithDraw, eventOn, orElse, act, turnOfCard, next}
 use Rattle.simulation.specs.Rules.{Rules}
 use Rattle.simulation.specs.Invariant.{RunBounds, StateInvariant}
 use Rattle.simulation.proofs.turn.Views.{view, columns}
@@ -83,24 +83,24 @@ module _ (R : Rules) (cards : ℕ) (fine : RunBounds (R .span) cards) (laws : Sl
 
     -- an event that is not refused is a step, where it is one with any interval that is given
     law-slot : (new : Bool) (y : Memory) (t : Slot) → (isFull t ≡ false → IntervalInRange (intervalOf t))
-        → (IntervalInRange (intervalOf t) → Steps ts s (eventTurn R s c k new d y) (handled R s c k new d y t) × Fit (handled R s c k new d y t))
-        → Lawful Steps Fit ts s (handleAs R s c k new d y t)
+        → (IntervalInRange (intervalOf t) → Steps ts s (eventTurn R s c k new d y) (afterEvent R s c k new d y t) × Fit (afterEvent R s c k new d y t))
+        → Lawful Steps Fit ts s (eventWithSlot R s c k new d y t)
     law-slot new y slot.Full f h = tt
     law-slot new y (slot.Keep v) f h = h (f refl)
     law-slot new y (slot.Enter p a b v) f h = h (f refl)
 
-    law-event : (new : Bool) → ((y : Memory) (t : Slot) → IntervalInRange (intervalOf t) → Steps ts s (eventTurn R s c k new d y) (handled R s c k new d y t) × Fit (handled R s c k new d y t))
-        → Lawful Steps Fit ts s (handle R s c k new d)
-    unfolding handle
+    law-event : (new : Bool) → ((y : Memory) (t : Slot) → IntervalInRange (intervalOf t) → Steps ts s (eventTurn R s c k new d y) (afterEvent R s c k new d y t) × Fit (afterEvent R s c k new d y t))
+        → Lawful Steps Fit ts s (eventOn R s c k new d)
+    unfolding eventOn
     law-event new h = go (R .model .event (R .draw) k new d (s .draws))
       where
-        go : (e : Event) → Lawful Steps Fit ts s (eventAs R s c k new d e)
-        go event.Chance = tt
+        go : (e : Event) → Lawful Steps Fit ts s (eventWithDraw R s c k new d e)
+        go event.ChanceOutOfRange = tt
         go (event.Happened y) =
             let r = k .«desired_retention» in
             law-slot new y (R .model .slot (s .table) (y .stability) r) (laws .fair (s .table) (good .table) (y .stability) r) (h y (R .model .slot (s .table) (y .stability) r))
 
-    law-learn : retires (R .span) (R .lapse-limit) k ≡ false → blocked (R .limits) d true l r x ≡ false → newOf (k .«last_date») ≡ true → Lawful Steps Fit ts s (handle R s c k true d)
+    law-learn : retires (R .span) (R .lapse-limit) k ≡ false → blocked (R .limits) d true l r x ≡ false → isNew (k .«last_date») ≡ true → Lawful Steps Fit ts s (eventOn R s c k true d)
     unfolding blocked cardAt
     law-learn e₁ e₂ e₃ = law-event true (λ y t f. (
       step-learn R cards fine ts s good some true y t f h e₃ refl learns both pays,
@@ -124,7 +124,7 @@ module _ (R : Rules) (cards : ℕ) (fine : RunBounds (R .span) cards) (laws : Sl
         pays : R .limits .over d x ≡ false
         pays = or-left (R .limits .over d x) (limited (R .limits) d true l r) e₂
 
-    law-review : retires (R .span) (R .lapse-limit) k ≡ false → blocked (R .limits) d false l r x ≡ false → newOf (k .«last_date») ≡ false → Lawful Steps Fit ts s (handle R s c k false d)
+    law-review : retires (R .span) (R .lapse-limit) k ≡ false → blocked (R .limits) d false l r x ≡ false → isNew (k .«last_date») ≡ false → Lawful Steps Fit ts s (eventOn R s c k false d)
     unfolding blocked cardAt
     law-review e₁ e₂ e₃ = law-event false (λ y t f. (
       step-review R cards fine ts s good some false y t f h e₃ refl a pays,
@@ -140,25 +140,25 @@ module _ (R : Rules) (cards : ℕ) (fine : RunBounds (R .span) cards) (laws : Sl
         pays : R .limits .over d x ≡ false
         pays = or-left (R .limits .over d x) (limited (R .limits) d false l r) e₂
 
-    law-as : (a b n : Bool) → retires (R .span) (R .lapse-limit) k ≡ a → blocked (R .limits) d n l r x ≡ b → newOf (k .«last_date») ≡ n → Lawful Steps Fit ts s (act R s c k d (choose a b n))
+    law-as : (a b n : Bool) → retires (R .span) (R .lapse-limit) k ≡ a → blocked (R .limits) d n l r x ≡ b → isNew (k .«last_date») ≡ n → Lawful Steps Fit ts s (act R s c k d (choose a b n))
     law-as true b n e₁ e₂ e₃ = (step-retire R cards fine ts s good some, good-retire R cards fine ts s good some)
-    law-as false true n e₁ e₂ e₃ = go (noneDue (s .due) (newOf (k .«last_date»)) d)
+    law-as false true n e₁ e₂ e₃ = go (noneDue (s .due) (isNew (k .«last_date»)) d)
       where
-        go : (y : Bool) → Lawful Steps Fit ts s (orElse y (refuses (refusal.DueCount c)) (takes (turnAs c d putOff) (postponed R s c k d)))
+        go : (y : Bool) → Lawful Steps Fit ts s (orElse y (refuses (refusal.DueCount c)) (takes (turnAs c d putOff) (afterPutOff R s c k d)))
         go true = tt
         go false = (step-put R cards fine ts s good some e₁, good-put R cards fine ts s good some e₁)
     law-as false false true e₁ e₂ e₃ = law-learn e₁ e₂ e₃
     law-as false false false e₁ e₂ e₃ = law-review e₁ e₂ e₃
 
-    law-turn : Lawful Steps Fit ts s (turnOf R s c k d)
+    law-turn : Lawful Steps Fit ts s (turnOfCard R s c k d)
     unfolding choiceOf
-    law-turn = law-as (retires (R .span) (R .lapse-limit) k) (blocked (R .limits) d (newOf (k .«last_date»)) l r x) (newOf (k .«last_date»)) refl refl refl
+    law-turn = law-as (retires (R .span) (R .lapse-limit) k) (blocked (R .limits) d (isNew (k .«last_date»)) l r x) (isNew (k .«last_date»)) refl refl refl
 
   pub law : (ts : List (Turn Drawn)) (s : State) → Fit s → Lawful Steps Fit ts s (next R s)
   unfolding next
   law ts s good = go (eqb (s .queue .len) 0) refl
     where
-      go : (b : Bool) → eqb (s .queue .len) 0 ≡ b → Lawful Steps Fit ts s (orElse b (stops stop.Ended) (turnOf R s (front (s .queue)) (cardIn s (front (s .queue))) (dayOf (cardIn s (front (s .queue)) .due))))
+      go : (b : Bool) → eqb (s .queue .len) 0 ≡ b → Lawful Steps Fit ts s (orElse b (stops stop.Ended) (turnOfCard R s (front (s .queue)) (cardIn s (front (s .queue))) (dayOf (cardIn s (front (s .queue)) .due))))
       go true e = tt
       go false e = let ne = eqb-false (s .queue .len) 0 e in law-turn ts s good (omega (arith, ne))
 

@@ -1,5 +1,5 @@
 -- `simulation::turn::event_card` meets its contract.
-use Rattle.simulation.specs.Turn.{eventCard}
+use Rattle.simulation.specs.Turn.{cardAfterEvent}
 use borrow.Author.Needs.{needs}
 use Rattle.simulation.proofs.turn.event_card.Statement.{statement}
 use Rattle.simulation.proofs.turn.event_card.Tie as tie
@@ -14,7 +14,7 @@ lapses-after-requires : tie.Need-lapses-after-requires
 lapses-after-requires c κs = search needs
 
 returns : tie.Need-returns
-unfolding eventCard
+unfolding cardAfterEvent
 returns c = rw (c .lapses-after .ensures, c .before .raise .ensures, c .before .before .from-u32 .ensures)
 
 pub event-card-spec : {M : Type 1} → statement M

@@ -1,5 +1,5 @@
 -- `simulation::turn::put_off` meets its contract.
-use Rattle.simulation.specs.Turn.{putOffCard}
+use Rattle.simulation.specs.Turn.{cardAfterPutOff}
 use borrow.Author.Needs.{needs}
 use Rattle.simulation.proofs.turn.put_off.Statement.{statement}
 use Rattle.simulation.proofs.turn.put_off.Tie as tie
@@ -35,7 +35,7 @@ same-length-3 : tie.Need-same-length-3
 same-length-3 c = search needs
 
 returns : tie.Need-returns
-unfolding putOffCard
+unfolding cardAfterPutOff
 returns c =
     let p = c .before .before .before .before .before .before .before .before .before .before .before in
     let n = p .before .before in

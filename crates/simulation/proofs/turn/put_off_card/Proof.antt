@@ -1,5 +1,5 @@
 -- `simulation::turn::put_off_card` meets its contract.
-use Rattle.simulation.specs.Turn.{putOffCard}
+use Rattle.simulation.specs.Turn.{cardAfterPutOff}
 use borrow.Author.Needs.{needs}
 use Rattle.simulation.proofs.turn.put_off_card.Statement.{statement}
 use Rattle.simulation.proofs.turn.put_off_card.Tie as tie
@@ -8,7 +8,7 @@ from-u32-requires : tie.Need-from-u32-requires
 from-u32-requires c κs = search needs
 
 returns : tie.Need-returns
-unfolding putOffCard
+unfolding cardAfterPutOff
 returns c = rw (c .from-u32 .ensures)
 
 pub put-off-card-spec : {M : Type 1} → statement M
