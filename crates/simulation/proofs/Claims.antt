@@ -39,7 +39,8 @@ use Rattle.simulation.specs.Demands.{Finished, cardsOf, turnsOf, DemandT
 use Rattle.simulation.specs.Invariant.{RunBounds, StateInvariant}
 use Rattle.simulation.proofs.turn.Slots.{Slots, table-slots}
 use Rattle.simulation.proofs.turn.Views.{columns}
-use Rattle.simulation.proofs.entry.Accepted.{Accepted, accepted, both}
+use Rattle.simulation.proofs.entry.Accepted.{Accepted, accepted}
+use Rattle.simulation.proofs.Logic.{not-one, both}
 use Rattle.simulation.proofs.set_up.Invariant.{set-up-few, set-up-start, set-up-good}
 use Rattle.simulation.proofs.turn.Lawful.{turns-demand, turns-rows, ends}
 
@@ -126,7 +127,7 @@ module _ (R : Rules) (i : Inputs) (s : State) (ok : Accepted i s) (fit : Suits R
 
 -- ---- the entry point
 not-finished : (r : Refusal) (p : Progress) → Finished (answer.Refused r p) → ⊥
-not-finished r p f = let e = f .1 in let z : _≡_ {A = ℕ} 0 1 = cc in omega arith
+not-finished r p f = let e = f .1 in not-one cc
 
 module _ (i : Inputs) (s : State) where
   -- the entry's tests look neither at the seed nor at the draws

@@ -37,6 +37,7 @@ use Rattle.simulation.proofs.entry.Accepted.{Accepted, accepted}
 use Rattle.simulation.proofs.Claims.{Suits, suits, demand-three, has-stopped, few-turns}
 use Rattle.simulation.proofs.run.Table.{run-sound}
 use Rattle.simulation.proofs.run.LongerTable.{Alike, run-longer}
+use Rattle.simulation.proofs.Logic.{not-one}
 
 -- DEMAND 1: an entry refusal, exactly by the table, writes nothing and takes no turn
 entry-refusal : (R : Rules) (i : Inputs) (s : State) (r : Refusal) → checked i s ≡ check.Failed r → simulatedBy R i s ≡ record { answer = answer.Refused r (progress 0 0 (i .seed)); state = s }
@@ -78,7 +79,7 @@ module _ (R : Rules) (i : Inputs) (s : State) (fit : Suits R i) (e : checked i s
   -- it ends Ok exactly when no turn is left
   end-of : (x : Stop) (p q : Progress) → answerOf x p ≡ answer.Finished q → x ≡ stop.Ended
   end-of stop.Ended p q z = refl
-  end-of (stop.Refused r) p q z = let o : _≡_ {A = ℕ} 0 1 = cc in absurd (let f : ⊥ = omega arith in f)
+  end-of (stop.Refused r) p q z = absurd (not-one cc)
 
   finished-is : simulatedBy R i s ≡ finished R s₀
   unfolding simulatedBy

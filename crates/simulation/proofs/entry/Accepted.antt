@@ -16,6 +16,7 @@ use Rattle.simulation.specs.declared.Check.the-variants as check
 use Rattle.simulation.specs.State.{State}
 use Rattle.simulation.proofs.entry.FirstWhere.{none-before}
 use Rattle.simulation.specs.Entry.{Inputs, firstWhere, notFinite, notOk, failIf, checkParameters, listsOk, checkFirst, checked}
+use Rattle.simulation.proofs.Logic.{not-one, both, neither, unnot}
 
 pub record Accepted (i : Inputs) (s : State) : Type 0 where
   pub parameters-long : 34 ≤ length (i .parameters)
@@ -36,21 +37,9 @@ pub record Accepted (i : Inputs) (s : State) : Type 0 where
   pub existing-few : length (i .existing) ≤ i .config .«deck_size»
   pub cards-ok : (j : ℕ) → j < length (i .existing) → isKept (cardAt (i .existing) (i .existing-counts) j) ≡ true → cardOk (cardAt (i .existing) (i .existing-counts) j) ≡ true
 
-passes : (b : Bool) (r : Refusal) (next : Check) → failIf b r next ≡ check.Passed → (b ≡ false) × (next ≡ check.Passed)
-passes true r next e = let z : _≡_ {A = ℕ} 0 1 = cc in absurd (omega arith)
+pub passes : (b : Bool) (r : Refusal) (next : Check) → failIf b r next ≡ check.Passed → (b ≡ false) × (next ≡ check.Passed)
+passes true r next e = absurd (not-one cc)
 passes false r next e = (refl, e)
-
-pub both : (a b : Bool) → (a && b) ≡ true → (a ≡ true) × (b ≡ true)
-both true b e = (refl, e)
-both false b e = absurd (false≢true e)
-
-neither : (a b : Bool) → (a || b) ≡ false → (a ≡ false) × (b ≡ false)
-neither true b e = absurd (true≢false e)
-neither false b e = (refl, e)
-
-unnot : (b : Bool) → not b ≡ false → b ≡ true
-unnot true e = refl
-unnot false e = absurd (true≢false e)
 
 kept-ok : (a b : Bool) → (a && not b) ≡ false → a ≡ true → b ≡ true
 kept-ok true b e k = unnot b e

@@ -15,25 +15,23 @@ use Rattle.simulation.specs.declared.Refusal.the-variants as refusal
 use Rattle.simulation.specs.declared.Check.{Check}
 use Rattle.simulation.specs.declared.Check.the-variants as check
 use Rattle.simulation.specs.Entry.{firstWhere, notFinite, failIf, checkParameters}
+use Rattle.simulation.proofs.Logic.{not-one}
+use Rattle.simulation.proofs.entry.Accepted.{passes}
 
 fails : (b : Bool) (r : Refusal) (c next : Check) → (c ≡ check.Passed → ⊥) → (x y : Check) → (x ≡ c → y ≡ c) → failIf b r x ≡ c → failIf b r y ≡ c
 fails true r c next n x y f e = e
 fails false r c next n x y f e = f e
 
-passes : (b : Bool) (r : Refusal) (x y : Check) → (x ≡ check.Passed → y ≡ y) → failIf b r x ≡ check.Passed → (b ≡ false) × (x ≡ check.Passed)
-passes true r x y f e = let z : _≡_ {A = ℕ} 0 1 = cc in absurd (omega arith)
-passes false r x y f e = (refl, e)
-
 pub parameters-pass : (w : List Float) (next : Check) → checkParameters w check.Passed ≡ check.Passed → checkParameters w next ≡ next
 unfolding checkParameters
 parameters-pass w next e =
-    let a = passes (ltb (length w) 34) (refusal.Parameters 34) (failIf (ltb (firstWhere (notFinite w) 34 0) 34) (refusal.Parameters (firstWhere (notFinite w) 34 0)) check.Passed) next (λ z. refl) e in
-    let b = passes (ltb (firstWhere (notFinite w) 34 0) 34) (refusal.Parameters (firstWhere (notFinite w) 34 0)) check.Passed next (λ z. refl) (a .1) in
+    let a = passes (ltb (length w) 34) _ _ e in
+    let b = passes (ltb (firstWhere (notFinite w) 34 0) 34) _ _ (a .1) in
     rw (a .0, b .0)
 
 not-passed : (c : Check) → OneOf (1 ∷ []) (tagOf check-type.the-type c) → c ≡ check.Passed → ⊥
 not-passed check.Passed t e = omega (arith, t)
-not-passed (check.Failed r) t e = let z : _≡_ {A = ℕ} 0 1 = cc in omega arith
+not-passed (check.Failed r) t e = not-one cc
 
 pub parameters-fail : (w : List Float) (next c : Check) → c ≡ checkParameters w check.Passed → OneOf (1 ∷ []) (tagOf check-type.the-type c) → c ≡ checkParameters w next
 unfolding checkParameters

@@ -34,6 +34,8 @@ use Rattle.simulation.specs.State.{State, cardIn, withTable}
 use Rattle.simulation.specs.Rules.{Rules}
 use Rattle.simulation.specs.Turn.{refuses, turnAs, eventTurn, afterRetire, afterPutOff, afterEvent, eventWithSlot, eventWithDraw, eventOn, orElse, act, turnOfCard, next}
 use Rattle.simulation.proofs.turn.Slots.{Slots}
+use Rattle.simulation.proofs.Logic.{not-one}
+use Rattle.simulation.proofs.turn.Calls.{event-taken}
 
 -- the same state but for the table, which holds the same and is as long or longer
 pub record Alike (s s′ : State) : Type 0 where
@@ -51,11 +53,6 @@ module _ (R : Rules) (laws : Slots (R .model)) where
     abbrev s′ : State
     s′ = withTable s t
 
-    handle-some : (r : State) (c : ℕ) (k : Card) (new : Bool) (d : ℕ) (y : Memory) (x : Slot) → isFull x ≡ false → eventWithSlot R r c k new d y x ≡ takes (eventTurn R r c k new d y) (afterEvent R r c k new d y x)
-    handle-some r c k new d y (slot.Keep v) e = refl
-    handle-some r c k new d y (slot.Enter p a b v) e = refl
-    handle-some r c k new d y slot.Full e = absurd (true≢false e)
-
     -- the same interval from two slots, one for each table
     handled-alike : (c : ℕ) (k : Card) (new : Bool) (d : ℕ) (y : Memory) (x x′ : Slot) → intervalOf x ≡ intervalOf x′ → Twin (entered (s .table) x) (entered t x′) → Alike (afterEvent R s c k new d y x) (afterEvent R s′ c k new d y x′)
     unfolding afterEvent
@@ -64,13 +61,10 @@ module _ (R : Rules) (laws : Slots (R .model)) where
     slots-follow : (c : ℕ) (k : Card) (new : Bool) (d : ℕ) (y : Memory) (x x′ : Slot) (b : Bool) → isFull x ≡ b
         → (isFull x ≡ false → (intervalOf x ≡ intervalOf x′) × (isFull x′ ≡ false) × Twin (entered (s .table) x) (entered t x′))
         → Follow (eventWithSlot R s c k new d y x) (eventWithSlot R s′ c k new d y x′)
-    slots-follow c k new d y slot.Full x′ true e h = λ z. let o : _≡_ {A = ℕ} 0 1 = cc in absurd (none o)
-      where
-        none : _≡_ {A = ℕ} 0 1 → ⊥
-        none o = omega arith
+    slots-follow c k new d y slot.Full x′ true e h = λ z. absurd (not-one cc)
     slots-follow c k new d y x x′ false e h =
         let q = h e in
-        rw (handle-some s c k new d y x e, handle-some s′ c k new d y x′ (q .1)) (refl, handled-alike c k new d y x x′ (q .0) (q .2))
+        rw (event-taken R s c k new d y x e, event-taken R s′ c k new d y x′ (q .1)) (refl, handled-alike c k new d y x x′ (q .0) (q .2))
     slots-follow c k new d y (slot.Keep v) x′ true e h = absurd (false≢true e)
     slots-follow c k new d y (slot.Enter p a b v) x′ true e h = absurd (false≢true e)
 

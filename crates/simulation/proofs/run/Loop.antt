@@ -21,6 +21,7 @@ use Rattle.simulation.specs.State.{State, Lent, Lists, state}
 use Rattle.simulation.specs.Rules.{Rules}
 use Rattle.simulation.specs.Turn.{next}
 use Rattle.simulation.specs.Steps.{stopIn, Turned, Ran}
+use Rattle.simulation.proofs.Logic.{not-one}
 
 -- the lists of a state, and the state of lists
 pub state-is : (s : State) (l : Lent) (n r : ℕ) → Lists s l → n ≡ s .queue .len → r ≡ s .draws → state l n r ≡ s
@@ -34,7 +35,7 @@ lists-of s l n r e = subst (λ (z : State). Lists z l) e (lists-same l n r)
 
 -- a stop is no turn taken
 stop-took : (x : Stop) (n r : ℕ) → outcome.Stopped x ≡ outcome.Took n r → ⊥
-stop-took x n r e = let z : _≡_ {A = ℕ} 0 1 = cc in omega arith
+stop-took x n r e = not-one cc
 
 took-tag : (o : Outcome) (n r : ℕ) → OneOf (1 ∷ []) (tagOf outcome-type.the-type o) → o ≡ outcome.Took n r → ⊥
 took-tag (outcome.Took a b) n r t e = omega (arith, t)

@@ -38,7 +38,8 @@ use Rattle.simulation.specs.Invariant.{dayIn, newIn, keyIn, lapsesIn, St
 use Rattle.simulation.proofs.turn.Views.{columns}
 use Rattle.simulation.proofs.turn.Invariant.{write-long, else-key, else-day, else-new, own-day, own-new, own-key}
 use Rattle.simulation.proofs.turn.Events.{counts-long, own-lapses, else-lapses}
-use Rattle.simulation.proofs.entry.Accepted.{Accepted, both}
+use Rattle.simulation.proofs.entry.Accepted.{Accepted}
+use Rattle.simulation.proofs.Logic.{both}
 
 -- ---- a list with its first places filled
 pub filled-long : {A : Type 0} (x : A) (n : ℕ) (l : List A) → length (filled x n l) ≡ length l

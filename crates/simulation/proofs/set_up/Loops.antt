@@ -8,6 +8,7 @@ use native.Mathlib.Omega.{arith}
 use lib.ListN.{set}
 use lib.Ieee.{Float}
 use Rattle.turns.specs.Sums.{bit}
+use Rattle.turns.proofs.Sums.{bit-le}
 use Rattle.cards.specs.declared.Card.{Card}
 use Rattle.cards.specs.Day.{dayOf, isNew}
 use Rattle.cards.specs.Cards.{cardAt, isKept}
@@ -42,10 +43,6 @@ create-next retention limit i s₀ s s′ k e ek h = rw (add-one i) (unfold crea
 
 pub known-next : (es : List (List Float)) (ns : List (List ℕ)) (i n n′ : ℕ) (k : Card) (b : Bool) → n ≡ known es ns i → k ≡ cardAt es ns i → b ≡ (isKept k && not (isNew (k .«last_date»))) → n′ ≡ n + bit b → n′ ≡ known es ns (i + 1)
 known-next es ns i n n′ k b e ek eb h = rw (add-one i) (unfold known in (h ∙ rw (e, eb, ek)))
-
-bit-le : (b : Bool) → bit b ≤ 1
-bit-le true = omega arith
-bit-le false = omega arith
 
 pub known-le : (i n n′ : ℕ) (b : Bool) → n ≤ i → n′ ≡ n + bit b → n′ ≤ i + 1
 known-le i n n′ b h e = omega (arith, bit-le b)

@@ -60,15 +60,15 @@ put-off-done span c k d len draws cards rows due new b cards′ rows′ due′ e
     record { refused = λ y. absurd (true≢false (sym y ∙ x)); done = λ y. (refl, p) }
 
 module _ (R : Rules) (r : State) (c : ℕ) (k : Card) (new : Bool) (d : ℕ) (y : Memory) where
-  handle-full : (t : Slot) → isFull t ≡ true → eventWithSlot R r c k new d y t ≡ refuses (refusal.TableFull c)
-  handle-full (slot.Keep v) e = absurd (false≢true e)
-  handle-full (slot.Enter p a b v) e = absurd (false≢true e)
-  handle-full slot.Full e = refl
+  event-full : (t : Slot) → isFull t ≡ true → eventWithSlot R r c k new d y t ≡ refuses (refusal.TableFull c)
+  event-full (slot.Keep v) e = absurd (false≢true e)
+  event-full (slot.Enter p a b v) e = absurd (false≢true e)
+  event-full slot.Full e = refl
 
-  handle-some : (t : Slot) → isFull t ≡ false → eventWithSlot R r c k new d y t ≡ takes (eventTurn R r c k new d y) (afterEvent R r c k new d y t)
-  handle-some (slot.Keep v) e = refl
-  handle-some (slot.Enter p a b v) e = refl
-  handle-some slot.Full e = absurd (true≢false e)
+  pub event-taken : (t : Slot) → isFull t ≡ false → eventWithSlot R r c k new d y t ≡ takes (eventTurn R r c k new d y) (afterEvent R r c k new d y t)
+  event-taken (slot.Keep v) e = refl
+  event-taken (slot.Enter p a b v) e = refl
+  event-taken slot.Full e = absurd (true≢false e)
 
 module _ (R : Rules) (l : Lent) (len draws : ℕ) where
   abbrev st : State
@@ -94,7 +94,7 @@ module _ (R : Rules) (l : Lent) (len draws : ℕ) where
           rw (y, z)
 
       pub full-is : (f : Bool) → f ≡ isFull t → f ≡ true → Turned (eventOn R st c k new d) st (outcome.Stopped (stop.Refused (refusal.TableFull c))) l
-      full-is f u y = rw (handles ∙ handle-full R st c k new d x t (sym u ∙ y)) (record { outcome = refl; lists = same })
+      full-is f u y = rw (handles ∙ event-full R st c k new d x t (sym u ∙ y)) (record { outcome = refl; lists = same })
 
       pub handled-is : (f : Bool) → f ≡ isFull t → f ≡ false
           → (v : Float) → v ≡ intervalOf t
@@ -111,7 +111,7 @@ module _ (R : Rules) (l : Lent) (len draws : ℕ) where
       handled-is f u y v ev k′ ek day ed l′ cw dw pw du tw =
           let kk : cardAfterEvent k new x d (intervalOf t) ≡ k′ = sym (ek ∙ ap (λ (w : Float). cardAfterEvent k new x d w) ev) in
           let q′ : frontChanged (queue (l .rows) len) (keyOf k′) ≡ queue (l′ .rows) len = sym (cw .queue-is) in
-          rw (handles ∙ handle-some R st c k new d x t (sym u ∙ y))
+          rw (handles ∙ event-taken R st c k new d x t (sym u ∙ y))
           (rw (kk, q′)
           (record {
             outcome = refl;

@@ -1,6 +1,6 @@
 -- What the run's state keeps, and that putting off and retiring are steps of the theory and keep it.
 use mathlib.Core.Path.{_≡_, refl, sym, ap}
-use mathlib.Core.Bool.{Bool, true, false, _||_, cond}
+use mathlib.Core.Bool.{Bool, true, false, cond}
 use mathlib.Core.List.{List}
 use mathlib.Core.Logic.{_≢_}
 use Prim.Native.Nat.{ℕ, _+_, _-_, _*_, _^_, _≤_, _<_, min}
@@ -33,6 +33,7 @@ use Rattle.simulation.specs.Turn.{cardAfterPutOff, afterPutOff, afterRet
 use Rattle.simulation.specs.Rules.{Rules}
 use Rattle.simulation.specs.Invariant.{difficultyIn, dayIn, newIn, keyIn, RunBounds, StateInvariant}
 use Rattle.simulation.proofs.turn.Views.{view, columns}
+use Rattle.simulation.proofs.Logic.{or-left}
 
 bits-same : (b : Bool) → key.bit b ≡ bit b
 bits-same true = refl
@@ -78,10 +79,6 @@ module _ (cards : List (List Float)) (c : ℕ) (k : Card) where
 
   pub own-key : c < length cards → keyIn (writeFloats cards c k) c ≡ keyOf k
   own-key h = rw (write-own h)
-
-or-left : (a b : Bool) → (a || b) ≡ false → a ≡ false
-or-left true b e = e
-or-left false b e = refl
 
 module _ (R : Rules) (cards : ℕ) (fine : RunBounds (R .span) cards) (ts : List (Turn Drawn)) (s : State) (good : StateInvariant cards (R .span) s) (some : 0 < s .queue .len) where
   abbrev c : ℕ

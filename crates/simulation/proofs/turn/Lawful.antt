@@ -42,18 +42,7 @@ use Rattle.simulation.proofs.turn.Views.{view, columns}
 use Rattle.simulation.proofs.turn.Slots.{Slots}
 use Rattle.simulation.proofs.turn.Invariant.{in-span, step-put, good-put, step-retire, good-retire}
 use Rattle.simulation.proofs.turn.Events.{step-learn, good-learn, step-review, good-review}
-
-or-left : (a b : Bool) → (a || b) ≡ false → a ≡ false
-or-left true b e = e
-or-left false b e = refl
-
-or-right : (a b : Bool) → (a || b) ≡ false → b ≡ false
-or-right true b e = absurd (false≢true (sym e))
-or-right false b e = e
-
-and-right : (a b : Bool) → a ≡ true → (a && b) ≡ false → b ≡ false
-and-right true b e h = h
-and-right false b e h = absurd (false≢true e)
+use Rattle.simulation.proofs.Logic.{or-left, or-right, and-right}
 
 module _ (R : Rules) (cards : ℕ) (fine : RunBounds (R .span) cards) (laws : Slots (R .model)) where
   abbrev Steps : List (Turn Drawn) → State → Turn Drawn → State → Type 0
