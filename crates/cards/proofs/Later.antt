@@ -2,22 +2,21 @@
 -- `later`: a whole day n and an interval of 1 or more, added in floats, come to a later day. `in-span`: a float that is not at or past a whole
 -- number has a whole part below it. `day-cut`: the max with 0 changes nothing. Assumes nothing.
 use mathlib.Core.Path.{_≡_, refl, sym, ap, _∙_, subst}
-use mathlib.Core.Bool.{Bool, true, false, not, _&&_, _||_, cond, true≢false, false≢true}
-use Prim.Native.Nat.{ℕ, zero, suc, _+_, _-_, _*_, _/_, _^_, _≤_, _<_, min}
-use native.Mathlib.Nat.{le-trans, le-of-eq, mul-one, one-mul, mul-comm, mul-assoc, mul-left-comm, mul-right-comm, mul-pos, mul-le-mul-right, le-of-mul-le-mul-right, lt-of-mul-lt-mul-right, zero-mul, le-div-iff-mul-le, div-lt-iff-lt-mul}
+use mathlib.Core.Bool.{Bool, true, false, not, cond, true≢false}
+use Prim.Native.Nat.{ℕ, suc, _+_, _-_, _*_, _/_, _^_, _≤_, _<_, min}
+use native.Mathlib.Nat.{le-trans, le-of-eq, mul-one, one-mul, mul-comm, mul-right-comm, mul-pos, mul-le-mul-right, le-of-mul-le-mul-right, lt-of-mul-lt-mul-right, zero-mul, le-div-iff-mul-le, div-lt-iff-lt-mul}
 use native.Mathlib.Omega.{arith}
-use borrow.Author.Tests.{le-ltb, ltb-false, eq-eqb}
-use lib.Dec.{T, ltb, leb, eqb, eqb→eq, lit≤, lit<}
-use lib.IntN.{ℤ, pos, negsuc}
+use borrow.Author.Tests.{le-ltb}
+use lib.Dec.{T, ltb, eqb, eqb→eq, lit≤, lit<}
+use lib.IntN.{ℤ, pos}
 use lib.Pow.{pow-pos}
-use lib.Ieee.{Float, nan, inf, fin, Format, binary32, prec, up, down, round, sum, add, ofInt, ofBits, ofFields, lt, eq, le, below, level, toUnsigned, isNan}
+use lib.Ieee.{Float, nan, inf, fin, Format, binary32, prec, up, down, round, sum, add, ofInt, ofBits, ofFields, lt, eq, le, toUnsigned, isNan}
 use lib.Ieee.Fits.{down-pos, and-r}
 use lib.Ieee.Exact.{HasValue}
 use lib.Ieee.Order.{round-mono}
 use lib.Ieee.Back.{round-whole}
-use lib.Ieee.Positive.{positive, between, le-trans-positive}
-use Rattle.float32.proofs.Cmp.{yes, no, le-pos, gt-pos}
-use Rattle.float32.specs.Float32.{max, clamp}
+use Rattle.float32.proofs.Cmp.{no, le-pos, gt-pos}
+use Rattle.float32.specs.Float32.{max}
 use Rattle.cards.specs.Day.{IntervalInRange, dayOf, nextDue}
 
 -- a value at or above a whole number k has a whole part of k at least

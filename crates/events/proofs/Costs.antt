@@ -1,10 +1,10 @@
 -- The cost that an event adds up on its way is the cost of the ratings that it draws.
-use mathlib.Core.Path.{_≡_, refl, sym, ap, _∙_, subst}
+use mathlib.Core.Path.{_≡_, refl, ap, _∙_, subst}
 use mathlib.Core.Bool.{Bool, true, false, _||_, cond}
 use mathlib.Core.List.{List, [], _∷_}
 use Prim.Native.Nat.{ℕ, zero, suc}
 use lib.Dec.{leb}
-use lib.Ieee.{Float, ofBits, binary32}
+use lib.Ieee.{Float}
 use Rattle.float32.specs.Ops.{_+ᶠ_}
 use Rattle.draws.specs.Draws.{DrawRule, recalled}
 use Rattle.cards.specs.declared.SimulatorConfig.{SimulatorConfig}

@@ -1,9 +1,8 @@
 -- THE RUN, from its inputs and the lent lists to its answer and the lists that it leaves. Definitions only.
 use Prim.Native.Nat.{ℕ, suc, _*_}
-use mathlib.Core.List.{List, []}
+use mathlib.Core.List.{[]}
 use mathlib.Core.Path.{_≡_}
 use lib.ListN.{length}
-use lib.Ieee.{Float}
 use Rattle.turns.specs.Turns.{Turn}
 use Rattle.turns.specs.Run.{Reached, run, stopOf}
 use Rattle.events.specs.Scalars.{plain}

@@ -4,7 +4,7 @@ use mathlib.Core.Bool.{Bool, true, false, cond}
 use mathlib.Core.List.{List}
 use lib.Dec.{eqb}
 use lib.IntN.{pos}
-use lib.Ieee.{Float, ofBits, binary32, add, ofInt, toUnsigned}
+use lib.Ieee.{Float, binary32, add, ofInt, toUnsigned}
 use Rattle.turns.specs.Turns.{Kind, putOff, retire, Turn}
 use Rattle.turns.specs.Run.{Next, takes, stops}
 use Rattle.cards.specs.declared.Card.{Card}

@@ -3,10 +3,9 @@ use mathlib.Core.Path.{_≡_, ap, subst}
 use Prim.Native.Nat.{ℕ, _+_, _*_, _≤_}
 use native.Mathlib.Nat.{mul-le-mul}
 use native.Mathlib.Omega.{arith}
-use Rattle.turns.specs.Run.{run}
 use Rattle.simulation.specs.declared.Check.the-variants as check
 use Rattle.simulation.specs.declared.Reach.{Reach}
-use Rattle.simulation.specs.State.{State, Lent, state}
+use Rattle.simulation.specs.State.{State, Lent}
 use Rattle.simulation.specs.Rules.{Rules}
 use Rattle.simulation.specs.Steps.{Ran}
 use Rattle.simulation.specs.Entry.{Inputs, checked}

@@ -1,11 +1,9 @@
 -- A run that ends Ok is followed, turn by turn, by one that differs in its interval table alone, where that is as long or longer.
 use mathlib.Core.Path.{_≡_, refl}
-use native.Mathlib.Omega.{arith}
-use mathlib.Core.Bool.{Bool, true, false, true≢false, false≢true}
+use mathlib.Core.Bool.{Bool, true, false, false≢true}
 use mathlib.Core.List.{[]}
 use Prim.Native.Nat.{ℕ}
 use lib.Dec.{eqb}
-use lib.Ieee.{Float}
 use Rattle.turns.specs.Turns.{Turn, putOff}
 use Rattle.turns.specs.Run.{Next, takes, stops, run}
 use Rattle.turns.proofs.Loop.{Follows, Same, run-follows}
@@ -32,7 +30,7 @@ use Rattle.simulation.specs.declared.Stop.{Stop}
 use Rattle.simulation.specs.declared.Stop.the-variants as stop
 use Rattle.simulation.specs.State.{State, cardIn, withTable}
 use Rattle.simulation.specs.Rules.{Rules}
-use Rattle.simulation.specs.Turn.{refuses, turnAs, eventTurn, afterRetire, afterPutOff, afterEvent, eventWithSlot, eventWithDraw, eventOn, orElse, act, turnOfCard, next}
+use Rattle.simulation.specs.Turn.{refuses, turnAs, afterRetire, afterPutOff, afterEvent, eventWithSlot, eventWithDraw, eventOn, orElse, act, turnOfCard, next}
 use Rattle.simulation.proofs.turn.Slots.{Slots}
 use Rattle.simulation.proofs.Logic.{not-one}
 use Rattle.simulation.proofs.turn.Calls.{event-taken}

@@ -1,12 +1,11 @@
 -- The loop over turns follows the definition: after k turns the lists are the state of `run k`, and what is left of the run stops as the whole.
 use mathlib.Core.Path.{_≡_, refl, sym, ap, _∙_, subst}
-use mathlib.Core.List.{List, [], _∷_}
+use mathlib.Core.List.{[], _∷_}
 use Prim.Native.Nat.{ℕ, suc, _+_, _-_, _≤_, _<_}
 use native.Mathlib.Omega.{arith}
 use types.Run.{OneOf}
 use denote.Enum.Declared.{tagOf}
 use lib.ListN.{length}
-use lib.Ieee.{Float}
 use Rattle.turns.specs.Turns.{Turn}
 use Rattle.turns.specs.Run.{Next, takes, stops, Reached, run, stopOf}
 use Rattle.turns.proofs.Loop.{run-one-more, run-enough, stop-takes, stop-stops}
@@ -14,7 +13,6 @@ use Rattle.events.specs.Drawn.{Drawn}
 use Rattle.simulation.proofs.Outcome as outcome-type
 use Rattle.simulation.specs.declared.Outcome.{Outcome}
 use Rattle.simulation.specs.declared.Outcome.the-variants as outcome
-use Rattle.simulation.specs.declared.Refusal.the-variants as refusal
 use Rattle.simulation.specs.declared.Stop.{Stop}
 use Rattle.simulation.specs.declared.Stop.the-variants as stop
 use Rattle.simulation.specs.State.{State, Lent, Lists, state}

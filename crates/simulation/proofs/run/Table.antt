@@ -4,7 +4,6 @@ use mathlib.Core.Bool.{Bool, true, false}
 use mathlib.Core.List.{List, _∷_}
 use Prim.Native.Nat.{ℕ, zero, suc}
 use lib.Dec.{eqb}
-use lib.Ieee.{Float}
 use Rattle.turns.specs.Turns.{Turn, putOff}
 use Rattle.turns.specs.Run.{Next, takes, stops, run}
 use Rattle.turns.proofs.Loop.{run-takes, run-stops}

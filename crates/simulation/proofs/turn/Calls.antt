@@ -10,7 +10,7 @@ use denote.Enum.Declared.{tagOf}
 use Prim.Native.Nat.{ℕ}
 use lib.Ieee.{Float}
 use Rattle.turns.specs.Turns.{putOff}
-use Rattle.turns.specs.Run.{takes, stops}
+use Rattle.turns.specs.Run.{takes}
 use Rattle.cards.specs.declared.Card.{Card}
 use Rattle.cards.specs.declared.Choice.{Choice}
 use Rattle.cards.specs.declared.Choice.the-variants as choice

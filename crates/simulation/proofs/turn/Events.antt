@@ -10,7 +10,7 @@ use lib.Dec.{ltb, eqb}
 use lib.ListN.{getD, length, length-set}
 use lib.Seq.{getD-set-same, getD-set-other}
 use lib.IntN.{pos}
-use lib.Ieee.{Float, nan, inf, fin, binary32, add, ofInt, round, lt, eq}
+use lib.Ieee.{Float, nan, inf, fin, binary32, add, ofInt, round, eq}
 use lib.Ieee.Exact.{HasValue}
 use lib.Ieee.Back.{round-whole}
 use Rattle.turns.specs.Sums.{bit, sumTo}

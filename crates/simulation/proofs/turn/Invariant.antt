@@ -1,6 +1,6 @@
 -- What the run's state keeps, and that putting off and retiring are steps of the theory and keep it.
 use mathlib.Core.Path.{_≡_, refl, sym, ap}
-use mathlib.Core.Bool.{Bool, true, false, cond}
+use mathlib.Core.Bool.{Bool, true, false}
 use mathlib.Core.List.{List}
 use mathlib.Core.Logic.{_≢_}
 use Prim.Native.Nat.{ℕ, _+_, _-_, _*_, _^_, _≤_, _<_, min}
@@ -10,23 +10,22 @@ use lib.Dec.{leb, ltb}
 use lib.ListN.{getD, length, length-set}
 use lib.Seq.{getD-set-same, getD-set-other}
 use lib.IntN.{pos}
-use lib.Ieee.{Float, binary32, ofInt, ofBits, le, toUnsigned}
-use Rattle.turns.specs.Sums.{bit, sumTo}
+use lib.Ieee.{Float, binary32, ofInt, ofBits, le}
+use Rattle.turns.specs.Sums.{bit}
 use Rattle.turns.specs.Turns.{Turn, Kind, putOff, retire}
 use Rattle.turns.proofs.Sums.{sum-same, sum-at, lt-step}
 use Rattle.turns.proofs.Demand.{Step}
 use Rattle.cards.specs.declared.Card.{Card}
-use Rattle.cards.specs.Day.{IntervalInRange, dayOf, isNew, nextDue}
+use Rattle.cards.specs.Day.{dayOf, isNew, nextDue}
 use Rattle.cards.specs.Cards.{noFloats, cardAt, floatsOf, writeFloats}
 use Rattle.cards.specs.Choices.{retires}
 use Rattle.cards.proofs.Later.{day-later, day-in-span, day-bound, one-in-range}
 use Rattle.queue.specs.Key as key
 use Rattle.queue.specs.Key.{cardPriority, priorityOf}
 use Rattle.queue.specs.Queue.{front}
-use Rattle.queue.specs.Sound.{queued, Keyed}
+use Rattle.queue.specs.Sound.{queued}
 use Rattle.queue.proofs.Keys.{packed-day, priority-in}
 use Rattle.queue.proofs.Laws.{change-queued, pop-other, pop-front, front-queued, keyed-least, queued-named, requeue, unqueue}
-use Rattle.intervals.specs.Table.{places, freeAt, valueAt}
 use Rattle.events.specs.Drawn.{Drawn}
 use Rattle.simulation.specs.State.{State, cardIn, keyOf}
 use Rattle.simulation.specs.Turn.{cardAfterPutOff, afterPutOff, afterRetire, turnAs}

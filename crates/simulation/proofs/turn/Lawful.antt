@@ -1,13 +1,13 @@
 -- Every turn of `next` is a step of the theory and keeps the state good; so demand 3 holds of the whole list of turns of a run, and the run comes to
 -- its end or to a refusal within cards × (span + 1) turns. Of the model one law is asked: an interval is 1 to 36,500.
-use mathlib.Core.Path.{_≡_, refl, sym}
-use mathlib.Core.Bool.{Bool, true, false, not, _&&_, _||_, false≢true}
+use mathlib.Core.Path.{_≡_, refl}
+use mathlib.Core.Bool.{Bool, true, false, _&&_}
 use mathlib.Core.List.{List, []}
 use Prim.Native.Nat.{ℕ, suc, _+_, _*_, _<_}
 use native.Mathlib.Omega.{arith}
 use borrow.Author.Tests.{eqb-false, leb-false}
 use lib.Dec.{leb, eqb}
-use lib.Ieee.{Float, lt}
+use lib.Ieee.{Float}
 use Rattle.turns.specs.Sums.{sumTo}
 use Rattle.turns.specs.Turns.{Turn, putOff, Demand, Rows}
 use Rattle.turns.specs.Run.{takes, stops, run}

@@ -1,7 +1,6 @@
 -- What the run asks of a model's slots (`Slots`); that slots of an interval table have it (`table-slots`), and those of a model without one (`plain-slots`).
 use mathlib.Core.Path.{_≡_, refl}
 use mathlib.Core.Bool.{false}
-use Prim.Native.Nat.{ℕ}
 use lib.Ieee.{Float}
 use Rattle.cards.specs.declared.SimulatorConfig.{SimulatorConfig}
 use Rattle.cards.specs.Day.{IntervalInRange}

@@ -4,7 +4,7 @@ use lib.ListN.{length}
 use native.Mathlib.Omega.{arith}
 use mathlib.Core.Path.{_≡_, refl, ap, _∙_}
 use Rattle.days.specs.Counts.{dayRow}
-use Rattle.simulation.specs.SetUp.{filled, firstSums}
+use Rattle.simulation.specs.SetUp.{filled}
 use Rattle.simulation.proofs.set_up.Loops.{filled-next}
 use Rattle.simulation.proofs.set_up.first_counts.Statement.{statement}
 use Rattle.simulation.proofs.set_up.first_counts.Tie as tie

@@ -3,7 +3,6 @@ use Prim.Native.Nat.{ℕ, _-_, _≤_}
 use lib.ListN.{length}
 use native.Mathlib.Omega.{arith}
 use mathlib.Core.Path.{_≡_, refl, ap, _∙_}
-use Rattle.days.specs.Counts.{dayRow}
 use Rattle.simulation.specs.SetUp.{filled, firstSums}
 use Rattle.simulation.proofs.set_up.Loops.{filled-next}
 use Rattle.simulation.proofs.set_up.first_sums.Statement.{statement}
