@@ -28,7 +28,7 @@ fn stop_in(o: Outcome) -> Stop
     }
 }
 
-// At most `bound` turns.
+// Turns until one stops; the run stops before its bound (`Demands.ends-within`).
 fn run_turns(
     cards: &mut [[f32; 6]],
     counts: &mut [[u32; 2]],
@@ -44,7 +44,9 @@ fn run_turns(
     seed: u64,
     bound: u32,
 ) -> Reach
-    ensures { λ r. ⌜ Ran (rulesOf config (kept m)) (state (lent (now (cards .entry)) (now (counts .entry)) (now (rows .entry)) (now (days .entry)) (now (sums .entry)) (now (due .entry)) (now (keys .entry)) (now (intervals .entry))) len seed) bound r
+    ensures { λ r. ⌜ Ran (rulesOf config (kept m))
+        (state (lent (now (cards .entry)) (now (counts .entry)) (now (rows .entry)) (now (days .entry)) (now (sums .entry)) (now (due .entry)) (now (keys .entry)) (now (intervals .entry))) len seed)
+        bound r
         (lent (now (cards .exit)) (now (counts .exit)) (now (rows .exit)) (now (days .exit)) (now (sums .exit)) (now (due .exit)) (now (keys .exit)) (now (intervals .exit))) ⌝ }
 {
     let mut n = len;
@@ -127,7 +129,8 @@ pub(crate) fn start(
         (state (lent (now cards) (now counts) (now rows) (now days) (now sums) (now due) (now keys) (now intervals)) 0 seed) ≡ check.Passed ⌝ }
     ensures { λ r. ⌜ Done
         (finished (rulesOf config (kept (Kept.newOf (now (parameters .entry)))))
-        (setUp (inputs config (now (parameters .entry)) retention seed (now (existing .entry)) (now («existing_counts» .entry)))
+        (setUp
+        (inputs config (now (parameters .entry)) retention seed (now (existing .entry)) (now («existing_counts» .entry)))
         (state (lent (now (cards .entry)) (now (counts .entry)) (now (rows .entry)) (now (days .entry)) (now (sums .entry)) (now (due .entry)) (now (keys .entry)) (now (intervals .entry))) 0 seed)))
         r
         (lent (now (cards .exit)) (now (counts .exit)) (now (rows .exit)) (now (days .exit)) (now (sums .exit)) (now (due .exit)) (now (keys .exit)) (now (intervals .exit))) ⌝ }

@@ -254,13 +254,10 @@ fn event_step(
     len: u32,
     draws: u64,
 ) -> Outcome
-    ensures { λ r. ⌜ Turned
-        (eventOn (rulesOf config (kept m))
-        (state (lent (now (cards .entry)) (now (counts .entry)) (now (rows .entry)) (now (days .entry)) (now (sums .entry)) (now (due .entry)) (now (keys .entry)) (now (intervals .entry))) len draws)
-        c card new d)
-        (state (lent (now (cards .entry)) (now (counts .entry)) (now (rows .entry)) (now (days .entry)) (now (sums .entry)) (now (due .entry)) (now (keys .entry)) (now (intervals .entry))) len draws)
-        r
-        (lent (now (cards .exit)) (now (counts .exit)) (now (rows .exit)) (now (days .exit)) (now (sums .exit)) (now (due .exit)) (now (keys .exit)) (now (intervals .exit))) ⌝ }
+    ensures { λ r. ⌜ (
+        let before = state (lent (now (cards .entry)) (now (counts .entry)) (now (rows .entry)) (now (days .entry)) (now (sums .entry)) (now (due .entry)) (now (keys .entry)) (now (intervals .entry))) len draws in
+        Turned (eventOn (rulesOf config (kept m)) before c card new d) before r
+        (lent (now (cards .exit)) (now (counts .exit)) (now (rows .exit)) (now (days .exit)) (now (sums .exit)) (now (due .exit)) (now (keys .exit)) (now (intervals .exit)))) ⌝ }
 {
     let curve = m.curve(card.stability);
     let drawn = event_of(config, m, curve, card, new, d, draws);
@@ -279,6 +276,7 @@ fn event_step(
         return Outcome::Stopped(Stop::Refused(Refusal::TableFull(c)));
     }
     let later = event_card(card, new, x, d, intervals::interval_in(slot));
+    // ---- from here on it writes
     write_card(cards, counts, rows, c, later, len);
     write_days(days, sums, config, m, curve, card, new, d, x);
     days::add_due(due, config.learn_span, cards::day_of(later.due));
