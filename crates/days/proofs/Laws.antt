@@ -1,18 +1,17 @@
 -- What the writes of an event leave in each row: one more where it counts, and nothing else changed.
 use mathlib.Core.Path.{_≡_, refl, sym, ap, _∙_}
 use mathlib.Core.Bool.{Bool, true, false, cond, _&&_}
-use mathlib.Core.List.{List, [], _∷_, map}
+use mathlib.Core.List.{List, [], _∷_}
 use Prim.Native.Nat.{ℕ, zero, suc, _+_, _-_, _≤_, _<_}
 use native.Mathlib.Decide.{ℕ-discrete, decLt}
 use native.Mathlib.Omega.{arith}
 use borrow.Author.Tests.{lt-ltb, le-ltb, eq-eqb, ne-eqb}
 use lib.Dec.{ltb, eqb}
-use lib.ListN.{getD, set, length, length-set, length-map}
-use lib.Seq.{getD-set-same, getD-set-other, set-out, map-set-same}
-use lib.Ieee.{Float, nan, binary32, add}
+use lib.ListN.{getD, set, length, length-set}
+use lib.Seq.{getD-set-same, getD-set-other, set-out}
 use Rattle.turns.specs.Sums.{bit}
 use Rattle.days.specs.Counts.{raised, learnedAt, reviewedAt, correctAt, introducedAt, learnOn, reviewOn, introduceOn, introduceFrom}
-use Rattle.days.specs.Sums.{Summed, costColumn, heldColumn, costAt, payOn, holdOn}
+use Rattle.days.specs.Sums.{costAt, addCost}
 
 pub raised-is : (n : ℕ) → n < 4294967295 → raised n ≡ n + 1
 unfolding raised
@@ -154,59 +153,26 @@ review-correct rows d true i h u = raised-column rows d i 2 _ h u refl
 review-correct rows d false i h u = let e = same-column rows d i 2 (learnedAt rows d ∷ raised (reviewedAt rows d) ∷ correctAt rows d ∷ introducedAt rows d ∷ []) 0 refl in omega (arith, e)
 
 -- ---- sums
-pub pay-long : (plus : Float → Float → Float) (costs : List Float) (d : ℕ) (x : Float) → length (payOn plus costs d x) ≡ length costs
-unfolding payOn
-pay-long plus costs d x = length-set costs d _
 
-pub pay-cost : (plus : Float → Float → Float) (costs : List Float) (d i : ℕ) (x : Float) → d < length costs
-    → costAt (payOn plus costs d x) i ≡ cond (eqb d i) (plus (costAt costs i) x) (costAt costs i)
-unfolding payOn
-pay-cost plus costs d i x h = go (ℕ-discrete i d)
-  where
-    go : Dec (i ≡ d) → costAt (set costs d (plus (costAt costs d) x)) i ≡ cond (eqb d i) (plus (costAt costs i) x) (costAt costs i)
-    go (yes e) = rw (e, eq-eqb d d refl) (getD-set-same costs d (plus (costAt costs d) x) nan h)
-    go (no e) = rw (ne-eqb d i (omega (arith, e))) (getD-set-other costs d i (plus (costAt costs d) x) nan e)
+-- within a list the default plays no part
+pub getD-any : {A : Type 0} (l : List A) (i : ℕ) (x y : A) → i < length l → getD l i x ≡ getD l i y
+getD-any [] i x y h = absurd (omega (arith, h))
+getD-any (z ∷ zs) zero x y h = refl
+getD-any (z ∷ zs) (suc i) x y h = getD-any zs i x y (omega (arith, h))
 
--- ---- columns of rows
-module _ {A B : Type 0} (f : A → B) where
-  pub map-set : (l : List A) (i : ℕ) (y : A) → map f (set l i y) ≡ set (map f l) i (f y)
-  map-set [] i y = refl
-  map-set (x ∷ xs) zero y = refl
-  map-set (x ∷ xs) (suc i) y = ap (λ (zs : List B). f x ∷ zs) (map-set xs i y)
+module _ {C : Type 0} (none : C) (plus : C → C → C) (costs : List C) (d : ℕ) (x : C) where
+  pub cost-long : length (addCost none plus costs d x) ≡ length costs
+  unfolding addCost
+  cost-long = length-set costs d _
 
-  pub map-at : (l : List A) (i : ℕ) (d : A) → getD (map f l) i (f d) ≡ f (getD l i d)
-  map-at [] i d = refl
-  map-at (x ∷ xs) zero d = refl
-  map-at (x ∷ xs) (suc i) d = map-at xs i d
+  pub cost-added : (i : ℕ) → d < length costs
+      → costAt none (addCost none plus costs d x) i ≡ cond (eqb d i) (plus (costAt none costs i) x) (costAt none costs i)
+  unfolding addCost
+  cost-added i h = go (ℕ-discrete i d)
+    where
+      more : C
+      more = plus (costAt none costs d) x
 
-abbrev of0 : List Float → Float
-of0 row = getD row 0 nan
-
-abbrev of1 : List Float → Float
-of1 row = getD row 1 nan
-
-module _ (rows : List (List Float)) (d : ℕ) (x : Float) where
-  pub cost-is : costAt (costColumn rows) d ≡ getD (getD rows d []) 0 nan
-  cost-is = map-at of0 rows d []
-
-  pub pay-row : Summed (payOn (λ x y. add binary32 x y) (costColumn rows) d x) (heldColumn rows) (set rows d (add binary32 (getD (getD rows d []) 0 nan) x ∷ getD (getD rows d []) 1 nan ∷ []))
-  unfolding payOn
-  pay-row = record {
-    costs-are = map-set of0 rows d _ ∙ ap (λ (z : Float). set (costColumn rows) d (add binary32 z x)) (sym cost-is);
-    held-are = map-set-same of1 rows d _ [] refl;
-  }
-
-  pub hold-row : Summed (costColumn rows) (holdOn (heldColumn rows) d x) (set rows d (getD (getD rows d []) 0 nan ∷ add binary32 (getD (getD rows d []) 1 nan) x ∷ []))
-  unfolding holdOn
-  hold-row = record {
-    costs-are = map-set-same of0 rows d _ [] refl;
-    held-are = map-set of1 rows d _ ∙ ap (λ (z : Float). set (heldColumn rows) d (add binary32 z x)) (sym (map-at of1 rows d []));
-  }
-
-  pub pay-out : length rows ≤ d → Summed (payOn (λ x y. add binary32 x y) (costColumn rows) d x) (heldColumn rows) rows
-  unfolding payOn
-  pay-out h = record { costs-are = sym (set-out (costColumn rows) d _ (omega (arith, h, length-map rows of0))); held-are = refl }
-
-  pub hold-out : length rows ≤ d → Summed (costColumn rows) (holdOn (heldColumn rows) d x) rows
-  unfolding holdOn
-  hold-out h = record { costs-are = refl; held-are = sym (set-out (heldColumn rows) d _ (omega (arith, h, length-map rows of1))) }
+      go : Dec (i ≡ d) → costAt none (set costs d more) i ≡ cond (eqb d i) (plus (costAt none costs i) x) (costAt none costs i)
+      go (yes e) = rw (e, eq-eqb d d refl) (getD-set-same costs d more none h)
+      go (no e) = rw (ne-eqb d i (omega (arith, e))) (getD-set-other costs d i more none e)

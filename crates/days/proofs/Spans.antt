@@ -6,7 +6,7 @@ use native.Mathlib.Omega.{arith}
 use lib.IntN.{pos}
 use lib.Ieee.{Float, binary32, sub, ofInt}
 use Rattle.days.specs.Counts.{introduceOn, introduceFrom}
-use Rattle.days.specs.Sums.{holdOn, holdFrom}
+use Rattle.days.specs.Sums.{addMemorized, addForgettingCurveRange}
 
 -- what is left to introduce equals the whole
 pub introduce-turn : (l l′ l₀ : List (List ℕ)) (d to from : ℕ)
@@ -28,25 +28,25 @@ introduce-end l l₀ d to from e h =
     let n : to - d ≡ 0 = omega arith in
     sym (ap (λ (m : ℕ). introduceFrom l m d) n) ∙ e
 
--- what is left to hold equals the whole
+-- what is left to add equals the whole
 module _ (chance : Float → Float) (last : Float) where
-  pub hold-turn : (l l′ l₀ : List Float) (d to from : ℕ) (t x : Float)
-      → holdFrom chance l (to - d) d last ≡ holdFrom chance l₀ (to - from) from last
+  pub range-turn : (l l′ l₀ : List Float) (d to from : ℕ) (t x : Float)
+      → addForgettingCurveRange chance l (to - d) d last ≡ addForgettingCurveRange chance l₀ (to - from) from last
       → d < to
       → t ≡ ofInt binary32 (pos d)
       → x ≡ chance (sub binary32 t last)
-      → l′ ≡ holdOn l d x
-      → holdFrom chance l′ (to - (d + 1)) (d + 1) last ≡ holdFrom chance l₀ (to - from) from last
-  unfolding holdFrom
-  hold-turn l l′ l₀ d to from t x e h et ex el =
+      → l′ ≡ addMemorized l d x
+      → addForgettingCurveRange chance l′ (to - (d + 1)) (d + 1) last ≡ addForgettingCurveRange chance l₀ (to - from) from last
+  unfolding addForgettingCurveRange
+  range-turn l l′ l₀ d to from t x e h et ex el =
       let n : to - d ≡ suc (to - (d + 1)) = omega arith in
-      rw (el, ex, et) (sym (ap (λ (m : ℕ). holdFrom chance l m d last) n) ∙ e)
+      rw (el, ex, et) (sym (ap (λ (m : ℕ). addForgettingCurveRange chance l m d last) n) ∙ e)
 
-  pub hold-end : (l l₀ : List Float) (d to from : ℕ)
-      → holdFrom chance l (to - d) d last ≡ holdFrom chance l₀ (to - from) from last
+  pub range-end : (l l₀ : List Float) (d to from : ℕ)
+      → addForgettingCurveRange chance l (to - d) d last ≡ addForgettingCurveRange chance l₀ (to - from) from last
       → to ≤ d
-      → l ≡ holdFrom chance l₀ (to - from) from last
-  unfolding holdFrom
-  hold-end l l₀ d to from e h =
+      → l ≡ addForgettingCurveRange chance l₀ (to - from) from last
+  unfolding addForgettingCurveRange
+  range-end l l₀ d to from e h =
       let n : to - d ≡ 0 = omega arith in
-      sym (ap (λ (m : ℕ). holdFrom chance l m d last) n) ∙ e
+      sym (ap (λ (m : ℕ). addForgettingCurveRange chance l m d last) n) ∙ e

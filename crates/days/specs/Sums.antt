@@ -1,36 +1,29 @@
--- The sums of a run's days as two lists, what the events of each day cost and how many cards are held in memory; and where the lent rows have them.
--- Definitions only.
+-- The sums of a run's days: what the events of each day cost, and how many cards are memorized on it. Definitions only.
+--   costAt none costs d                            the cost of day d
+--   addCost none plus costs d x                    the costs with x added to day d
+--   addMemorized memorized d x                     what is memorized, with a chance x added to day d
+--   addForgettingCurveRange r memorized m d last   the same on m days from day d on, by a forgetting curve r
 use Prim.Native.Nat.{ℕ, zero, suc, _+_}
-use mathlib.Core.List.{List, map}
-use mathlib.Core.Path.{_≡_}
+use mathlib.Core.List.{List}
 use lib.ListN.{getD, set}
 use lib.IntN.{pos}
 use lib.Ieee.{Float, nan, binary32, add, sub, ofInt}
 
--- a lent row has the day's cost, and then what is held
-abbrev pub costColumn : List (List Float) → List Float
-costColumn rows = map (λ (row : List Float). getD row 0 nan) rows
-
-abbrev pub heldColumn : List (List Float) → List Float
-heldColumn rows = map (λ (row : List Float). getD row 1 nan) rows
-
--- rows are those of two lists
-pub record Summed (costs held : List Float) (rows : List (List Float)) : Type 0 where
-  pub costs-are : costColumn rows ≡ costs
-  pub held-are : heldColumn rows ≡ held
-
-abbrev pub costAt : List Float → ℕ → Float
-costAt costs d = getD costs d nan
+-- past the list's end, the cost of no event
+abbrev pub costAt : {C : Type 0} → C → List C → ℕ → C
+costAt none costs d = getD costs d none
 
 -- the cost of an event is added to its day's
-unfoldable pub payOn : (Float → Float → Float) → List Float → ℕ → Float → List Float
-payOn plus costs d cost = set costs d (plus (costAt costs d) cost)
+unfoldable pub addCost : {C : Type 0} → C → (C → C → C) → List C → ℕ → C → List C
+addCost none plus costs d cost = set costs d (plus (costAt none costs d) cost)
 
--- a card's chance is added to what a day holds
-unfoldable pub holdOn : List Float → ℕ → Float → List Float
-holdOn held d chance = set held d (add binary32 (getD held d nan) chance)
+-- a card's chance is added to what is memorized on a day
+unfoldable pub addMemorized : List Float → ℕ → Float → List Float
+addMemorized memorized d chance = set memorized d (add binary32 (getD memorized d nan) chance)
 
--- on m days from day d on: the chance on a day is that of the days since the last date
-unfoldable pub holdFrom : (Float → Float) → List Float → ℕ → ℕ → Float → List Float
-holdFrom chance held zero d last = held
-holdFrom chance held (suc m) d last = holdFrom chance (holdOn held d (chance (sub binary32 (ofInt binary32 (pos d)) last))) m (d + 1) last
+-- on m days from day d on: the chance on a day is the retention after the days since the last date
+unfoldable pub addForgettingCurveRange : (Float → Float) → List Float → ℕ → ℕ → Float → List Float
+addForgettingCurveRange retention memorized zero d last = memorized
+addForgettingCurveRange retention memorized (suc m) d last =
+    let chance = retention (sub binary32 (ofInt binary32 (pos d)) last) in
+    addForgettingCurveRange retention (addMemorized memorized d chance) m (d + 1) last

@@ -4,10 +4,10 @@ ghost use mathlib.Core.Path.{_≡_};
 ghost use mathlib.Core.Bool.{cond};
 ghost use Prim.Native.Nat.{_+_, _-_, _/_};
 ghost use lib.ListN.{getD, set};
-ghost use lib.Ieee.{binary32, add};
+ghost use lib.Ieee.{ofBits, binary32, add};
 ghost use Rattle.days.specs.Counts.{raised, learnedAt, reviewedAt, learnOn, reviewOn, introduceOn, introduceFrom, countEvent};
 ghost use Rattle.model.specs.Kept.{retention};
-ghost use Rattle.days.specs.Sums.{Summed, costColumn, heldColumn, costAt, payOn, holdOn, holdFrom};
+ghost use Rattle.days.specs.Sums.{costAt, addCost, addMemorized, addForgettingCurveRange};
 ghost use Rattle.days.specs.Due.{raiseAt, addDue, moveDue, noneDue};
 
 pub fn raise(n: u32) -> u32
@@ -98,45 +98,45 @@ pub fn count_event(rows: &mut [[u32; 4]], span: u32, new: bool, d: u32, recalled
     review_on(rows, d, recalled);
 }
 
-pub fn cost_at(rows: &[[f32; 2]], d: u32) -> f32
-    ensures { λ r. ⌜ r ≡ costAt (costColumn (now (rows .entry))) d ⌝ }
+pub fn cost_at(costs: &[f32], d: u32) -> f32
+    ensures { λ r. ⌜ r ≡ costAt (ofBits binary32 0) (now (costs .entry)) d ⌝ }
 {
     let i = d as usize;
-    if i < rows.len() {
-        rows[i][0]
-    } else {
-        0.0 / 0.0
+    if i < costs.len() { costs[i] } else { 0.0 }
+}
+
+pub fn add_cost(costs: &mut [f32], d: u32, cost: f32)
+    ensures { λ _. ⌜ now (costs .exit) ≡ addCost (ofBits binary32 0) (λ x y. add binary32 x y) (now (costs .entry)) d cost ⌝ }
+{
+    let i = d as usize;
+    if i < costs.len() {
+        costs[i] = costs[i] + cost;
     }
 }
 
-pub fn pay_on(rows: &mut [[f32; 2]], d: u32, cost: f32)
-    ensures { λ _. ⌜ Summed (payOn (λ x y. add binary32 x y) (costColumn (now (rows .entry))) d cost) (heldColumn (now (rows .entry))) (now (rows .exit)) ⌝ }
+fn add_memorized(memorized: &mut [f32], d: u32, chance: f32)
+    ensures { λ _. ⌜ now (memorized .exit) ≡ addMemorized (now (memorized .entry)) d chance ⌝ }
 {
     let i = d as usize;
-    if i < rows.len() {
-        let row = rows[i];
-        rows[i] = [row[0] + cost, row[1]];
-    }
-}
-
-fn hold_on(rows: &mut [[f32; 2]], d: u32, chance: f32)
-    ensures { λ _. ⌜ Summed (costColumn (now (rows .entry))) (holdOn (heldColumn (now (rows .entry))) d chance) (now (rows .exit)) ⌝ }
-{
-    let i = d as usize;
-    if i < rows.len() {
-        let row = rows[i];
-        rows[i] = [row[0], row[1] + chance];
+    if i < memorized.len() {
+        memorized[i] = memorized[i] + chance;
     }
 }
 
 // A card's chance on each day from `from` up to `to`, that day left out.
-pub fn hold_from(rows: &mut [[f32; 2]], curve: Curve, from: u32, to: u32, last: f32)
-    ensures { λ _. ⌜ Summed (costColumn (now (rows .entry))) (holdFrom (λ t. retention curve t) (heldColumn (now (rows .entry))) (to - from) from last) (now (rows .exit)) ⌝ }
+pub fn add_forgetting_curve_range(
+    memorized: &mut [f32],
+    curve: Curve,
+    from: u32,
+    to: u32,
+    last: f32,
+)
+    ensures { λ _. ⌜ now (memorized .exit) ≡ addForgettingCurveRange (λ t. retention curve t) (now (memorized .entry)) (to - from) from last ⌝ }
 {
     let mut d = from;
     while d < to {
         let t = float32::from_u32(d) - last;
-        hold_on(rows, d, curve.retention(t));
+        add_memorized(memorized, d, curve.retention(t));
         d += 1;
     }
 }

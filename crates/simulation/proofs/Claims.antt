@@ -1,5 +1,5 @@
 -- Demand 3 of the run: what the laws of turns say of a call that the entry accepts.
-use mathlib.Core.Path.{_≡_, refl, subst}
+use mathlib.Core.Path.{_≡_, refl, subst, ap}
 use mathlib.Core.Bool.{Bool, true, not, _&&_}
 use mathlib.Core.List.{List}
 use Prim.Native.Nat.{ℕ, suc, _*_, _≤_}
@@ -29,13 +29,13 @@ use Rattle.simulation.specs.declared.Progress.{Progress}
 use Rattle.simulation.specs.declared.Answer.{Answer}
 use Rattle.simulation.specs.declared.Answer.the-variants as answer
 use Rattle.simulation.specs.declared.Stop.{Stop}
-use Rattle.simulation.specs.State.{State, Lent, Lists, withDraws}
+use Rattle.simulation.specs.State.{State, Lent, listsOf, withDraws}
 use Rattle.simulation.specs.Rules.{Rules, rulesWith, rulesOf}
 use Rattle.simulation.specs.Turn.{next}
 use Rattle.simulation.specs.Entry.{Inputs, inputs, listsOk, checked}
-use Rattle.simulation.specs.SetUp.{known, setUp}
+use Rattle.simulation.specs.SetUp.{known}
 use Rattle.simulation.specs.Simulate.{Done, progress, rulesFor, bound, ran, finished, simulatedBy, simulated}
-use Rattle.simulation.specs.Demands.{Finished, cardsOf, turnsOf, DemandThree, RunContract}
+use Rattle.simulation.specs.Demands.{Finished, startOf, cardsOf, turnsOf, DemandThree, RunContract}
 use Rattle.simulation.specs.Invariant.{RunBounds, StateInvariant}
 use Rattle.simulation.proofs.turn.Slots.{Slots, table-slots}
 use Rattle.simulation.proofs.turn.Views.{columns}
@@ -88,63 +88,62 @@ interval-ok g e =
     let f = both (costsOk (g .«state_rating_costs»)) last (d .1) in
     both (not (isNan (g .«max_cost_perday»))) (intervalOk (g .«max_ivl»)) (f .1) .1
 
--- what demand 3 asks of a run's rules: the span of the inputs, days that begin at a cost of 0, and a model with lawful slots; nothing of limits,
--- prices or draws
-pub record Suits (R : Rules) (i : Inputs) : Type 0 where
+-- what demand 3 asks of a run's rules: the span of the inputs, and a model with lawful slots; nothing of limits, prices or draws
+pub record Suits {C : Type 0} (R : Rules C) (i : Inputs) : Type 0 where
   pub span-is : i .config .«learn_span» ≡ R .span
-  pub none-is : R .costs .none ≡ ofBits binary32 0
   pub slots : Slots (R .model)
 
 -- so WHATEVER IS DRAWN
-pub suits : (w : DrawRule) (i : Inputs) (s : State) → Accepted i s → Suits (rulesWith w (i .config) (plain (i .parameters))) i
-suits w i s ok = record { span-is = refl; none-is = refl; slots = table-slots (i .config) (plain (i .parameters)) (λ x y. scheduled-fair (i .parameters) x y (i .config .«max_ivl») (interval-ok (i .config) (ok .config-ok))) }
+pub suits : (w : DrawRule) (i : Inputs) (s : State Float) → Accepted i s → Suits (rulesWith w (i .config) (plain (i .parameters))) i
+suits w i s ok = record { span-is = refl; slots = table-slots (i .config) (plain (i .parameters)) (λ x y. scheduled-fair (i .parameters) x y (i .config .«max_ivl») (interval-ok (i .config) (ok .config-ok))) }
 
-module _ (R : Rules) (i : Inputs) (s : State) (ok : Accepted i s) (fit : Suits R i) where
-  fine : RunBounds (R .span) (cardsOf i s)
-  fine = record { some = omega (arith, fit .span-is, ok .span-some); most = omega (arith, fit .span-is, ok .span-most); few = omega (arith, set-up-few i s ok, ok .deck-most) }
+module _ {C : Type 0} (R : Rules C) (i : Inputs) (s : State C) (ok : Accepted i s) (fit : Suits R i) where
+  fine : RunBounds (R .span) (cardsOf R i s)
+  fine = record { some = omega (arith, fit .span-is, ok .span-some); most = omega (arith, fit .span-is, ok .span-most); few = omega (arith, set-up-few (R .costs) i s ok, ok .deck-most) }
 
-  begins : SetUp columns (R .costs) (R .span) (known (i .existing) (i .existing-counts) (length (i .existing))) (setUp i s)
-  begins = subst (λ (z : ℕ). SetUp columns (R .costs) z (known (i .existing) (i .existing-counts) (length (i .existing))) (setUp i s)) (fit .span-is) (set-up-start i s ok (R .costs) (fit .none-is))
+  begins : SetUp (columns (R .costs .none)) (R .costs) (R .span) (known (i .existing) (i .existing-counts) (length (i .existing))) (startOf R i s)
+  begins = subst (λ (z : ℕ). SetUp (columns (R .costs .none)) (R .costs) z (known (i .existing) (i .existing-counts) (length (i .existing))) (startOf R i s)) (fit .span-is) (set-up-start (R .costs) i s ok)
 
-  good : StateInvariant (cardsOf i s) (R .span) (setUp i s)
-  good = subst (λ (z : ℕ). StateInvariant (cardsOf i s) z (setUp i s)) (fit .span-is) (set-up-good i s ok)
+  good : StateInvariant (cardsOf R i s) (R .span) (startOf R i s)
+  good = subst (λ (z : ℕ). StateInvariant (cardsOf R i s) z (startOf R i s)) (fit .span-is) (set-up-good (R .costs) i s ok)
 
   -- the bound on turns never shows: the run has stopped
-  pub has-stopped : (y : Stop) × (next R ((ran R (setUp i s)) .state) ≡ stops y)
+  pub has-stopped : (y : Stop) × (next R ((ran R (startOf R i s)) .state) ≡ stops y)
   unfolding ran
-  has-stopped = ends R (cardsOf i s) fine (fit .slots) (setUp i s) good
+  has-stopped = ends R (cardsOf R i s) fine (fit .slots) (startOf R i s) good
 
-  pub few-turns : length (turnsOf R i s) ≤ cardsOf i s * suc (R .span)
+  pub few-turns : length (turnsOf R i s) ≤ cardsOf R i s * suc (R .span)
   unfolding ran
-  few-turns = turns-demand R (cardsOf i s) fine (fit .slots) _ (setUp i s) begins good (bound R (setUp i s)) .few
+  few-turns = turns-demand R (cardsOf R i s) fine (fit .slots) _ (startOf R i s) begins good (bound R (startOf R i s)) .few
 
-  pub demand-three : (counts days : List (List ℕ)) → counts ≡ (ran R (setUp i s)) .state .counts → days ≡ (ran R (setUp i s)) .state .days → DemandThree R i s counts days
+  pub demand-three : (counts days : List (List ℕ)) → counts ≡ (ran R (startOf R i s)) .state .counts → days ≡ (ran R (startOf R i s)) .state .days → DemandThree R i s counts days
   unfolding ran
   demand-three counts days ec ed = record {
-    demand = turns-demand R (cardsOf i s) fine (fit .slots) _ (setUp i s) begins good (bound R (setUp i s));
-    rows = rw (ec, ed) (turns-rows R (cardsOf i s) fine (fit .slots) _ (setUp i s) begins good (bound R (setUp i s)));
+    demand = turns-demand R (cardsOf R i s) fine (fit .slots) _ (startOf R i s) begins good (bound R (startOf R i s));
+    rows = rw (ec, ed) (turns-rows R (cardsOf R i s) fine (fit .slots) _ (startOf R i s) begins good (bound R (startOf R i s)));
   }
 
 -- ---- the entry point
 not-finished : (r : Refusal) (p : Progress) → Finished (answer.Refused r p) → ⊥
 not-finished r p f = let e = f .1 in not-one cc
 
-module _ (i : Inputs) (s : State) where
+module _ (i : Inputs) (s : State Float) where
   -- the entry's tests look neither at the seed nor at the draws
   pub same-check : {c : Check} → c ≡ checked (inputs (i .config) (i .parameters) (i .retention) 0 (i .existing) (i .existing-counts)) (withDraws 0 s) → c ≡ checked i s
   unfolding checked listsOk
   same-check e = e
 
-  pub refused-is : (r : Refusal) → checked i s ≡ check.Failed r
-      → {l′ : Lent} → Lists s l′
-      → RunContract i s (answer.Refused r (progress 0 0 (i .seed))) l′
+  pub refused-is : (r : Refusal) → checked i s ≡ check.Failed r → RunContract i s (answer.Refused r (progress 0 0 (i .seed))) (listsOf s)
   unfolding simulatedBy
-  refused-is r e l = record { result = rw e (record { answer = refl; lists = l }); daily-rules = λ f. absurd (not-finished r (progress 0 0 (i .seed)) f) }
+  refused-is r e = record {
+    result = rw e (record { answer = refl; lists = refl });
+    daily-rules = λ f. absurd (not-finished r (progress 0 0 (i .seed)) f);
+  }
 
-  module _ (e : checked i s ≡ check.Passed) {r : Answer} {l′ : Lent}
-      (d : Done (finished (rulesOf (i .config) (kept (Kept.newOf (i .parameters)))) (setUp i s)) r l′) where
-    plainly : Done (finished (rulesFor i) (setUp i s)) r l′
-    plainly = subst (λ (x : Scalars). Done (finished (rulesOf (i .config) x) (setUp i s)) r l′) (kept-is (i .parameters)) d
+  module _ (e : checked i s ≡ check.Passed) {r : Answer} {l′ : Lent Float}
+      (d : Done (finished (rulesOf (i .config) (kept (Kept.newOf (i .parameters)))) (startOf (rulesFor i) i s)) r l′) where
+    plainly : Done (finished (rulesFor i) (startOf (rulesFor i) i s)) r l′
+    plainly = subst (λ (x : Scalars). Done (finished (rulesOf (i .config) x) (startOf (rulesFor i) i s)) r l′) (kept-is (i .parameters)) d
 
     done : Done (simulated i s) r l′
     unfolding simulatedBy
@@ -152,7 +151,7 @@ module _ (i : Inputs) (s : State) where
 
     three : DemandThree (rulesFor i) i s (l′ .counts) (l′ .days)
     unfolding finished
-    three = demand-three (rulesFor i) i s (accepted i s e) (suits splitMix i s (accepted i s e)) (l′ .counts) (l′ .days) (plainly .lists .counts-are) (plainly .lists .days-are)
+    three = demand-three (rulesFor i) i s (accepted i s e) (suits splitMix i s (accepted i s e)) (l′ .counts) (l′ .days) (ap (λ (l : Lent Float). l .counts) (plainly .lists)) (ap (λ (l : Lent Float). l .days) (plainly .lists))
 
     pub accepted-is : RunContract i s r l′
     accepted-is = record { result = done; daily-rules = λ f. three }

@@ -33,58 +33,61 @@ use Rattle.simulation.specs.Simulate.{Result, Done, progress, rulesFor, 
 abbrev pub Finished : Answer → Type 0
 Finished r = (p : Progress) × (r ≡ answer.Finished p)
 
--- a run's cards, and its turns, latest first
-abbrev pub cardsOf : Inputs → State → ℕ
-cardsOf i s = setUp i s .queue .len
+-- a run's lists as set up, its cards, and its turns, latest first
+abbrev pub startOf : {C : Type 0} → Rules C → Inputs → State C → State C
+startOf R i s = setUp (R .costs .none) i s
 
-abbrev pub turnsOf : Rules → Inputs → State → List (Turn Drawn)
-turnsOf R i s = (ran R (setUp i s)) .turns
+abbrev pub cardsOf : {C : Type 0} → Rules C → Inputs → State C → ℕ
+cardsOf R i s = startOf R i s .queue .len
+
+abbrev pub turnsOf : {C : Type 0} → Rules C → Inputs → State C → List (Turn Drawn)
+turnsOf R i s = (ran R (startOf R i s)) .turns
 
 -- of a run by any rules
-pub record DemandThree (R : Rules) (i : Inputs) (s : State) (counts days : List (List ℕ)) : Type 0 where
-  pub demand : Demand (cardsOf i s) (R .span) (R .costs) (R .limits) (turnsOf R i s)
+pub record DemandThree {C : Type 0} (R : Rules C) (i : Inputs) (s : State C) (counts days : List (List ℕ)) : Type 0 where
+  pub demand : Demand (cardsOf R i s) (R .span) (R .costs) (R .limits) (turnsOf R i s)
   pub rows :
       Rows (R .span) (known (i .existing) (i .existing-counts) (length (i .existing)))
-      (sumTo (cardsOf i s) (lapsesIn (setUp i s .counts))) (sumTo (cardsOf i s) (lapsesIn counts))
+      (sumTo (cardsOf R i s) (lapsesIn (startOf R i s .counts))) (sumTo (cardsOf R i s) (lapsesIn counts))
       (learnedAt days) (reviewedAt days) (correctAt days) (introducedAt days) (turnsOf R i s)
 
 -- A second run's lists: those of the first, but for an interval table that is longer in both its columns
-pub record LongerTable (s s′ : State) : Type 0 where
-  pub rest : s′ ≡ withTable s (s′ .table)
+pub record LongerTable {C : Type 0} (s s′ : State C) : Type 0 where
+  pub rest : s′ ≡ withTable (s′ .table) s
   pub keys-longer : length (s .table .keys) ≤ length (s′ .table .keys)
   pub intervals-longer : length (s .table .intervals) ≤ length (s′ .table .intervals)
 
 -- the same answer, turns included, and the same rows, due counts, cards and draws
-pub record SameRun (r r′ : Result) : Type 0 where
+pub record SameRun {C : Type 0} (r r′ : Result C) : Type 0 where
   pub answers : r′ .answer ≡ r .answer
   pub cards-are : r′ .state .cards ≡ r .state .cards
   pub counts-are : r′ .state .counts ≡ r .state .counts
   pub queue-is : r′ .state .queue ≡ r .state .queue
   pub days-are : r′ .state .days ≡ r .state .days
   pub costs-are : r′ .state .costs ≡ r .state .costs
-  pub held-are : r′ .state .held ≡ r .state .held
+  pub memorized-are : r′ .state .memorized ≡ r .state .memorized
   pub due-are : r′ .state .due ≡ r .state .due
   pub draws-are : r′ .state .draws ≡ r .state .draws
 
 -- WHAT A CALL OF THE RUN PROMISES: the answer and the lists are those of the definition, and where it ends Ok demand 3 holds of them
-pub record RunContract (i : Inputs) (s : State) (r : Answer) (l : Lent) : Type 0 where
+pub record RunContract (i : Inputs) (s : State Float) (r : Answer) (l : Lent Float) : Type 0 where
   pub result : Done (simulated i s) r l
   pub daily-rules : Finished r → DemandThree (rulesFor i) i s (l .counts) (l .days)
 
 -- THE DEMANDS beside the contract, of a run by rules R: `demands` has them at any way to draw
-pub record Demands (R : Rules) (i : Inputs) (s : State) : Type 0 where
+pub record Demands {C : Type 0} (R : Rules C) (i : Inputs) (s : State C) : Type 0 where
   -- 1: an entry refusal, exactly by the table, writes nothing and takes no turn
   pub entry-refusal : (r : Refusal) → checked i s ≡ check.Failed r → simulatedBy R i s ≡ record { answer = answer.Refused r (progress 0 0 (i .seed)); state = s }
   -- a run refusal leaves the state after the last finished turn: the state that the turns taken lead to
-  pub run-leaves : checked i s ≡ check.Passed → simulatedBy R i s .state ≡ (ran R (setUp i s)) .state
+  pub run-leaves : checked i s ≡ check.Passed → simulatedBy R i s .state ≡ (ran R (startOf R i s)) .state
   -- refusal 8 exactly when the key is new and as many keys are held as the table is long, after any number of turns
   pub table-full : checked i s ≡ check.Passed → (n : ℕ) (x y : Float)
-      → (let t = (run (next R) n [] (setUp i s)) .state .table in (isFull (R .model .slot t x y) ≡ true) ↔ ((heldIn t (stabilityBucket x) (retentionBucket y) ≡ none) × (countIn t ≡ places t)))
+      → (let t = (run (next R) n [] (startOf R i s)) .state .table in (isFull (R .model .slot t x y) ≡ true) ↔ ((heldIn t (stabilityBucket x) (retentionBucket y) ≡ none) × (countIn t ≡ places t)))
   -- 3: the daily rules and the rows, also where the run is refused
-  pub daily-rules : checked i s ≡ check.Passed → DemandThree R i s ((ran R (setUp i s)) .state .counts) ((ran R (setUp i s)) .state .days)
+  pub daily-rules : checked i s ≡ check.Passed → DemandThree R i s ((ran R (startOf R i s)) .state .counts) ((ran R (startOf R i s)) .state .days)
   -- 3: the run comes to its end or to a refusal within cards × (span + 1) turns, so its bound never shows
-  pub ends-within : checked i s ≡ check.Passed → length (turnsOf R i s) ≤ cardsOf i s * suc (R .span)
+  pub ends-within : checked i s ≡ check.Passed → length (turnsOf R i s) ≤ cardsOf R i s * suc (R .span)
   -- it ends Ok only when no turn is left
-  pub ok-ends : checked i s ≡ check.Passed → Finished (simulatedBy R i s .answer) → next R ((ran R (setUp i s)) .state) ≡ stops stop.Ended
+  pub ok-ends : checked i s ≡ check.Passed → Finished (simulatedBy R i s .answer) → next R ((ran R (startOf R i s)) .state) ≡ stops stop.Ended
   -- 3: a run that ends Ok ends Ok with any longer interval table and all else alike, with the same turns, draws, answer, rows, due counts and cards
-  pub longer-table : (s′ : State) → checked i s ≡ check.Passed → checked i s′ ≡ check.Passed → LongerTable s s′ → Finished (simulatedBy R i s .answer) → SameRun (simulatedBy R i s) (simulatedBy R i s′)
+  pub longer-table : (s′ : State C) → checked i s ≡ check.Passed → checked i s′ ≡ check.Passed → LongerTable s s′ → Finished (simulatedBy R i s .answer) → SameRun (simulatedBy R i s) (simulatedBy R i s′)

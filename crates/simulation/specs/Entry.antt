@@ -52,18 +52,19 @@ checkParameters w next =
     (let i = firstWhere (notFinite w) 34 0 in failIf (ltb i 34) (refusal.Parameters i) next)
 
 -- 6: lists that belong together are as long as each other, and written lists are long enough
-unfoldable pub listsOk : Inputs → State → Bool
+unfoldable pub listsOk : {C : Type 0} → Inputs → State C → Bool
 listsOk i s =
     let deck = i .config .«deck_size» in
     let span = i .config .«learn_span» in
     eqb (length (i .existing)) (length (i .existing-counts))
     && (eqb (length (s .table .keys)) (length (s .table .intervals))
+    && (eqb (length (s .cards)) (length (s .counts))
     && (leb deck (length (s .cards))
-    && (leb deck (length (s .counts))
     && (leb deck (length (s .queue .rows))
     && (leb span (length (s .days))
     && (leb span (length (s .costs))
-    && leb (dueDays span) (length (s .due))))))))
+    && (leb span (length (s .memorized))
+    && leb (dueDays span) (length (s .due)))))))))
 
 -- 5: each kept one of the first n existing cards
 unfoldable pub checkFirst : List (List Float) → List (List ℕ) → ℕ → Check
@@ -71,7 +72,7 @@ checkFirst cards counts n =
     let i = firstWhere (notOk cards counts) n 0 in
     failIf (ltb i n) (refusal.ExistingCard i) check.Passed
 
-unfoldable pub checked : Inputs → State → Check
+unfoldable pub checked : {C : Type 0} → Inputs → State C → Check
 checked i s =
     checkParameters (i .parameters)
     (failIf (eqb (i .config .«deck_size») 0 || ltb mostCards (i .config .«deck_size»)) refusal.DeckSize

@@ -47,14 +47,14 @@ pub record RunBounds (span cards : ℕ) : Type 0 where
 -- ---- the state
 
 -- a row for each card and for each day
-pub record Lengths (cards span : ℕ) (s : State) : Type 0 where
+pub record Lengths {C : Type 0} (cards span : ℕ) (s : State C) : Type 0 where
   pub cards-long : cards ≤ length (s .cards)
   pub counts-long : cards ≤ length (s .counts)
   pub days-long : span ≤ length (s .days)
   pub costs-long : span ≤ length (s .costs)
 
 -- the queue is sound, each queued card is a card of the run under its key, and every day fits an i32
-pub record InOrder (cards : ℕ) (s : State) : Type 0 where
+pub record InOrder {C : Type 0} (cards : ℕ) (s : State C) : Type 0 where
   pub keyed : Keyed cards (keyIn (s .cards)) (s .queue)
   pub near : (c : ℕ) → c < cards → dayIn (s .cards) c < 2147483648
 
@@ -64,13 +64,13 @@ TableInRange t = (p : ℕ) → p < places t → freeAt t p ≡ false → Interva
 
 -- on each day no more recalls than reviews, introduced cards no more than cards that are not new, and events no more than cards that are now due later;
 -- of each card a lapse a day at most
-pub record Counts (cards span : ℕ) (s : State) : Type 0 where
+pub record Counts {C : Type 0} (cards span : ℕ) (s : State C) : Type 0 where
   pub recalls : (d : ℕ) → d < span → correctAt (s .days) d ≤ reviewedAt (s .days) d
   pub introduced : (d : ℕ) → d < span → introducedAt (s .days) d + sumTo cards (λ c. bit (newIn (s .cards) c)) ≤ cards
   pub events : (d : ℕ) → d < span → learnedAt (s .days) d + reviewedAt (s .days) d ≤ sumTo cards (λ c. bit (ltb d (dayIn (s .cards) c)))
   pub lapses : (c : ℕ) → c < cards → lapsesIn (s .counts) c ≤ 4000000000 + min (dayIn (s .cards) c) span
 
-pub record StateInvariant (cards span : ℕ) (s : State) : Type 0 where
+pub record StateInvariant {C : Type 0} (cards span : ℕ) (s : State C) : Type 0 where
   pub lengths : Lengths cards span s
   pub order : InOrder cards s
   pub table : TableInRange (s .table)

@@ -9,19 +9,20 @@ use Rattle.events.specs.Scalars.{Scalars}
 use Rattle.events.specs.Drawn.{Drawn, costs}
 use Rattle.simulation.specs.Model.{Model, modelOf}
 
--- the days of a run, the limits of each day, how many lapses retire a card, what an event costs and a day, how is drawn, and the memory model
-pub record Rules : Type 0 where
+-- the days of a run, the limits of each day, how many lapses retire a card, what an event costs and a day (`C` is what a cost is), how is drawn, and the
+-- memory model
+pub record Rules (C : Type 0) : Type 0 where
   pub span : ℕ
-  pub limits : Limits Float
+  pub limits : Limits C
   pub lapse-limit : ℕ
-  pub costs : CostRule Drawn Float
+  pub costs : CostRule Drawn C
   pub draw : DrawRule
   pub model : Model
 
 -- by a configuration and a model's scalars, whatever the way to draw
-abbrev pub rulesWith : DrawRule → SimulatorConfig → Scalars → Rules
+abbrev pub rulesWith : DrawRule → SimulatorConfig → Scalars → Rules Float
 rulesWith w g x = record { span = g .«learn_span»; limits = limits g; lapse-limit = g .«suspend_after_lapses»; costs = costs g; draw = w; model = modelOf g x }
 
 -- and with SplitMix64, as a run draws
-abbrev pub rulesOf : SimulatorConfig → Scalars → Rules
+abbrev pub rulesOf : SimulatorConfig → Scalars → Rules Float
 rulesOf = rulesWith splitMix

@@ -89,7 +89,7 @@ unfoldable pub newCards : SimulatorConfig → ℕ → ℕ
 newCards g kept = cond (eqb (g .«learn_limit») 0) 0 (g .«deck_size» - kept)
 
 -- the queue empty, and due counts of 0
-unfoldable pub emptied : Inputs → State → Deck
+unfoldable pub emptied : {C : Type 0} → Inputs → State C → Deck
 emptied i s = record {
   cards = s .cards;
   counts = s .counts;
@@ -107,21 +107,17 @@ dealt i s =
 abbrev pub firstCounts : Inputs → List ℕ
 firstCounts i = 0 ∷ 0 ∷ 0 ∷ known (i .existing) (i .existing-counts) (length (i .existing)) ∷ []
 
--- and a lent row of sums
-abbrev pub firstSums : List Float
-firstSums = ofBits binary32 0 ∷ ofBits binary32 0 ∷ []
-
--- the table is emptied, and the draws are at the seed
-unfoldable pub setUp : Inputs → State → State
-setUp i s =
+-- every day begins at the cost of no event, the table is emptied, and the draws are at the seed
+unfoldable pub setUp : {C : Type 0} → C → Inputs → State C → State C
+setUp none i s =
     let deck = dealt i (emptied i s) in
     record {
       cards = deck .cards;
       counts = deck .counts;
       queue = deck .queue;
       days = filled (firstCounts i) (i .config .«learn_span») (s .days);
-      costs = filled (ofBits binary32 0) (i .config .«learn_span») (s .costs);
-      held = filled (ofBits binary32 0) (i .config .«learn_span») (s .held);
+      costs = filled none (i .config .«learn_span») (s .costs);
+      memorized = filled (ofBits binary32 0) (i .config .«learn_span») (s .memorized);
       due = deck .due;
       table = clearIn (s .table);
       draws = i .seed;

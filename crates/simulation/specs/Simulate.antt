@@ -3,6 +3,7 @@ use Prim.Native.Nat.{ℕ, suc, _*_}
 use mathlib.Core.List.{[]}
 use mathlib.Core.Path.{_≡_}
 use lib.ListN.{length}
+use lib.Ieee.{Float}
 use Rattle.turns.specs.Turns.{Turn}
 use Rattle.turns.specs.Run.{Reached, run, stopOf}
 use Rattle.events.specs.Scalars.{plain}
@@ -14,16 +15,16 @@ use Rattle.simulation.specs.declared.Check.the-variants as check
 use Rattle.simulation.specs.declared.Progress.{Progress}
 use Rattle.simulation.specs.declared.Answer.{Answer}
 use Rattle.simulation.specs.declared.Answer.the-variants as answer
-use Rattle.simulation.specs.State.{State, Lent, Lists}
+use Rattle.simulation.specs.State.{State, Lent, listsOf}
 use Rattle.simulation.specs.Rules.{Rules, rulesOf}
 use Rattle.simulation.specs.Turn.{next}
 use Rattle.simulation.specs.Entry.{Inputs, checked}
 use Rattle.simulation.specs.SetUp.{setUp}
 
 -- an answer, and the state that is left
-pub record Result : Type 0 where
+pub record Result (C : Type 0) : Type 0 where
   pub answer : Answer
-  pub state : State
+  pub state : State C
 
 abbrev pub progress : ℕ → ℕ → ℕ → Progress
 progress turns cards draws = record { turns = turns; cards = cards; draws = draws }
@@ -33,37 +34,37 @@ answerOf stop.Ended p = answer.Finished p
 answerOf (stop.Refused r) p = answer.Refused r p
 
 -- the rules of a run's inputs: FSRS-7 by their parameters, and SplitMix64
-abbrev pub rulesFor : Inputs → Rules
+abbrev pub rulesFor : Inputs → Rules Float
 rulesFor i = rulesOf (i .config) (plain (i .parameters))
 
-module _ (R : Rules) where
+module _ {C : Type 0} (R : Rules C) where
   -- one turn more than is ever taken (`ends`)
-  abbrev pub bound : State → ℕ
+  abbrev pub bound : State C → ℕ
   bound s = suc (s .queue .len * suc (R .span))
 
   -- the turns, latest first, and the state that they lead to
-  unfoldable pub ran : State → Reached (Turn Drawn) State
+  unfoldable pub ran : State C → Reached (Turn Drawn) (State C)
   ran s = run (next R) (bound s) [] s
 
-  unfoldable pub finished : State → Result
+  unfoldable pub finished : State C → Result C
   finished s =
       let r = ran s in
       record { answer = answerOf (stopOf (next R) stop.Ended (bound s) s) (progress (length (r .turns)) (s .queue .len) (r .state .draws)); state = r .state }
 
   -- an entry refusal leaves the lists as they are
-  abbrev pub afterCheck : Inputs → Check → State → Result
-  afterCheck i check.Passed s = finished (setUp i s)
+  abbrev pub afterCheck : Inputs → Check → State C → Result C
+  afterCheck i check.Passed s = finished (setUp (R .costs .none) i s)
   afterCheck i (check.Failed r) s = record { answer = answer.Refused r (progress 0 0 (i .seed)); state = s }
 
   -- a run by any rules, from inputs and lent lists
-  unfoldable pub simulatedBy : Inputs → State → Result
+  unfoldable pub simulatedBy : Inputs → State C → Result C
   simulatedBy i s = afterCheck i (checked i s) s
 
 -- and by the rules of the inputs
-abbrev pub simulated : Inputs → State → Result
+abbrev pub simulated : Inputs → State Float → Result Float
 simulated i = simulatedBy (rulesFor i) i
 
 -- an answer and lists are those of a result
-pub record Done (x : Result) (r : Answer) (l : Lent) : Type 0 where
+pub record Done {C : Type 0} (x : Result C) (r : Answer) (l : Lent C) : Type 0 where
   pub answer : r ≡ x .answer
-  pub lists : Lists (x .state) l
+  pub lists : l ≡ listsOf (x .state)

@@ -11,7 +11,7 @@ use Rattle.cards.specs.declared.Card.{Card}
 use Rattle.cards.specs.Day.{isNew}
 use Rattle.cards.specs.Cards.{writeFloats, writeCounts}
 use Rattle.days.specs.Counts.{countEvent}
-use Rattle.days.specs.Sums.{Summed, costColumn, heldColumn, payOn}
+use Rattle.days.specs.Sums.{addCost}
 use Rattle.days.specs.Due.{moveDue, noneDue}
 use Rattle.events.specs.declared.Memory.{Memory}
 use Rattle.queue.specs.Queue.{queue, frontChanged, popped, pushed}
@@ -22,7 +22,7 @@ use Rattle.simulation.specs.declared.Stop.{Stop}
 use Rattle.simulation.specs.declared.Stop.the-variants as stop
 use Rattle.simulation.specs.declared.Refusal.the-variants as refusal
 use Rattle.simulation.specs.declared.Outcome.the-variants as outcome
-use Rattle.simulation.specs.State.{State, Lent, Lists, keyOf}
+use Rattle.simulation.specs.State.{State, Lent, listsOf, keyOf}
 use Rattle.simulation.specs.Rules.{Rules}
 use Rattle.simulation.specs.Turn.{cardAfterPutOff, holdCard, next}
 
@@ -32,18 +32,18 @@ stopIn (outcome.Took n r) = stop.Ended
 stopIn (outcome.Stopped x) = x
 
 -- a turn taken tells the queue's length and the state of the draws after it
-abbrev pub outcomeOf : Next (Turn Drawn) State Stop → Outcome
+abbrev pub outcomeOf : {C : Type 0} → Next (Turn Drawn) (State C) Stop → Outcome
 outcomeOf (takes t s) = outcome.Took (s .queue .len) (s .draws)
 outcomeOf (stops x) = outcome.Stopped x
 
-abbrev pub afterOf : State → Next (Turn Drawn) State Stop → State
+abbrev pub afterOf : {C : Type 0} → State C → Next (Turn Drawn) (State C) Stop → State C
 afterOf s (takes t s′) = s′
 afterOf s (stops x) = s
 
 -- the outcome, and the lists as the turn leaves them: untouched where it stops
-pub record Turned (n : Next (Turn Drawn) State Stop) (s : State) (r : Outcome) (l : Lent) : Type 0 where
+pub record Turned {C : Type 0} (n : Next (Turn Drawn) (State C) Stop) (s : State C) (r : Outcome) (l : Lent C) : Type 0 where
   pub outcome : r ≡ outcomeOf n
-  pub lists : Lists (afterOf s n) l
+  pub lists : l ≡ listsOf (afterOf s n)
 
 -- ---- the steps that write few lists, by those
 pub record PutOff (span c : ℕ) (k : Card) (d len : ℕ) (cards : List (List Float)) (rows : List (List ℕ)) (due : List ℕ) (cards′ : List (List Float)) (rows′ : List (List ℕ)) (due′ : List ℕ) : Type 0 where
@@ -60,14 +60,15 @@ pub record PutOffStep (span c : ℕ) (k : Card) (d len draws : ℕ) (cards : Lis
   pub refused : noneDue due (isNew (k .«last_date»)) d ≡ true → (r ≡ outcome.Stopped (stop.Refused (refusal.DueCount c))) × Untouched cards rows due cards′ rows′ due′
   pub done : noneDue due (isNew (k .«last_date»)) d ≡ false → (r ≡ outcome.Took len draws) × PutOff span c k d len cards rows due cards′ rows′ due′
 
-pub record RetireStep (R : Rules) (k : Card) (len draws : ℕ) (sums : List (List Float)) (rows : List (List ℕ)) (r : Outcome) (sums′ : List (List Float)) (rows′ : List (List ℕ)) : Type 0 where
+pub record RetireStep {C : Type 0} (R : Rules C) (k : Card) (len draws : ℕ) (memorized : List Float) (rows : List (List ℕ)) (r : Outcome) (memorized′ : List Float) (rows′ : List (List ℕ)) : Type 0 where
   pub outcome : r ≡ outcome.Took (popped (queue rows len) .len) draws
-  pub sums-are : Summed (costColumn sums) (holdCard (R .model) (heldColumn sums) k (R .span)) sums′
+  pub memorized-are : memorized′ ≡ holdCard (R .model) memorized k (R .span)
   pub rows-are : rows′ ≡ popped (queue rows len) .rows
 
-pub record DaysWritten (R : Rules) (k : Card) (new : Bool) (d : ℕ) (x : Memory) (days : List (List ℕ)) (sums : List (List Float)) (days′ : List (List ℕ)) (sums′ : List (List Float)) : Type 0 where
+pub record DaysWritten (R : Rules Float) (k : Card) (new : Bool) (d : ℕ) (x : Memory) (days : List (List ℕ)) (costs memorized : List Float) (days′ : List (List ℕ)) (costs′ memorized′ : List Float) : Type 0 where
   pub days-are : days′ ≡ countEvent (R .span) days new d (x .recalled)
-  pub sums-are : Summed (payOn (R .costs .plus) (costColumn sums) d (x .cost)) (holdCard (R .model) (heldColumn sums) k d) sums′
+  pub costs-are : costs′ ≡ addCost (R .costs .none) (R .costs .plus) costs d (x .cost)
+  pub memorized-are : memorized′ ≡ holdCard (R .model) memorized k d
 
 pub record CardWritten (c : ℕ) (k : Card) (len : ℕ) (cards : List (List Float)) (counts rows : List (List ℕ)) (cards′ : List (List Float)) (counts′ rows′ : List (List ℕ)) : Type 0 where
   pub cards-are : cards′ ≡ writeFloats cards c k
@@ -75,11 +76,11 @@ pub record CardWritten (c : ℕ) (k : Card) (len : ℕ) (cards : List (List Floa
   pub queue-is : queue rows′ len ≡ frontChanged (queue rows len) (keyOf k)
 
 -- what the loop over turns leaves, from a state and for at most n turns
-pub record Ran (R : Rules) (s : State) (n : ℕ) (r : Reach) (l : Lent) : Type 0 where
+pub record Ran {C : Type 0} (R : Rules C) (s : State C) (n : ℕ) (r : Reach) (l : Lent C) : Type 0 where
   pub stop-is : r .stop ≡ stopOf (next R) stop.Ended n s
   pub turns : r .turns ≡ length ((run (next R) n [] s) .turns)
   pub draws : r .draws ≡ (run (next R) n [] s) .state .draws
-  pub lists : Lists ((run (next R) n [] s) .state) l
+  pub lists : l ≡ listsOf ((run (next R) n [] s) .state)
 
 -- ---- set-up
 pub record Joined (k : Card) (len : ℕ) (cards : List (List Float)) (counts rows : List (List ℕ)) (r : ℕ) (cards′ : List (List Float)) (counts′ rows′ : List (List ℕ)) : Type 0 where

@@ -94,7 +94,8 @@ fn lists_ok(
     counts: &[[u32; 2]],
     rows: &[[u64; 2]],
     days: &[[u32; 4]],
-    sums: &[[f32; 2]],
+    costs: &[f32],
+    memorized: &[f32],
     due: &[u32],
     keys: &[[u32; 2]],
     intervals: &[f32],
@@ -105,7 +106,7 @@ fn lists_ok(
     ensures { λ r. ⌜ ((w : List Float) (retention : Float) →
         r ≡ listsOk
         (inputs config w retention 0 (now (existing .entry)) (now («existing_counts» .entry)))
-        (state (lent (now (cards .entry)) (now (counts .entry)) (now (rows .entry)) (now (days .entry)) (now (sums .entry)) (now (due .entry)) (now (keys .entry)) (now (intervals .entry))) 0 0)) ⌝ }
+        (state (lent (now (cards .entry)) (now (counts .entry)) (now (rows .entry)) (now (days .entry)) (now (costs .entry)) (now (memorized .entry)) (now (due .entry)) (now (keys .entry)) (now (intervals .entry))) 0 0)) ⌝ }
 {
     let deck = config.deck_size as usize;
     let span = config.learn_span as usize;
@@ -115,10 +116,10 @@ fn lists_ok(
     if keys.len() != intervals.len() {
         return false;
     }
-    if cards.len() < deck {
+    if cards.len() != counts.len() {
         return false;
     }
-    if counts.len() < deck {
+    if cards.len() < deck {
         return false;
     }
     if rows.len() < deck {
@@ -127,7 +128,10 @@ fn lists_ok(
     if days.len() < span {
         return false;
     }
-    if sums.len() < span {
+    if costs.len() < span {
+        return false;
+    }
+    if memorized.len() < span {
         return false;
     }
     due_days(config.learn_span) <= due.len()
@@ -138,7 +142,8 @@ pub(crate) fn check_entry(
     counts: &[[u32; 2]],
     rows: &[[u64; 2]],
     days: &[[u32; 4]],
-    sums: &[[f32; 2]],
+    costs: &[f32],
+    memorized: &[f32],
     due: &[u32],
     keys: &[[u32; 2]],
     intervals: &[f32],
@@ -150,7 +155,7 @@ pub(crate) fn check_entry(
 ) -> Check
     ensures { λ r. ⌜ r ≡ checked
         (inputs config (now (parameters .entry)) retention 0 (now (existing .entry)) (now («existing_counts» .entry)))
-        (state (lent (now (cards .entry)) (now (counts .entry)) (now (rows .entry)) (now (days .entry)) (now (sums .entry)) (now (due .entry)) (now (keys .entry)) (now (intervals .entry))) 0 0) ⌝ }
+        (state (lent (now (cards .entry)) (now (counts .entry)) (now (rows .entry)) (now (days .entry)) (now (costs .entry)) (now (memorized .entry)) (now (due .entry)) (now (keys .entry)) (now (intervals .entry))) 0 0) ⌝ }
 {
     let first = check_parameters(parameters);
     let Check::Passed = first else {
@@ -179,7 +184,8 @@ pub(crate) fn check_entry(
         counts,
         rows,
         days,
-        sums,
+        costs,
+        memorized,
         due,
         keys,
         intervals,

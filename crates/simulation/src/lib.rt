@@ -60,14 +60,15 @@ pub struct Reach {
     pub draws: u64,
 }
 
-// A run, from its entry to its answer. The first eight lists are written: rows of cards and of their counts, of the queue, of
-// days' counts and sums, the due counts, and the interval table; the others are read.
+// A run, from its entry to its answer. The first nine lists are written: rows of cards and of their counts, of the queue and of
+// days' counts, the days' costs, what is memorized on each, the due counts, and the interval table; the others are read.
 pub fn simulate(
     cards: &mut [[f32; 6]],
     counts: &mut [[u32; 2]],
     rows: &mut [[u64; 2]],
     days: &mut [[u32; 4]],
-    sums: &mut [[f32; 2]],
+    costs: &mut [f32],
+    memorized: &mut [f32],
     due: &mut [u32],
     keys: &mut [[u32; 2]],
     intervals: &mut [f32],
@@ -80,16 +81,17 @@ pub fn simulate(
 ) -> Answer
     ensures { λ r. ⌜ (
         let i = inputs config (now (parameters .entry)) retention seed (now (existing .entry)) (now («existing_counts» .entry)) in
-        let s = state (lent (now (cards .entry)) (now (counts .entry)) (now (rows .entry)) (now (days .entry)) (now (sums .entry)) (now (due .entry)) (now (keys .entry)) (now (intervals .entry))) 0 seed in
+        let s = state (lent (now (cards .entry)) (now (counts .entry)) (now (rows .entry)) (now (days .entry)) (now (costs .entry)) (now (memorized .entry)) (now (due .entry)) (now (keys .entry)) (now (intervals .entry))) 0 seed in
         RunContract i s r
-        (lent (now (cards .exit)) (now (counts .exit)) (now (rows .exit)) (now (days .exit)) (now (sums .exit)) (now (due .exit)) (now (keys .exit)) (now (intervals .exit)))) ⌝ }
+        (lent (now (cards .exit)) (now (counts .exit)) (now (rows .exit)) (now (days .exit)) (now (costs .exit)) (now (memorized .exit)) (now (due .exit)) (now (keys .exit)) (now (intervals .exit)))) ⌝ }
 {
     let entry = entry::check_entry(
         cards,
         counts,
         rows,
         days,
-        sums,
+        costs,
+        memorized,
         due,
         keys,
         intervals,
@@ -113,7 +115,8 @@ pub fn simulate(
             counts,
             rows,
             days,
-            sums,
+            costs,
+            memorized,
             due,
             keys,
             intervals,

@@ -8,6 +8,7 @@ use cards::SimulatorConfig;
 use model::Fsrs7;
 ghost use mathlib.Core.Path.{_≡_};
 ghost use Prim.Native.Nat.{suc, _*_, _≤_};
+ghost use lib.Ieee.{ofBits, binary32};
 ghost use Rattle.model.specs.Kept as Kept;
 ghost use Rattle.events.specs.Scalars.{kept};
 ghost use Rattle.simulation.specs.State.{lent, state, mostCards, mostDays};
@@ -34,7 +35,8 @@ fn run_turns(
     counts: &mut [[u32; 2]],
     rows: &mut [[u64; 2]],
     days: &mut [[u32; 4]],
-    sums: &mut [[f32; 2]],
+    costs: &mut [f32],
+    memorized: &mut [f32],
     due: &mut [u32],
     keys: &mut [[u32; 2]],
     intervals: &mut [f32],
@@ -45,9 +47,9 @@ fn run_turns(
     bound: u32,
 ) -> Reach
     ensures { λ r. ⌜ Ran (rulesOf config (kept m))
-        (state (lent (now (cards .entry)) (now (counts .entry)) (now (rows .entry)) (now (days .entry)) (now (sums .entry)) (now (due .entry)) (now (keys .entry)) (now (intervals .entry))) len seed)
+        (state (lent (now (cards .entry)) (now (counts .entry)) (now (rows .entry)) (now (days .entry)) (now (costs .entry)) (now (memorized .entry)) (now (due .entry)) (now (keys .entry)) (now (intervals .entry))) len seed)
         bound r
-        (lent (now (cards .exit)) (now (counts .exit)) (now (rows .exit)) (now (days .exit)) (now (sums .exit)) (now (due .exit)) (now (keys .exit)) (now (intervals .exit))) ⌝ }
+        (lent (now (cards .exit)) (now (counts .exit)) (now (rows .exit)) (now (days .exit)) (now (costs .exit)) (now (memorized .exit)) (now (due .exit)) (now (keys .exit)) (now (intervals .exit))) ⌝ }
 {
     let mut n = len;
     let mut draws = seed;
@@ -58,7 +60,8 @@ fn run_turns(
             counts,
             rows,
             days,
-            sums,
+            costs,
+            memorized,
             due,
             keys,
             intervals,
@@ -113,7 +116,8 @@ pub(crate) fn start(
     counts: &mut [[u32; 2]],
     rows: &mut [[u64; 2]],
     days: &mut [[u32; 4]],
-    sums: &mut [[f32; 2]],
+    costs: &mut [f32],
+    memorized: &mut [f32],
     due: &mut [u32],
     keys: &mut [[u32; 2]],
     intervals: &mut [f32],
@@ -126,21 +130,22 @@ pub(crate) fn start(
 ) -> Answer
     requires { ⌜ checked
         (inputs config (now parameters) retention seed (now existing) (now «existing_counts»))
-        (state (lent (now cards) (now counts) (now rows) (now days) (now sums) (now due) (now keys) (now intervals)) 0 seed) ≡ check.Passed ⌝ }
+        (state (lent (now cards) (now counts) (now rows) (now days) (now costs) (now memorized) (now due) (now keys) (now intervals)) 0 seed) ≡ check.Passed ⌝ }
     ensures { λ r. ⌜ Done
         (finished (rulesOf config (kept (Kept.newOf (now (parameters .entry)))))
-        (setUp
+        (setUp (ofBits binary32 0)
         (inputs config (now (parameters .entry)) retention seed (now (existing .entry)) (now («existing_counts» .entry)))
-        (state (lent (now (cards .entry)) (now (counts .entry)) (now (rows .entry)) (now (days .entry)) (now (sums .entry)) (now (due .entry)) (now (keys .entry)) (now (intervals .entry))) 0 seed)))
+        (state (lent (now (cards .entry)) (now (counts .entry)) (now (rows .entry)) (now (days .entry)) (now (costs .entry)) (now (memorized .entry)) (now (due .entry)) (now (keys .entry)) (now (intervals .entry))) 0 seed)))
         r
-        (lent (now (cards .exit)) (now (counts .exit)) (now (rows .exit)) (now (days .exit)) (now (sums .exit)) (now (due .exit)) (now (keys .exit)) (now (intervals .exit))) ⌝ }
+        (lent (now (cards .exit)) (now (counts .exit)) (now (rows .exit)) (now (days .exit)) (now (costs .exit)) (now (memorized .exit)) (now (due .exit)) (now (keys .exit)) (now (intervals .exit))) ⌝ }
 {
     let len = super::set_up::set_up(
         cards,
         counts,
         rows,
         days,
-        sums,
+        costs,
+        memorized,
         due,
         intervals,
         existing,
@@ -155,7 +160,8 @@ pub(crate) fn start(
         counts,
         rows,
         days,
-        sums,
+        costs,
+        memorized,
         due,
         keys,
         intervals,

@@ -7,7 +7,7 @@ ghost use mathlib.Core.Bool.{not, _&&_};
 ghost use mathlib.Core.List.{List, []};
 ghost use Prim.Native.Nat.{ℕ, _+_, _/_, _≤_, _<_};
 ghost use lib.ListN.{length, set};
-ghost use lib.Ieee.{Float};
+ghost use lib.Ieee.{Float, ofBits, binary32};
 ghost use Rattle.turns.specs.Sums.{bit};
 ghost use Rattle.days.specs.Counts.{dayRow};
 ghost use Rattle.cards.specs.Day as Day;
@@ -15,7 +15,7 @@ ghost use Rattle.cards.specs.Cards.{isKept};
 ghost use Rattle.simulation.specs.State.{lent, state, mostCards, mostDays};
 ghost use Rattle.simulation.specs.Entry.{inputs};
 ghost use Rattle.simulation.specs.Steps.{Joined};
-ghost use Rattle.simulation.specs.SetUp.{deck, filled, newCard, retainCard, retain, known, create, newCards, firstSums, setUp};
+ghost use Rattle.simulation.specs.SetUp.{deck, filled, newCard, retainCard, retain, known, create, newCards, setUp};
 
 fn put_due(due: &mut [u32], i: u32)
     ensures { λ _. ⌜ now (due .exit) ≡ set (now (due .entry)) i 0 ⌝ }
@@ -55,21 +55,22 @@ fn first_counts(days: &mut [[u32; 4]], span: u32, known: u32)
     }
 }
 
-fn put_sums(sums: &mut [[f32; 2]], i: u32)
-    ensures { λ _. ⌜ now (sums .exit) ≡ set (now (sums .entry)) i firstSums ⌝ }
+fn put_zero(list: &mut [f32], i: u32)
+    ensures { λ _. ⌜ now (list .exit) ≡ set (now (list .entry)) i (ofBits binary32 0) ⌝ }
 {
     let at = i as usize;
-    if at < sums.len() {
-        sums[at] = [0.0, 0.0];
+    if at < list.len() {
+        list[at] = 0.0;
     }
 }
 
-fn first_sums(sums: &mut [[f32; 2]], span: u32)
-    ensures { λ _. ⌜ now (sums .exit) ≡ filled firstSums span (now (sums .entry)) ⌝ }
+// Costs and what is memorized begin at 0.
+fn first_zeros(list: &mut [f32], span: u32)
+    ensures { λ _. ⌜ now (list .exit) ≡ filled (ofBits binary32 0) span (now (list .entry)) ⌝ }
 {
     let mut i: u32 = 0;
     while i < span {
-        put_sums(sums, i);
+        put_zero(list, i);
         i += 1;
     }
 }
@@ -229,7 +230,8 @@ pub(crate) fn set_up(
     counts: &mut [[u32; 2]],
     rows: &mut [[u64; 2]],
     days: &mut [[u32; 4]],
-    sums: &mut [[f32; 2]],
+    costs: &mut [f32],
+    memorized: &mut [f32],
     due: &mut [u32],
     intervals: &mut [f32],
     existing: &[[f32; 6]],
@@ -239,9 +241,9 @@ pub(crate) fn set_up(
 ) -> u32
     requires { ⌜ (length (now existing) ≤ mostCards) × (config .«learn_span» ≤ mostDays) ⌝ }
     ensures { λ r. ⌜ ((w : List Float) (seed : ℕ) (keys : List (List ℕ)) →
-        state (lent (now (cards .exit)) (now (counts .exit)) (now (rows .exit)) (now (days .exit)) (now (sums .exit)) (now (due .exit)) keys (now (intervals .exit))) r seed
-        ≡ setUp (inputs config w retention seed (now (existing .entry)) (now («existing_counts» .entry)))
-        (state (lent (now (cards .entry)) (now (counts .entry)) (now (rows .entry)) (now (days .entry)) (now (sums .entry)) (now (due .entry)) keys (now (intervals .entry))) 0 seed)) ⌝ }
+        state (lent (now (cards .exit)) (now (counts .exit)) (now (rows .exit)) (now (days .exit)) (now (costs .exit)) (now (memorized .exit)) (now (due .exit)) keys (now (intervals .exit))) r seed
+        ≡ setUp (ofBits binary32 0) (inputs config w retention seed (now (existing .entry)) (now («existing_counts» .entry)))
+        (state (lent (now (cards .entry)) (now (counts .entry)) (now (rows .entry)) (now (days .entry)) (now (costs .entry)) (now (memorized .entry)) (now (due .entry)) keys (now (intervals .entry))) 0 seed)) ⌝ }
 {
     let span = config.learn_span;
     let n = existing.len() as u32;
@@ -258,7 +260,8 @@ pub(crate) fn set_up(
         retained,
     );
     first_counts(days, span, known(existing, existing_counts, n));
-    first_sums(sums, span);
+    first_zeros(costs, span);
+    first_zeros(memorized, span);
     intervals::clear(intervals);
     len
 }

@@ -14,7 +14,6 @@ ghost use mathlib.Core.Path.{_≡_};
 ghost use mathlib.Core.Bool.{cond};
 ghost use Rattle.draws.specs.Draws.{splitMix};
 ghost use Rattle.days.specs.Counts.{raised};
-ghost use Rattle.days.specs.Sums.{Summed, costColumn, heldColumn};
 ghost use Rattle.events.specs.Scalars.{kept};
 ghost use Rattle.events.specs.Events.{eventOf};
 ghost use Rattle.simulation.specs.State.{lent, keyOf, state};
@@ -95,7 +94,7 @@ fn event_card(card: Card, new: bool, x: Memory, d: u32, v: f32) -> Card
 }
 
 fn hold_card(
-    sums: &mut [[f32; 2]],
+    memorized: &mut [f32],
     config: SimulatorConfig,
     m: Fsrs7,
     curve: Curve,
@@ -103,13 +102,13 @@ fn hold_card(
     to: u32,
 )
     requires { ⌜ curve ≡ curveFor m card ⌝ }
-    ensures { λ _. ⌜ Summed (costColumn (now (sums .entry))) (holdCard (modelOf config (kept m)) (heldColumn (now (sums .entry))) card to) (now (sums .exit)) ⌝ }
+    ensures { λ _. ⌜ now (memorized .exit) ≡ holdCard (modelOf config (kept m)) (now (memorized .entry)) card to ⌝ }
 {
     if cards::is_new(card.last_date) {
         return;
     }
     let from = float32::to_u32(card.last_date);
-    days::hold_from(sums, curve, from, to, card.last_date);
+    days::add_forgetting_curve_range(memorized, curve, from, to, card.last_date);
 }
 
 // ---- the steps of a turn
@@ -161,7 +160,7 @@ fn put_off_step(
 }
 
 fn retire_step(
-    sums: &mut [[f32; 2]],
+    memorized: &mut [f32],
     rows: &mut [[u64; 2]],
     config: SimulatorConfig,
     m: Fsrs7,
@@ -170,20 +169,21 @@ fn retire_step(
     draws: u64,
 ) -> Outcome
     ensures { λ r. ⌜ RetireStep (rulesOf config (kept m)) card len draws
-        (now (sums .entry)) (now (rows .entry))
-        r (now (sums .exit)) (now (rows .exit)) ⌝ }
+        (now (memorized .entry)) (now (rows .entry))
+        r (now (memorized .exit)) (now (rows .exit)) ⌝ }
 {
     let curve = m.curve(card.stability);
-    hold_card(sums, config, m, curve, card, config.learn_span);
+    hold_card(memorized, config, m, curve, card, config.learn_span);
     let queue = CardPriorityQueue { len };
     let left = queue.pop(rows);
     Outcome::Took(left.len, draws)
 }
 
-// The events' writes to the rows of days: the count, the cost, and what the card held up to its day.
+// The events' writes to the rows of days: the count, the cost, and what is memorized of the card up to its day.
 fn write_days(
     days: &mut [[u32; 4]],
-    sums: &mut [[f32; 2]],
+    costs: &mut [f32],
+    memorized: &mut [f32],
     config: SimulatorConfig,
     m: Fsrs7,
     curve: Curve,
@@ -194,11 +194,11 @@ fn write_days(
 )
     requires { ⌜ curve ≡ curveFor m card ⌝ }
     ensures { λ _. ⌜ DaysWritten (rulesOf config (kept m)) card new d x
-        (now (days .entry)) (now (sums .entry)) (now (days .exit)) (now (sums .exit)) ⌝ }
+        (now (days .entry)) (now (costs .entry)) (now (memorized .entry)) (now (days .exit)) (now (costs .exit)) (now (memorized .exit)) ⌝ }
 {
     days::count_event(days, config.learn_span, new, d, x.recalled);
-    days::pay_on(sums, d, x.cost);
-    hold_card(sums, config, m, curve, card, d);
+    days::add_cost(costs, d, x.cost);
+    hold_card(memorized, config, m, curve, card, d);
 }
 
 fn write_card(
@@ -241,7 +241,8 @@ fn event_step(
     counts: &mut [[u32; 2]],
     rows: &mut [[u64; 2]],
     days: &mut [[u32; 4]],
-    sums: &mut [[f32; 2]],
+    costs: &mut [f32],
+    memorized: &mut [f32],
     due: &mut [u32],
     keys: &mut [[u32; 2]],
     intervals: &mut [f32],
@@ -255,9 +256,9 @@ fn event_step(
     draws: u64,
 ) -> Outcome
     ensures { λ r. ⌜ (
-        let before = state (lent (now (cards .entry)) (now (counts .entry)) (now (rows .entry)) (now (days .entry)) (now (sums .entry)) (now (due .entry)) (now (keys .entry)) (now (intervals .entry))) len draws in
+        let before = state (lent (now (cards .entry)) (now (counts .entry)) (now (rows .entry)) (now (days .entry)) (now (costs .entry)) (now (memorized .entry)) (now (due .entry)) (now (keys .entry)) (now (intervals .entry))) len draws in
         Turned (eventOn (rulesOf config (kept m)) before c card new d) before r
-        (lent (now (cards .exit)) (now (counts .exit)) (now (rows .exit)) (now (days .exit)) (now (sums .exit)) (now (due .exit)) (now (keys .exit)) (now (intervals .exit)))) ⌝ }
+        (lent (now (cards .exit)) (now (counts .exit)) (now (rows .exit)) (now (days .exit)) (now (costs .exit)) (now (memorized .exit)) (now (due .exit)) (now (keys .exit)) (now (intervals .exit)))) ⌝ }
 {
     let curve = m.curve(card.stability);
     let drawn = event_of(config, m, curve, card, new, d, draws);
@@ -278,7 +279,7 @@ fn event_step(
     let later = event_card(card, new, x, d, intervals::interval_in(slot));
     // ---- from here on it writes
     write_card(cards, counts, rows, c, later, len);
-    write_days(days, sums, config, m, curve, card, new, d, x);
+    write_days(days, costs, memorized, config, m, curve, card, new, d, x);
     days::add_due(due, config.learn_span, cards::day_of(later.due));
     intervals::enter_slot(keys, intervals, slot);
     Outcome::Took(len, x.draws)
@@ -289,7 +290,8 @@ pub(crate) fn turn(
     counts: &mut [[u32; 2]],
     rows: &mut [[u64; 2]],
     days: &mut [[u32; 4]],
-    sums: &mut [[f32; 2]],
+    costs: &mut [f32],
+    memorized: &mut [f32],
     due: &mut [u32],
     keys: &mut [[u32; 2]],
     intervals: &mut [f32],
@@ -299,9 +301,9 @@ pub(crate) fn turn(
     draws: u64,
 ) -> Outcome
     ensures { λ r. ⌜ (
-        let before = state (lent (now (cards .entry)) (now (counts .entry)) (now (rows .entry)) (now (days .entry)) (now (sums .entry)) (now (due .entry)) (now (keys .entry)) (now (intervals .entry))) len draws in
+        let before = state (lent (now (cards .entry)) (now (counts .entry)) (now (rows .entry)) (now (days .entry)) (now (costs .entry)) (now (memorized .entry)) (now (due .entry)) (now (keys .entry)) (now (intervals .entry))) len draws in
         Turned (next (rulesOf config (kept m)) before) before r
-        (lent (now (cards .exit)) (now (counts .exit)) (now (rows .exit)) (now (days .exit)) (now (sums .exit)) (now (due .exit)) (now (keys .exit)) (now (intervals .exit)))) ⌝ }
+        (lent (now (cards .exit)) (now (counts .exit)) (now (rows .exit)) (now (days .exit)) (now (costs .exit)) (now (memorized .exit)) (now (due .exit)) (now (keys .exit)) (now (intervals .exit)))) ⌝ }
 {
     if len == 0 {
         return Outcome::Stopped(Stop::Ended);
@@ -312,17 +314,18 @@ pub(crate) fn turn(
     let d = cards::day_of(card.due);
     let learned = days::learned_at(days, d);
     let reviewed = days::reviewed_at(days, d);
-    let cost = days::cost_at(sums, d);
+    let cost = days::cost_at(costs, d);
     let choice = cards::decide(config, card, learned, reviewed, cost);
     match choice {
-        Choice::Retire => retire_step(sums, rows, config, m, card, len, draws),
+        Choice::Retire => retire_step(memorized, rows, config, m, card, len, draws),
         Choice::PutOff => put_off_step(cards, rows, due, config.learn_span, c, card, d, len, draws),
         Choice::Learn => event_step(
             cards,
             counts,
             rows,
             days,
-            sums,
+            costs,
+            memorized,
             due,
             keys,
             intervals,
@@ -340,7 +343,8 @@ pub(crate) fn turn(
             counts,
             rows,
             days,
-            sums,
+            costs,
+            memorized,
             due,
             keys,
             intervals,

@@ -18,7 +18,7 @@ use Rattle.simulation.proofs.entry.FirstWhere.{none-before}
 use Rattle.simulation.specs.Entry.{Inputs, firstWhere, notFinite, notOk, failIf, checkParameters, listsOk, checkFirst, checked}
 use Rattle.simulation.proofs.Logic.{not-one, both, neither, unnot}
 
-pub record Accepted (i : Inputs) (s : State) : Type 0 where
+pub record Accepted {C : Type 0} (i : Inputs) (s : State C) : Type 0 where
   pub parameters-long : 34 ≤ length (i .parameters)
   pub deck-some : 0 < i .config .«deck_size»
   pub deck-most : i .config .«deck_size» ≤ 65536
@@ -28,11 +28,13 @@ pub record Accepted (i : Inputs) (s : State) : Type 0 where
   pub retention-ok : isFinite (i .retention) ≡ true
   pub existing-even : length (i .existing) ≡ length (i .existing-counts)
   pub table-even : length (s .table .keys) ≡ length (s .table .intervals)
+  pub cards-even : length (s .cards) ≡ length (s .counts)
   pub cards-long : i .config .«deck_size» ≤ length (s .cards)
   pub counts-long : i .config .«deck_size» ≤ length (s .counts)
   pub queue-long : i .config .«deck_size» ≤ length (s .queue .rows)
   pub days-long : i .config .«learn_span» ≤ length (s .days)
   pub costs-long : i .config .«learn_span» ≤ length (s .costs)
+  pub memorized-long : i .config .«learn_span» ≤ length (s .memorized)
   pub due-long : dueDays (i .config .«learn_span») ≤ length (s .due)
   pub existing-few : length (i .existing) ≤ i .config .«deck_size»
   pub cards-ok : (j : ℕ) → j < length (i .existing) → isKept (cardAt (i .existing) (i .existing-counts) j) ≡ true → cardOk (cardAt (i .existing) (i .existing-counts) j) ≡ true
@@ -45,7 +47,22 @@ kept-ok : (a b : Bool) → (a && not b) ≡ false → a ≡ true → b ≡ true
 kept-ok true b e k = unnot b e
 kept-ok false b e k = absurd (false≢true k)
 
-pub accepted : (i : Inputs) (s : State) → checked i s ≡ check.Passed → Accepted i s
+-- what refusal 6 asks, written out
+abbrev lists-test : {C : Type 0} → Inputs → State C → Bool
+lists-test i s =
+    let deck = i .config .«deck_size» in
+    let span = i .config .«learn_span» in
+    eqb (length (i .existing)) (length (i .existing-counts))
+    && (eqb (length (s .table .keys)) (length (s .table .intervals))
+    && (eqb (length (s .cards)) (length (s .counts))
+    && (leb deck (length (s .cards))
+    && (leb deck (length (s .queue .rows))
+    && (leb span (length (s .days))
+    && (leb span (length (s .costs))
+    && (leb span (length (s .memorized))
+    && leb (dueDays span) (length (s .due)))))))))
+
+pub accepted : {C : Type 0} (i : Inputs) (s : State C) → checked i s ≡ check.Passed → Accepted i s
 unfolding checked checkParameters checkFirst listsOk
 accepted i s e =
     let w = i .parameters in
@@ -56,7 +73,7 @@ accepted i s e =
     let p₃ = passes (eqb (g .«deck_size») 0 || ltb 65536 (g .«deck_size»)) _ _ (p₂ .1) in
     let p₄ = passes (eqb (g .«learn_span») 0 || ltb 36500 (g .«learn_span»)) _ _ (p₃ .1) in
     let p₅ = passes (not (configOk g && isFinite (i .retention))) _ _ (p₄ .1) in
-    let p₆ = passes (not (eqb n (length (i .existing-counts)) && (eqb (length (s .table .keys)) (length (s .table .intervals)) && (leb (g .«deck_size») (length (s .cards)) && (leb (g .«deck_size») (length (s .counts)) && (leb (g .«deck_size») (length (s .queue .rows)) && (leb (g .«learn_span») (length (s .days)) && (leb (g .«learn_span») (length (s .costs)) && leb (dueDays (g .«learn_span»)) (length (s .due)))))))))) _ _ (p₅ .1) in
+    let p₆ = passes (not (lists-test i s)) _ _ (p₅ .1) in
     let p₇ = passes (ltb (g .«deck_size») n) _ _ (p₆ .1) in
     let p₈ = passes (ltb (firstWhere (notOk (i .existing) (i .existing-counts)) n 0) n) _ _ (p₇ .1) in
     let d = neither (eqb (g .«deck_size») 0) (ltb 65536 (g .«deck_size»)) (p₃ .0) in
@@ -64,11 +81,13 @@ accepted i s e =
     let c = both (configOk g) (isFinite (i .retention)) (unnot _ (p₅ .0)) in
     let l₁ = both (eqb n (length (i .existing-counts))) _ (unnot _ (p₆ .0)) in
     let l₂ = both (eqb (length (s .table .keys)) (length (s .table .intervals))) _ (l₁ .1) in
-    let l₃ = both (leb (g .«deck_size») (length (s .cards))) _ (l₂ .1) in
-    let l₄ = both (leb (g .«deck_size») (length (s .counts))) _ (l₃ .1) in
+    let l₃ = both (eqb (length (s .cards)) (length (s .counts))) _ (l₂ .1) in
+    let l₄ = both (leb (g .«deck_size») (length (s .cards))) _ (l₃ .1) in
     let l₅ = both (leb (g .«deck_size») (length (s .queue .rows))) _ (l₄ .1) in
     let l₆ = both (leb (g .«learn_span») (length (s .days))) _ (l₅ .1) in
     let l₇ = both (leb (g .«learn_span») (length (s .costs))) _ (l₆ .1) in
+    let l₈ = both (leb (g .«learn_span») (length (s .memorized))) _ (l₇ .1) in
+    let even = eqb-true (length (s .cards)) (length (s .counts)) (l₃ .0) in
     let nd = eqb-false (g .«deck_size») 0 (d .0) in
     let nt = eqb-false (g .«learn_span») 0 (t .0) in
     record {
@@ -81,12 +100,14 @@ accepted i s e =
       retention-ok = c .1;
       existing-even = eqb-true n (length (i .existing-counts)) (l₁ .0);
       table-even = eqb-true (length (s .table .keys)) (length (s .table .intervals)) (l₂ .0);
-      cards-long = leb-true (g .«deck_size») (length (s .cards)) (l₃ .0);
-      counts-long = leb-true (g .«deck_size») (length (s .counts)) (l₄ .0);
+      cards-even = even;
+      cards-long = leb-true (g .«deck_size») (length (s .cards)) (l₄ .0);
+      counts-long = omega (arith, even, leb-true (g .«deck_size») (length (s .cards)) (l₄ .0));
       queue-long = leb-true (g .«deck_size») (length (s .queue .rows)) (l₅ .0);
       days-long = leb-true (g .«learn_span») (length (s .days)) (l₆ .0);
       costs-long = leb-true (g .«learn_span») (length (s .costs)) (l₇ .0);
-      due-long = leb-true (dueDays (g .«learn_span»)) (length (s .due)) (l₇ .1);
+      due-long = leb-true (dueDays (g .«learn_span»)) (length (s .due)) (l₈ .1);
+      memorized-long = leb-true (g .«learn_span») (length (s .memorized)) (l₈ .0);
       existing-few = ltb-false (g .«deck_size») n (p₇ .0);
       cards-ok = λ j l k. kept-ok (isKept (cardAt (i .existing) (i .existing-counts) j)) (cardOk (cardAt (i .existing) (i .existing-counts) j))
           (none-before (notOk (i .existing) (i .existing-counts)) n 0 j (let h = ltb-false (firstWhere (notOk (i .existing) (i .existing-counts)) n 0) n (p₈ .0) in omega (arith, h)) (omega arith) (omega arith)) k;

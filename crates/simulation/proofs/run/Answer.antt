@@ -15,21 +15,21 @@ use Rattle.simulation.proofs.entry.Accepted.{accepted}
 use Rattle.simulation.proofs.set_up.Invariant.{set-up-few}
 
 -- ---- the answer of a run from that state
-module _ (i : Inputs) (s : State) {s₁ : State} (up : s₁ ≡ setUp i s) where
+module _ {C : Type 0} (R : Rules C) (i : Inputs) (s : State C) {s₁ : State C} (up : s₁ ≡ setUp (R .costs .none) i s) where
   pub few-cards : checked i s ≡ check.Passed → (s₁ .queue .len ≤ 65536) × (i .config .«learn_span» ≤ 36500)
   few-cards e =
       let ok = accepted i s e in
-      let few = set-up-few i s ok in
-      let l : s₁ .queue .len ≡ setUp i s .queue .len = ap (λ (z : State). z .queue .len) up in
+      let few = set-up-few (R .costs) i s ok in
+      let l : s₁ .queue .len ≡ setUp (R .costs .none) i s .queue .len = ap (λ (z : State C). z .queue .len) up in
       (omega (arith, few, l, ok .deck-most), ok .span-most)
 
-  pub done-is : (R : Rules) {b : ℕ} {x : Reach} {l′ : Lent}
+  pub done-is : {b : ℕ} {x : Reach} {l′ : Lent C}
       → b ≡ bound R s₁
       → Ran R s₁ b x l′
-      → Done (finished R (setUp i s)) (answerOf (x .stop) (progress (x .turns) (s₁ .queue .len) (x .draws))) l′
+      → Done (finished R (setUp (R .costs .none) i s)) (answerOf (x .stop) (progress (x .turns) (s₁ .queue .len) (x .draws))) l′
   unfolding finished ran
-  done-is R {b = b} {x = x} {l′ = l′} eb r =
-      subst (λ (z : State). Done (finished R z) (answerOf (x .stop) (progress (x .turns) (s₁ .queue .len) (x .draws))) l′) up (go (subst (λ (z : ℕ). Ran R s₁ z x l′) eb r))
+  done-is {b = b} {x = x} {l′ = l′} eb r =
+      subst (λ (z : State C). Done (finished R z) (answerOf (x .stop) (progress (x .turns) (s₁ .queue .len) (x .draws))) l′) up (go (subst (λ (z : ℕ). Ran R s₁ z x l′) eb r))
     where
       go : Ran R s₁ (bound R s₁) x l′ → Done (finished R s₁) (answerOf (x .stop) (progress (x .turns) (s₁ .queue .len) (x .draws))) l′
       go r₁ = record { answer = rw (r₁ .stop-is, r₁ .turns, r₁ .draws); lists = r₁ .lists }

@@ -36,20 +36,20 @@ use Rattle.simulation.proofs.Logic.{not-one}
 use Rattle.simulation.proofs.turn.Calls.{event-taken}
 
 -- the same state but for the table, which holds the same and is as long or longer
-pub record Alike (s s′ : State) : Type 0 where
-  pub same : s′ ≡ withTable s (s′ .table)
+pub record Alike {C : Type 0} (s s′ : State C) : Type 0 where
+  pub same : s′ ≡ withTable (s′ .table) s
   pub twin : Twin (s .table) (s′ .table)
 
 abbrev pub IsEnd : Stop → Type 0
 IsEnd x = x ≡ stop.Ended
 
-module _ (R : Rules) (laws : Slots (R .model)) where
-  abbrev Follow : Next (Turn Drawn) State Stop → Next (Turn Drawn) State Stop → Type 0
+module _ {C : Type 0} (R : Rules C) (laws : Slots (R .model)) where
+  abbrev Follow : Next (Turn Drawn) (State C) Stop → Next (Turn Drawn) (State C) Stop → Type 0
   Follow = Follows Alike IsEnd
 
-  module _ (s : State) (t : Table) (w : Twin (s .table) t) where
-    abbrev s′ : State
-    s′ = withTable s t
+  module _ (s : State C) (t : Table) (w : Twin (s .table) t) where
+    abbrev s′ : State C
+    s′ = withTable t s
 
     -- the same interval from two slots, one for each table
     handled-alike : (c : ℕ) (k : Card) (new : Bool) (d : ℕ) (y : Memory) (x x′ : Slot) → intervalOf x ≡ intervalOf x′ → Twin (entered (s .table) x) (entered t x′) → Alike (afterEvent R s c k new d y x) (afterEvent R s′ c k new d y x′)
@@ -102,11 +102,11 @@ module _ (R : Rules) (laws : Slots (R .model)) where
 
         go : (b : Bool) → Follow (orElse b (stops stop.Ended) (turnOfCard R s c k d)) (orElse b (stops stop.Ended) (turnOfCard R s′ c k d))
         go true = λ z. refl
-        go false = act-follows c k d (choiceOf (R .span) (R .lapse-limit) (R .limits) d k (learnedAt (s .days) d) (reviewedAt (s .days) d) (costAt (s .costs) d))
+        go false = act-follows c k d (choiceOf (R .span) (R .lapse-limit) (R .limits) d k (learnedAt (s .days) d) (reviewedAt (s .days) d) (costAt (R .costs .none) (s .costs) d))
 
-  follows : (s s′ : State) → Alike s s′ → Follow (next R s) (next R s′)
+  follows : (s s′ : State C) → Alike s s′ → Follow (next R s) (next R s′)
   follows s s′ a = rw (a .same) (turn-follows s (s′ .table) (a .twin))
 
   -- THE LONGER TABLE: the same turns, and states that differ in the table alone
-  pub run-longer : (n : ℕ) (s s′ : State) → Alike s s′ → next R ((run (next R) n [] s) .state) ≡ stops stop.Ended → Same Alike (next R) (run (next R) n [] s) (run (next R) n [] s′) stop.Ended
+  pub run-longer : (n : ℕ) (s s′ : State C) → Alike s s′ → next R ((run (next R) n [] s) .state) ≡ stops stop.Ended → Same Alike (next R) (run (next R) n [] s) (run (next R) n [] s′) stop.Ended
   run-longer n s s′ a e = run-follows Alike IsEnd (next R) follows n [] [] refl s s′ a stop.Ended refl e

@@ -32,13 +32,13 @@ use Rattle.simulation.specs.Rules.{Rules}
 use Rattle.simulation.specs.Turn.{refuses, turnAs, afterPutOff, afterRetire, afterEvent, eventWithSlot, eventWithDraw, eventOn, orElse, act, turnOfCard, next}
 use Rattle.simulation.proofs.turn.Slots.{Slots}
 
-module _ (R : Rules) (laws : Slots (R .model)) where
+module _ {C : Type 0} (R : Rules C) (laws : Slots (R .model)) where
   -- what a turn leaves of the table
-  abbrev After : Next (Turn Drawn) State Stop → Type 0
+  abbrev After : Next (Turn Drawn) (State C) Stop → Type 0
   After (takes t s) = Sound (s .table)
   After (stops x) = Unit {0}
 
-  module _ (s : State) (ok : Sound (s .table)) where
+  module _ (s : State C) (ok : Sound (s .table)) where
     given : (c : ℕ) (k : Card) (new : Bool) (d : ℕ) (y : Memory) (x : Slot) → Sound (entered (s .table) x) → After (eventWithSlot R s c k new d y x)
     unfolding afterEvent
     given c k new d y slot.Full h = tt
@@ -81,14 +81,14 @@ module _ (R : Rules) (laws : Slots (R .model)) where
 
         go : (b : Bool) → After (orElse b (stops stop.Ended) (turnOfCard R s c k d))
         go true = tt
-        go false = act-after c k d (choiceOf (R .span) (R .lapse-limit) (R .limits) d k (learnedAt (s .days) d) (reviewedAt (s .days) d) (costAt (s .costs) d))
+        go false = act-after c k d (choiceOf (R .span) (R .lapse-limit) (R .limits) d k (learnedAt (s .days) d) (reviewedAt (s .days) d) (costAt (R .costs .none) (s .costs) d))
 
   -- after any number of turns
-  pub run-sound : (n : ℕ) (ts : List (Turn Drawn)) (s : State) → Sound (s .table) → Sound ((run (next R) n ts s) .state .table)
+  pub run-sound : (n : ℕ) (ts : List (Turn Drawn)) (s : State C) → Sound (s .table) → Sound ((run (next R) n ts s) .state .table)
   run-sound zero ts s ok = ok
   run-sound (suc n) ts s ok = go (next R s) refl (turn-after s ok) (λ t s′ h. run-sound n (t ∷ ts) s′ h)
     where
-      go : (x : Next (Turn Drawn) State Stop) → next R s ≡ x → After (next R s) → ((t : Turn Drawn) (s′ : State) → Sound (s′ .table) → Sound ((run (next R) n (t ∷ ts) s′) .state .table))
+      go : (x : Next (Turn Drawn) (State C) Stop) → next R s ≡ x → After (next R s) → ((t : Turn Drawn) (s′ : State C) → Sound (s′ .table) → Sound ((run (next R) n (t ∷ ts) s′) .state .table))
           → Sound ((run (next R) (suc n) ts s) .state .table)
       go (takes t s′) e h ih = rw (run-takes (next R) n ts s t s′ e) (ih t s′ (rw e at h))
       go (stops x) e h ih = rw (run-stops (next R) n ts s x e) ok

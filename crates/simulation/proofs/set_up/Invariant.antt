@@ -150,7 +150,7 @@ module _ (rows : List (List ℕ)) (lc ln : ℕ) where
       (join-here dated s k (at-length dated n s j) (omega arith) (omega arith) (omega arith) (omega arith) near most)
 
 -- ---- the existing cards
-module _ (i : Inputs) (s : State) (ok : Accepted i s) where
+module _ {C : Type 0} (b : CostRule Drawn C) (i : Inputs) (s : State C) (ok : Accepted i s) where
   abbrev rows : List (List ℕ)
   rows = s .queue .rows
 
@@ -266,8 +266,8 @@ module _ (i : Inputs) (s : State) (ok : Accepted i s) where
   row-at : (d : ℕ) → d < span → getD (filled (firstCounts i) span (s .days)) d [] ≡ firstCounts i
   row-at d h = filled-at (firstCounts i) [] span (s .days) d h (ok .days-long)
 
-  costs-at : (d : ℕ) → d < span → getD (filled (ofBits binary32 0) span (s .costs)) d nan ≡ ofBits binary32 0
-  costs-at d h = filled-at (ofBits binary32 0) nan span (s .costs) d h (ok .costs-long)
+  costs-at : (d : ℕ) → d < span → getD (filled (b .none) span (s .costs)) d (b .none) ≡ b .none
+  costs-at d h = filled-at (b .none) (b .none) span (s .costs) d h (ok .costs-long)
 
   -- every place of the emptied table is free
   all-free : (t : Table) (p : ℕ) → p < places (clearIn t) → freeAt (clearIn t) p ≡ true
@@ -277,21 +277,21 @@ module _ (i : Inputs) (s : State) (ok : Accepted i s) where
       getD-replicate (length (t .intervals)) p (ofBits binary32 0) nan (omega (arith, h, length-replicate (length (t .intervals)) (ofBits binary32 0))) in
       rw e
 
-  pub set-up-few : setUp i s .queue .len ≤ deck
+  pub set-up-few : setUp (b .none) i s .queue .len ≤ deck
   unfolding setUp
   set-up-few = omega (arith, len-is, all-joined .few)
 
-  pub set-up-start : (b : CostRule Drawn Float) → b .none ≡ ofBits binary32 0 → SetUp columns b span (known es ns (length es)) (setUp i s)
+  pub set-up-start : SetUp (columns (b .none)) b span (known es ns (length es)) (setUp (b .none) i s)
   unfolding setUp
-  set-up-start b none-is = record {
+  set-up-start = record {
     learned-none = λ d h. ap (λ (l : List ℕ). getD l 0 0) (row-at d h);
     reviewed-none = λ d h. ap (λ (l : List ℕ). getD l 1 0) (row-at d h);
     correct-none = λ d h. ap (λ (l : List ℕ). getD l 2 0) (row-at d h);
     introduced-known = λ d h. ap (λ (l : List ℕ). getD l 3 0) (row-at d h);
-    cost-none = λ d h. costs-at d h ∙ sym none-is;
+    cost-none = λ d h. costs-at d h;
   }
 
-  pub set-up-good : StateInvariant (setUp i s .queue .len) span (setUp i s)
+  pub set-up-good : StateInvariant (setUp (b .none) i s .queue .len) span (setUp (b .none) i s)
   unfolding setUp
   set-up-good =
       let j = all-joined .joining in
@@ -300,7 +300,7 @@ module _ (i : Inputs) (s : State) (ok : Accepted i s) where
           cards-long = omega (arith, len-is, all-joined .few, j .cards-are, ok .cards-long);
           counts-long = omega (arith, len-is, all-joined .few, j .counts-are, ok .counts-long);
           days-long = omega (arith, ok .days-long, filled-long (firstCounts i) span (s .days));
-          costs-long = omega (arith, ok .costs-long, filled-long (ofBits binary32 0) span (s .costs));
+          costs-long = omega (arith, ok .costs-long, filled-long (b .none) span (s .costs));
         };
         order = record {
           keyed = subst (λ (z : ℕ). Keyed z (keyIn (s₁ .cards)) (s₁ .queue)) (sym len-is) (j .fill .keyed);

@@ -1,16 +1,15 @@
 -- What the calls of set-up leave, put together over plain lists: the state of `setUp`.
 use mathlib.Core.Path.{_≡_, refl, sym, ap, _∙_}
-use mathlib.Core.List.{List, [], map}
+use mathlib.Core.List.{List, []}
 use Prim.Native.Nat.{ℕ, zero, suc}
-use lib.ListN.{length, getD, set, replicate}
-use lib.Ieee.{Float, nan, ofBits, binary32}
+use lib.ListN.{length, replicate}
+use lib.Ieee.{Float, ofBits, binary32}
 use Rattle.cards.specs.declared.SimulatorConfig.{SimulatorConfig}
 use Rattle.days.specs.Counts.{dayRow}
 use Rattle.days.specs.Due.{dueDays}
-use Rattle.days.proofs.Laws.{map-set}
 use Rattle.simulation.specs.State.{State, lent, state}
 use Rattle.simulation.specs.Entry.{Inputs, inputs}
-use Rattle.simulation.specs.SetUp.{Deck, deck, filled, joined, retain, known, create, newCards, emptied, dealt, firstSums, setUp}
+use Rattle.simulation.specs.SetUp.{Deck, deck, filled, joined, retain, known, create, newCards, emptied, dealt, setUp}
 
 -- ---- new cards change no due count
 withDue : Deck → List ℕ → Deck
@@ -21,27 +20,22 @@ unfolding create joined withDue
 create-due retention limit zero s due = refl
 create-due retention limit (suc n) s due = rw (create-due retention limit n s due)
 
--- ---- columns of filled rows are filled
-filled-column : (f : List Float → Float) (x : List Float) (n : ℕ) (l : List (List Float)) → map f (filled x n l) ≡ filled (f x) n (map f l)
-unfolding filled
-filled-column f x zero l = refl
-filled-column f x (suc n) l = map-set f (filled x n l) n x ∙ ap (λ (z : List Float). set z n (f x)) (filled-column f x n l)
-
 -- ---- the state that set-up leaves
 module _ (g : SimulatorConfig) (w : List Float) (retention : Float) (seed : ℕ) (es : List (List Float)) (ns : List (List ℕ))
-    (cards : List (List Float)) (counts rows days : List (List ℕ)) (sums : List (List Float)) (due : List ℕ) (keys : List (List ℕ)) (intervals : List Float)
+    (cards : List (List Float)) (counts rows days : List (List ℕ)) (costs memorized : List Float) (due : List ℕ) (keys : List (List ℕ)) (intervals : List Float)
     (n dd : ℕ) (en : n ≡ length es) (ed : dd ≡ dueDays (g .«learn_span»)) {due₁ : List ℕ} (e₁ : due₁ ≡ filled 0 dd due)
     {c₂ : List (List Float)} {n₂ r₂ : List (List ℕ)} {due₂ : List ℕ} {kept : ℕ} (e₂ : deck c₂ n₂ r₂ due₂ kept ≡ retain (g .«learn_span») es ns n (deck cards counts rows due₁ 0))
     {more : ℕ} (e₃ : more ≡ newCards g kept)
     {c₄ : List (List Float)} {n₄ r₄ : List (List ℕ)} {len : ℕ} (e₄ : deck c₄ n₄ r₄ [] len ≡ create retention (g .«learn_limit») more (deck c₂ n₂ r₂ [] kept))
     {k : ℕ} (ek : k ≡ known es ns n) {days′ : List (List ℕ)} (e₅ : days′ ≡ filled (dayRow 0 0 0 k) (g .«learn_span») days)
-    {sums′ : List (List Float)} (e₆ : sums′ ≡ filled firstSums (g .«learn_span») sums)
+    {costs′ : List Float} (e₆ : costs′ ≡ filled (ofBits binary32 0) (g .«learn_span») costs)
+    {memorized′ : List Float} (e₈ : memorized′ ≡ filled (ofBits binary32 0) (g .«learn_span») memorized)
     {intervals′ : List Float} (e₇ : intervals′ ≡ replicate (length intervals) (ofBits binary32 0)) where
   abbrev i : Inputs
   i = inputs g w retention seed es ns
 
-  abbrev s : State
-  s = state (lent cards counts rows days sums due keys intervals) 0 seed
+  abbrev s : State Float
+  s = state (lent cards counts rows days costs memorized due keys intervals) 0 seed
 
   with-due : deck c₄ n₄ r₄ due₂ len ≡ create retention (g .«learn_limit») more (deck c₂ n₂ r₂ due₂ kept)
   unfolding withDue
@@ -53,6 +47,6 @@ module _ (g : SimulatorConfig) (w : List Float) (retention : Float) (seed : ℕ)
       let a : deck c₂ n₂ r₂ due₂ kept ≡ retain (g .«learn_span») es ns (length es) (deck cards counts rows (filled 0 (dueDays (g .«learn_span»)) due) 0) = e₂ ∙ rw (e₁, en, ed) in
       with-due ∙ rw (e₃, ← a)
 
-  pub set-up-is : state (lent c₄ n₄ r₄ days′ sums′ due₂ keys intervals′) len seed ≡ setUp i s
+  pub set-up-is : state (lent c₄ n₄ r₄ days′ costs′ memorized′ due₂ keys intervals′) len seed ≡ setUp (ofBits binary32 0) i s
   unfolding setUp
-  set-up-is = rw (← dealt-is, e₅, ek, en, e₆, filled-column (λ (row : List Float). getD row 0 nan) firstSums (g .«learn_span») sums, filled-column (λ (row : List Float). getD row 1 nan) firstSums (g .«learn_span») sums, e₇)
+  set-up-is = rw (← dealt-is, e₅, ek, en, e₆, e₈, e₇)

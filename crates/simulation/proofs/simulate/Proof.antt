@@ -2,7 +2,6 @@
 use mathlib.Core.Path.{sym, _∙_}
 use Rattle.simulation.specs.State.{lent, state}
 use Rattle.simulation.specs.Entry.{inputs}
-use Rattle.simulation.proofs.run.Loop.{lists-same}
 use Rattle.simulation.proofs.Claims.{same-check, refused-is, accepted-is}
 use borrow.Author.Needs.{needs}
 use Rattle.simulation.proofs.simulate.Statement.{statement}
@@ -19,11 +18,12 @@ enum-told c = search needs
 
 start-requires : tie.Need-start-requires
 start-requires c κs =
-    let at-enum-told = c .before .before .before .before .before .before .before .before in
+    let at-enum-told = c .before .before .before .before .before .before .before .before .before in
     let at-check-entry = at-enum-told .before .before in
-    let a = at-check-entry .before .before .before .before .before .before .before .before .before .before .before .before .args in
+    let start = at-check-entry .before .before .before .before .before .before .before .before .before .before .before .before .before .before .before in
+    let a = start .args in
     let i = inputs (a .config) (a .parameters .now) (a .retention) (a .seed) (a .existing .now) (a .existing-counts .now) in
-    let s = state (lent (a .cards .now) (a .counts .now) (a .rows .now) (a .days .now) (a .sums .now) (a .due .now) (a .keys .now) (a .intervals .now)) 0 (a .seed) in
+    let s = state (lent (a .cards .now) (a .counts .now) (a .rows .now) (a .days .now) (a .costs .now) (a .memorized .now) (a .due .now) (a .keys .now) (a .intervals .now)) 0 (a .seed) in
     sym (same-check i s (at-check-entry .check-entry .ensures)) ∙ at-enum-told .enum-told .given .1
 
 same-length : tie.Need-same-length
@@ -50,17 +50,18 @@ same-length-7 c = search needs
 same-length-8 : tie.Need-same-length-8
 same-length-8 c = search needs
 
+same-length-9 : tie.Need-same-length-9
+same-length-9 c = search needs
+
 returns : tie.Need-returns
 returns c =
     let at-entry = c .before in
     let at-check-entry = at-entry .before .before in
-    let a = at-check-entry .before .before .before .before .before .before .before .before .before .before .before .before .args in
+    let start = at-check-entry .before .before .before .before .before .before .before .before .before .before .before .before .before .before .before in
+    let a = start .args in
     let i = inputs (a .config) (a .parameters .now) (a .retention) (a .seed) (a .existing .now) (a .existing-counts .now) in
-    let s = state (lent (a .cards .now) (a .counts .now) (a .rows .now) (a .days .now) (a .sums .now) (a .due .now) (a .keys .now) (a .intervals .now)) 0 (a .seed) in
-    refused-is i s _ (sym (same-check i s (at-check-entry .check-entry .ensures)) ∙ at-entry .entry .given .1) (lists-same (lent (a .cards .now) (a .counts .now) (a .rows .now) (a .days .now) (a .sums .now) (a .due .now) (a .keys .now) (a .intervals .now)) 0 (a .seed))
-
-same-length-9 : tie.Need-same-length-9
-same-length-9 c = search needs
+    let s = state (lent (a .cards .now) (a .counts .now) (a .rows .now) (a .days .now) (a .costs .now) (a .memorized .now) (a .due .now) (a .keys .now) (a .intervals .now)) 0 (a .seed) in
+    refused-is i s _ (sym (same-check i s (at-check-entry .check-entry .ensures)) ∙ at-entry .entry .given .1)
 
 same-length-10 : tie.Need-same-length-10
 same-length-10 c = search needs
@@ -83,14 +84,21 @@ same-length-15 c = search needs
 same-length-16 : tie.Need-same-length-16
 same-length-16 c = search needs
 
+same-length-17 : tie.Need-same-length-17
+same-length-17 c = search needs
+
+same-length-18 : tie.Need-same-length-18
+same-length-18 c = search needs
+
 returns-2 : tie.Need-returns-2
 returns-2 c =
-    let at-start = c .before .before .before .before .before .before .before .before .before .before in
-    let at-enum-told = at-start .before .before .before .before .before .before .before .before .before in
+    let at-start = c .before .before .before .before .before .before .before .before .before .before .before .before .before in
+    let at-enum-told = at-start .before .before .before .before .before .before .before .before .before .before in
     let at-check-entry = at-enum-told .before .before in
-    let a = at-check-entry .before .before .before .before .before .before .before .before .before .before .before .before .args in
+    let start = at-check-entry .before .before .before .before .before .before .before .before .before .before .before .before .before .before .before in
+    let a = start .args in
     let i = inputs (a .config) (a .parameters .now) (a .retention) (a .seed) (a .existing .now) (a .existing-counts .now) in
-    let s = state (lent (a .cards .now) (a .counts .now) (a .rows .now) (a .days .now) (a .sums .now) (a .due .now) (a .keys .now) (a .intervals .now)) 0 (a .seed) in
+    let s = state (lent (a .cards .now) (a .counts .now) (a .rows .now) (a .days .now) (a .costs .now) (a .memorized .now) (a .due .now) (a .keys .now) (a .intervals .now)) 0 (a .seed) in
     let e = sym (same-check i s (at-check-entry .check-entry .ensures)) ∙ at-enum-told .enum-told .given .1 in
     accepted-is i s e (at-start .start .ensures)
 
@@ -110,8 +118,8 @@ simulate-spec =
     same-length-6
     same-length-7
     same-length-8
-    returns
     same-length-9
+    returns
     same-length-10
     same-length-11
     same-length-12
@@ -119,4 +127,6 @@ simulate-spec =
     same-length-14
     same-length-15
     same-length-16
+    same-length-17
+    same-length-18
     returns-2)

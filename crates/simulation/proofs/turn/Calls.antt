@@ -18,7 +18,7 @@ use Rattle.cards.specs.Day.{dayOf, isNew}
 use Rattle.cards.specs.Cards.{cardAt}
 use Rattle.cards.specs.Choices.{choiceOf}
 use Rattle.days.specs.Counts.{learnedAt, reviewedAt}
-use Rattle.days.specs.Sums.{costColumn, costAt, payOn}
+use Rattle.days.specs.Sums.{costAt, addCost}
 use Rattle.days.specs.Due.{addDue, noneDue}
 use Rattle.events.proofs.Event as event-type
 use Rattle.events.specs.declared.Memory.{Memory}
@@ -27,17 +27,17 @@ use Rattle.events.specs.declared.Event.the-variants as event
 use Rattle.queue.specs.Queue.{queue, front, frontChanged}
 use Rattle.intervals.specs.declared.Slot.{Slot}
 use Rattle.intervals.specs.declared.Slot.the-variants as slot
-use Rattle.intervals.specs.Table.{table}
+use Rattle.intervals.specs.Table.{Table, table}
 use Rattle.intervals.specs.Schedule.{isFull, intervalOf, entered}
 use Rattle.simulation.specs.declared.Outcome.{Outcome}
 use Rattle.simulation.specs.declared.Outcome.the-variants as outcome
 use Rattle.simulation.specs.declared.Refusal.the-variants as refusal
 use Rattle.simulation.specs.declared.Stop.the-variants as stop
-use Rattle.simulation.specs.State.{State, Lent, Lists, lent, state, keyOf}
+use Rattle.simulation.specs.State.{State, Lent, lent, state, keyOf}
 use Rattle.simulation.specs.Rules.{Rules}
 use Rattle.simulation.specs.Turn.{refuses, turnAs, eventTurn, cardAfterEvent, afterRetire, afterPutOff, afterEvent, eventWithSlot, eventOn, orElse, act, next}
 use Rattle.simulation.specs.Steps.{Turned, PutOff, PutOffStep, RetireStep, DaysWritten, CardWritten}
-use Rattle.simulation.proofs.run.Loop.{lists-same}
+use Rattle.simulation.proofs.Lent.{same-lists}
 
 -- neither variant but the second
 pub not-happened : (e : Event) → OneOf (1 ∷ []) (tagOf event-type.the-type e) → e ≡ event.ChanceOutOfRange
@@ -59,7 +59,7 @@ put-off-done span c k d len draws cards rows due new b cards′ rows′ due′ e
     let x : noneDue due (isNew (k .«last_date»)) d ≡ false = rw (← en) (sym eb ∙ t) in
     record { refused = λ y. absurd (true≢false (sym y ∙ x)); done = λ y. (refl, p) }
 
-module _ (R : Rules) (r : State) (c : ℕ) (k : Card) (new : Bool) (d : ℕ) (y : Memory) where
+module _ {C : Type 0} (R : Rules C) (r : State C) (c : ℕ) (k : Card) (new : Bool) (d : ℕ) (y : Memory) where
   event-full : (t : Slot) → isFull t ≡ true → eventWithSlot R r c k new d y t ≡ refuses (refusal.TableFull c)
   event-full (slot.Keep v) e = absurd (false≢true e)
   event-full (slot.Enter p a b v) e = absurd (false≢true e)
@@ -70,13 +70,9 @@ module _ (R : Rules) (r : State) (c : ℕ) (k : Card) (new : Bool) (d : ℕ) (y 
   event-taken (slot.Enter p a b v) e = refl
   event-taken slot.Full e = absurd (true≢false e)
 
-module _ (R : Rules) (l : Lent) (len draws : ℕ) where
-  abbrev st : State
+module _ (R : Rules Float) (l : Lent Float) (len draws : ℕ) where
+  abbrev st : State Float
   st = state l len draws
-
-  -- a refusal leaves the lists
-  same : Lists st l
-  same = lists-same l len draws
 
   -- ---- an event
   module _ (c : ℕ) (k : Card) (new : Bool) (d : ℕ) where
@@ -84,7 +80,7 @@ module _ (R : Rules) (l : Lent) (len draws : ℕ) where
     unfolding eventOn
     chance-is e p q =
         let x : R .model .event (R .draw) k new d draws ≡ event.ChanceOutOfRange = sym p ∙ q in
-        rw x (record { outcome = refl; lists = same })
+        rw x (record { outcome = refl; lists = refl })
 
     module _ (e : Event) (x : Memory) (p : e ≡ R .model .event (R .draw) k new d draws) (q : e ≡ event.Happened x) (t : Slot) (z : t ≡ R .model .slot (table (l .keys) (l .intervals)) (x .stability) (k .«desired_retention»)) where
       handles : eventOn R st c k new d ≡ eventWithSlot R st c k new d x t
@@ -94,15 +90,15 @@ module _ (R : Rules) (l : Lent) (len draws : ℕ) where
           rw (y, z)
 
       pub full-is : (f : Bool) → f ≡ isFull t → f ≡ true → Turned (eventOn R st c k new d) st (outcome.Stopped (stop.Refused (refusal.TableFull c))) l
-      full-is f u y = rw (handles ∙ event-full R st c k new d x t (sym u ∙ y)) (record { outcome = refl; lists = same })
+      full-is f u y = rw (handles ∙ event-full R st c k new d x t (sym u ∙ y)) (record { outcome = refl; lists = refl })
 
       pub handled-is : (f : Bool) → f ≡ isFull t → f ≡ false
           → (v : Float) → v ≡ intervalOf t
           → (k′ : Card) → k′ ≡ cardAfterEvent k new x d v
           → (day : ℕ) → day ≡ dayOf (k′ .due)
-          → (l′ : Lent)
+          → (l′ : Lent Float)
           → CardWritten c k′ len (l .cards) (l .counts) (l .rows) (l′ .cards) (l′ .counts) (l′ .rows)
-          → DaysWritten R k new d x (l .days) (l .sums) (l′ .days) (l′ .sums)
+          → DaysWritten R k new d x (l .days) (l .costs) (l .memorized) (l′ .days) (l′ .costs) (l′ .memorized)
           → x .cost ≡ R .costs .cost (eventTurn R st c k new d x)
           → l′ .due ≡ addDue (R .span) (l .due) day
           → table (l′ .keys) (l′ .intervals) ≡ entered (table (l .keys) (l .intervals)) t
@@ -115,53 +111,53 @@ module _ (R : Rules) (l : Lent) (len draws : ℕ) where
           (rw (kk, q′)
           (record {
             outcome = refl;
-            lists = record {
+            lists = same-lists (record {
               cards-are = cw .cards-are;
               counts-are = cw .counts-are;
               rows-are = refl;
               days-are = dw .days-are;
-              costs-are = dw .sums-are .costs-are ∙ ap (λ (z : Float). payOn (R .costs .plus) (costColumn (l .sums)) d z) pw;
-              held-are = dw .sums-are .held-are;
+              costs-are = dw .costs-are ∙ ap (addCost (R .costs .none) (R .costs .plus) (l .costs) d) pw;
+              memorized-are = dw .memorized-are;
               due-are = du ∙ ap (addDue (R .span) (l .due)) ed;
-              table-is = tw;
-            };
+              keys-are = ap (λ (z : Table). z .keys) tw;
+              intervals-are = ap (λ (z : Table). z .intervals) tw;
+            });
           }))
 
   -- ---- the turn
   pub ended-is : len ≡ 0 → Turned (next R st) st (outcome.Stopped stop.Ended) l
   unfolding next
-  ended-is e = rw (eq-eqb len 0 e) (record { outcome = refl; lists = same })
+  ended-is e = rw (eq-eqb len 0 e) (record { outcome = refl; lists = refl })
 
   module _ (ne : len ≢ 0) (c : ℕ) (k : Card) (d m r : ℕ) (x : Float) (ch : Choice) (ec : c ≡ front (queue (l .rows) len)) (ek : k ≡ cardAt (l .cards) (l .counts) c) (ed : d ≡ dayOf (k .due))
-      (el : m ≡ learnedAt (l .days) d) (er : r ≡ reviewedAt (l .days) d) (ex : x ≡ costAt (costColumn (l .sums)) d) (eh : ch ≡ choiceOf (R .span) (R .lapse-limit) (R .limits) d k m r x) where
+      (el : m ≡ learnedAt (l .days) d) (er : r ≡ reviewedAt (l .days) d) (ex : x ≡ costAt (R .costs .none) (l .costs) d) (eh : ch ≡ choiceOf (R .span) (R .lapse-limit) (R .limits) d k m r x) where
     next-is : next R st ≡ act R st c k d ch
     unfolding next
     next-is = rw (ne-eqb len 0 ne, ← ec, ← ek, ← ed, ← el, ← er, ← ex, ← eh)
 
-    pub retired-is : (o : Outcome) (sums′ : List (List Float)) (rows′ : List (List ℕ)) → ch ≡ choice.Retire → RetireStep R k len draws (l .sums) (l .rows) o sums′ rows′
-        → Turned (next R st) st o (lent (l .cards) (l .counts) rows′ (l .days) sums′ (l .due) (l .keys) (l .intervals))
+    pub retired-is : (o : Outcome) (memorized′ : List Float) (rows′ : List (List ℕ)) → ch ≡ choice.Retire → RetireStep R k len draws (l .memorized) (l .rows) o memorized′ rows′
+        → Turned (next R st) st o (lent (l .cards) (l .counts) rows′ (l .days) (l .costs) memorized′ (l .due) (l .keys) (l .intervals))
     unfolding afterRetire
-    retired-is o sums′ rows′ e p =
+    retired-is o memorized′ rows′ e p =
         rw (next-is ∙ ap (act R st c k d) e)
         (record {
           outcome = p .outcome;
-          lists = record { cards-are = refl; counts-are = refl; rows-are = p .rows-are; days-are = refl; costs-are = p .sums-are .costs-are; held-are = p .sums-are .held-are; due-are = refl; table-is = refl };
+          lists = same-lists (record { cards-are = refl; counts-are = refl; rows-are = p .rows-are; days-are = refl; costs-are = refl; memorized-are = p .memorized-are; due-are = refl; keys-are = refl; intervals-are = refl });
         })
 
     pub put-off-is : (o : Outcome) (cards′ : List (List Float)) (rows′ : List (List ℕ)) (due′ : List ℕ) → ch ≡ choice.PutOff → PutOffStep (R .span) c k d len draws (l .cards) (l .rows) (l .due) o cards′ rows′ due′
-        → Turned (next R st) st o (lent cards′ (l .counts) rows′ (l .days) (l .sums) due′ (l .keys) (l .intervals))
+        → Turned (next R st) st o (lent cards′ (l .counts) rows′ (l .days) (l .costs) (l .memorized) due′ (l .keys) (l .intervals))
     unfolding afterPutOff
     put-off-is o cards′ rows′ due′ e p = rw (next-is ∙ ap (act R st c k d) e) (go (noneDue (l .due) (isNew (k .«last_date»)) d) refl)
       where
         go : (b : Bool) → noneDue (l .due) (isNew (k .«last_date»)) d ≡ b
-            → Turned (orElse b (refuses (refusal.DueCount c)) (takes (turnAs c d putOff) (afterPutOff R st c k d))) st o (lent cards′ (l .counts) rows′ (l .days) (l .sums) due′ (l .keys) (l .intervals))
+            → Turned (orElse b (refuses (refusal.DueCount c)) (takes (turnAs c d putOff) (afterPutOff R st c k d))) st o (lent cards′ (l .counts) rows′ (l .days) (l .costs) (l .memorized) due′ (l .keys) (l .intervals))
         go true y =
             let h = p .refused y in
-            record { outcome = h .0; lists = record { cards-are = h .1 .cards-are; counts-are = refl; rows-are = h .1 .rows-are; days-are = refl; costs-are = refl; held-are = refl; due-are = h .1 .due-are; table-is = refl } }
+            record { outcome = h .0; lists = rw (h .1 .cards-are, h .1 .rows-are, h .1 .due-are) }
         go false y =
             let h = p .done y in
-            rw (sym (h .1 .queue-is))
-            (record { outcome = h .0; lists = record { cards-are = h .1 .cards-are; counts-are = refl; rows-are = refl; days-are = refl; costs-are = refl; held-are = refl; due-are = h .1 .due-are; table-is = refl } })
+            rw (sym (h .1 .queue-is)) (record { outcome = h .0; lists = rw (h .1 .cards-are, h .1 .due-are) })
 
-    pub event-is : (new : Bool) (o : Outcome) (l′ : Lent) → act R st c k d ch ≡ eventOn R st c k new d → Turned (eventOn R st c k new d) st o l′ → Turned (next R st) st o l′
+    pub event-is : (new : Bool) (o : Outcome) (l′ : Lent Float) → act R st c k d ch ≡ eventOn R st c k new d → Turned (eventOn R st c k new d) st o l′ → Turned (next R st) st o l′
     event-is new o l′ e p = rw (next-is ∙ e) p

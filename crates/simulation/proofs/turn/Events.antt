@@ -23,8 +23,8 @@ use Rattle.cards.specs.Cards.{cardAt, noCounts, writeFloats, writeCounts, count
 use Rattle.cards.proofs.Basics.{getD-any}
 use Rattle.cards.proofs.Later.{day-later, day-bound}
 use Rattle.days.specs.Counts.{raised, learnedAt, reviewedAt, correctAt, introducedAt, learnOn, reviewOn, introduceFrom, countEvent}
-use Rattle.days.specs.Sums.{costAt, payOn}
-use Rattle.days.proofs.Laws.{raised-is, learn-long, learn-learned, learn-reviewed, learn-correct, learn-introduced, from-long, from-learned, from-reviewed, from-correct, from-introduced, review-long, review-learned, review-reviewed, review-introduced, review-correct, pay-long, pay-cost}
+use Rattle.days.specs.Sums.{costAt, addCost}
+use Rattle.days.proofs.Laws.{raised-is, learn-long, learn-learned, learn-reviewed, learn-correct, learn-introduced, from-long, from-learned, from-reviewed, from-correct, from-introduced, review-long, review-learned, review-reviewed, review-introduced, review-correct, cost-long, cost-added}
 use Rattle.events.specs.declared.Memory.{Memory}
 use Rattle.queue.specs.Queue.{front, frontChanged}
 use Rattle.queue.specs.Sound.{Keyed}
@@ -81,7 +81,7 @@ fair-entered t (slot.Enter q a b v) f h p l e = go (ℕ-discrete p q)
     go (yes x) = rw x (rw (value-same t q a b v (omega (arith, within, x))) f)
     go (no x) = rw (value-other t q a b v p x) (h p within (sym (free-other t q a b v p x) ∙ e))
 
-module _ (R : Rules) (cards : ℕ) (fine : RunBounds (R .span) cards) (ts : List (Turn Drawn)) (s : State) (good : StateInvariant cards (R .span) s) (some : 0 < s .queue .len)
+module _ {C : Type 0} (R : Rules C) (cards : ℕ) (fine : RunBounds (R .span) cards) (ts : List (Turn Drawn)) (s : State C) (good : StateInvariant cards (R .span) s) (some : 0 < s .queue .len)
     (new : Bool) (x : Memory) (t : Slot) (fair : IntervalInRange (intervalOf t)) (h : dayOf (cardIn s (front (s .queue)) .due) < R .span) where
   abbrev c : ℕ
   c = front (s .queue)
@@ -131,8 +131,12 @@ module _ (R : Rules) (cards : ℕ) (fine : RunBounds (R .span) cards) (ts : List
       at (yes q) = let b = day-bound d (intervalOf t) (omega (arith, h, fine .most)) fair in rw q (rw due-day (omega arith))
       at (no q) = omega (arith, else-day fs c k′ i q, good .order .near i l)
 
-  pays : (y : Float) (i : ℕ) → i < R .span → costAt (payOn (R .costs .plus) (s .costs) d y) i ≡ cond (eqb d i) (R .costs .plus (costAt (s .costs) i) y) (costAt (s .costs) i)
-  pays y i l = pay-cost (R .costs .plus) (s .costs) d i y (omega (arith, h, good .lengths .costs-long))
+  abbrev none : C
+  none = R .costs .none
+
+  pays : (y : C) (i : ℕ) → i < R .span
+      → costAt none (addCost none (R .costs .plus) (s .costs) d y) i ≡ cond (eqb d i) (R .costs .plus (costAt none (s .costs) i) y) (costAt none (s .costs) i)
+  pays y i l = cost-added none (R .costs .plus) (s .costs) d y i (omega (arith, h, good .lengths .costs-long))
 
   -- what is drawn
   abbrev rs : Drawn
@@ -169,7 +173,7 @@ module _ (R : Rules) (cards : ℕ) (fine : RunBounds (R .span) cards) (ts : List
 
   -- ---- A LEARNING
   module _ (en : newIn fs c ≡ true) (is : new ≡ true) (l-ok : learnedAt rows d < R .limits .learns d) (b-ok : R .limits .counted d ≡ true → learnedAt rows d + reviewedAt rows d < R .limits .reviews d)
-      (c-ok : R .limits .over d (costAt (s .costs) d) ≡ false) where
+      (c-ok : R .limits .over d (costAt (R .costs .none) (s .costs) d) ≡ false) where
     abbrev rows′ : List (List ℕ)
     rows′ = introduceFrom (learnOn rows d) (R .span - d) d
 
@@ -191,7 +195,7 @@ module _ (R : Rules) (cards : ℕ) (fine : RunBounds (R .span) cards) (ts : List
     unfolding cardAfterEvent
     same-lapses = lapses-now ∙ rw is lapses-then
 
-    pub step-learn : Step view columns (R .costs) (R .limits) cards (R .span) ts s (eventTurn R s c k true d x) (afterEvent R s c k true d x t)
+    pub step-learn : Step view (columns (R .costs .none)) (R .costs) (R .limits) cards (R .span) ts s (eventTurn R s c k true d x) (afterEvent R s c k true d x t)
     unfolding afterEvent countEvent cardAt
     step-learn = rw (← is) (record {
       moves = record {
@@ -224,7 +228,7 @@ module _ (R : Rules) (cards : ℕ) (fine : RunBounds (R .span) cards) (ts : List
         cards-long = omega (arith, good .lengths .cards-long, write-long fs c k′);
         counts-long = omega (arith, good .lengths .counts-long, counts-long (s .counts) c k′);
         days-long = omega (arith, good .lengths .days-long, from-long (learnOn rows d) (R .span - d) d, learn-long rows d);
-        costs-long = omega (arith, good .lengths .costs-long, pay-long (R .costs .plus) (s .costs) d (R .costs .cost (turnAs c d (learn rs))));
+        costs-long = omega (arith, good .lengths .costs-long, cost-long none (R .costs .plus) (s .costs) d (R .costs .cost (turnAs c d (learn rs))));
       };
       order = record {
         keyed = keyed′;
@@ -240,7 +244,7 @@ module _ (R : Rules) (cards : ℕ) (fine : RunBounds (R .span) cards) (ts : List
     })
 
   -- ---- A REVIEW
-  module _ (en : newIn fs c ≡ false) (is : new ≡ false) (r-ok : reviewedAt rows d < R .limits .reviews d) (c-ok : R .limits .over d (costAt (s .costs) d) ≡ false) where
+  module _ (en : newIn fs c ≡ false) (is : new ≡ false) (r-ok : reviewedAt rows d < R .limits .reviews d) (c-ok : R .limits .over d (costAt (R .costs .none) (s .costs) d) ≡ false) where
     abbrev rows″ : List (List ℕ)
     rows″ = reviewOn rows d (x .recalled)
 
@@ -261,7 +265,7 @@ module _ (R : Rules) (cards : ℕ) (fine : RunBounds (R .span) cards) (ts : List
     unfolding cardAfterEvent
     more-lapses = lapses-now ∙ rw is (lapsed (x .recalled) (k .lapses) (omega (arith, lapses-then-few, h, fine .most)) ∙ ap (λ (n : ℕ). n + bit (not (x .recalled))) lapses-then)
 
-    pub step-review : Step view columns (R .costs) (R .limits) cards (R .span) ts s (eventTurn R s c k false d x) (afterEvent R s c k false d x t)
+    pub step-review : Step view (columns (R .costs .none)) (R .costs) (R .limits) cards (R .span) ts s (eventTurn R s c k false d x) (afterEvent R s c k false d x t)
     unfolding afterEvent countEvent cardAt
     step-review = rw (← is) (record {
       moves = record {
@@ -298,7 +302,7 @@ module _ (R : Rules) (cards : ℕ) (fine : RunBounds (R .span) cards) (ts : List
         cards-long = omega (arith, good .lengths .cards-long, write-long fs c k′);
         counts-long = omega (arith, good .lengths .counts-long, counts-long (s .counts) c k′);
         days-long = omega (arith, good .lengths .days-long, review-long rows d (x .recalled));
-        costs-long = omega (arith, good .lengths .costs-long, pay-long (R .costs .plus) (s .costs) d (R .costs .cost (turnAs c d (review (x .recalled) rs))));
+        costs-long = omega (arith, good .lengths .costs-long, cost-long none (R .costs .plus) (s .costs) d (R .costs .cost (turnAs c d (review (x .recalled) rs))));
       };
       order = record {
         keyed = keyed′;

@@ -79,7 +79,7 @@ module _ (cards : List (List Float)) (c : ℕ) (k : Card) where
   pub own-key : c < length cards → keyIn (writeFloats cards c k) c ≡ keyOf k
   own-key h = rw (write-own h)
 
-module _ (R : Rules) (cards : ℕ) (fine : RunBounds (R .span) cards) (ts : List (Turn Drawn)) (s : State) (good : StateInvariant cards (R .span) s) (some : 0 < s .queue .len) where
+module _ {C : Type 0} (R : Rules C) (cards : ℕ) (fine : RunBounds (R .span) cards) (ts : List (Turn Drawn)) (s : State C) (good : StateInvariant cards (R .span) s) (some : 0 < s .queue .len) where
   abbrev c : ℕ
   c = front (s .queue)
 
@@ -92,8 +92,8 @@ module _ (R : Rules) (cards : ℕ) (fine : RunBounds (R .span) cards) (ts : List
   abbrev d : ℕ
   d = dayOf (k .due)
 
-  abbrev StepTo : Kind Drawn → State → Type 0
-  StepTo kind s′ = Step view columns (R .costs) (R .limits) cards (R .span) ts s (turnAs c d kind) s′
+  abbrev StepTo : Kind Drawn → State C → Type 0
+  StepTo kind s′ = Step view (columns (R .costs .none)) (R .costs) (R .limits) cards (R .span) ts s (turnAs c d kind) s′
 
   pub is-card : c < cards
   is-card = good .order .keyed .named 0 some
@@ -177,7 +177,7 @@ module _ (R : Rules) (cards : ℕ) (fine : RunBounds (R .span) cards) (ts : List
       later : d < dayIn fs′ c
       later = rw put-own-day (day-later d (ofBits binary32 0x3F80_0000) (omega (arith, in-span e, fine .most)) (one-in-range .least))
 
-      few : (x : ℕ) → x < cards → Dec (x ≡ c) → columns .lapses s x ≤ 4000000000 + min (dayIn fs′ x) (R .span)
+      few : (x : ℕ) → x < cards → Dec (x ≡ c) → columns (R .costs .none) .lapses s x ≤ 4000000000 + min (dayIn fs′ x) (R .span)
       few x l (yes q) = omega (arith, good .counts .lapses x l, later, ap (dayIn fs) q, ap (dayIn fs′) q)
       few x l (no q) = omega (arith, good .counts .lapses x l, else-day fs c k′ x q)
 

@@ -44,14 +44,14 @@ use Rattle.simulation.proofs.turn.Invariant.{in-span, step-put, good-pu
 use Rattle.simulation.proofs.turn.Events.{step-learn, good-learn, step-review, good-review}
 use Rattle.simulation.proofs.Logic.{or-left, or-right, and-right}
 
-module _ (R : Rules) (cards : ℕ) (fine : RunBounds (R .span) cards) (laws : Slots (R .model)) where
-  abbrev Steps : List (Turn Drawn) → State → Turn Drawn → State → Type 0
-  Steps = Step view columns (R .costs) (R .limits) cards (R .span)
+module _ {C : Type 0} (R : Rules C) (cards : ℕ) (fine : RunBounds (R .span) cards) (laws : Slots (R .model)) where
+  abbrev Steps : List (Turn Drawn) → State C → Turn Drawn → State C → Type 0
+  Steps = Step view (columns (R .costs .none)) (R .costs) (R .limits) cards (R .span)
 
-  abbrev Fit : State → Type 0
+  abbrev Fit : State C → Type 0
   Fit = StateInvariant cards (R .span)
 
-  module _ (ts : List (Turn Drawn)) (s : State) (good : Fit s) (some : 0 < s .queue .len) where
+  module _ (ts : List (Turn Drawn)) (s : State C) (good : Fit s) (some : 0 < s .queue .len) where
     abbrev c : ℕ
     c = front (s .queue)
 
@@ -67,8 +67,8 @@ module _ (R : Rules) (cards : ℕ) (fine : RunBounds (R .span) cards) (laws : Sl
     abbrev r : ℕ
     r = reviewedAt (s .days) d
 
-    abbrev x : Float
-    x = costAt (s .costs) d
+    abbrev x : C
+    x = costAt (R .costs .none) (s .costs) d
 
     -- an event that is not refused is a step, where it is one with any interval that is given
     law-slot : (new : Bool) (y : Memory) (t : Slot) → (isFull t ≡ false → IntervalInRange (intervalOf t))
@@ -143,7 +143,7 @@ module _ (R : Rules) (cards : ℕ) (fine : RunBounds (R .span) cards) (laws : Sl
     unfolding choiceOf
     law-turn = law-as (retires (R .span) (R .lapse-limit) k) (blocked (R .limits) d (isNew (k .«last_date»)) l r x) (isNew (k .«last_date»)) refl refl refl
 
-  pub law : (ts : List (Turn Drawn)) (s : State) → Fit s → Lawful Steps Fit ts s (next R s)
+  pub law : (ts : List (Turn Drawn)) (s : State C) → Fit s → Lawful Steps Fit ts s (next R s)
   unfolding next
   law ts s good = go (eqb (s .queue .len) 0) refl
     where
@@ -152,18 +152,18 @@ module _ (R : Rules) (cards : ℕ) (fine : RunBounds (R .span) cards) (laws : Sl
       go false e = let ne = eqb-false (s .queue .len) 0 e in law-turn ts s good (omega (arith, ne))
 
   -- DEMAND 3, of n turns from a state as set up
-  module _ (known : ℕ) (s₀ : State) (z : SetUp columns (R .costs) (R .span) known s₀) (good : Fit s₀) (n : ℕ) where
+  module _ (known : ℕ) (s₀ : State C) (z : SetUp (columns (R .costs .none)) (R .costs) (R .span) known s₀) (good : Fit s₀) (n : ℕ) where
     run-steps : Chain Steps s₀ ((run (next R) n [] s₀) .turns) ((run (next R) n [] s₀) .state)
     run-steps = run-chain (next R) Steps Fit law n start good
 
     pub turns-demand : Demand cards (R .span) (R .costs) (R .limits) ((run (next R) n [] s₀) .turns)
-    turns-demand = run-demand view columns (R .costs) (R .limits) cards (R .span) known z run-steps
+    turns-demand = run-demand view (columns (R .costs .none)) (R .costs) (R .limits) cards (R .span) known z run-steps
 
-    pub turns-rows : Rows (R .span) known (sumTo cards (columns .lapses s₀)) (sumTo cards (columns .lapses ((run (next R) n [] s₀) .state)))
-        (columns .learned ((run (next R) n [] s₀) .state)) (columns .reviewed ((run (next R) n [] s₀) .state)) (columns .correct ((run (next R) n [] s₀) .state)) (columns .introduced ((run (next R) n [] s₀) .state))
+    pub turns-rows : Rows (R .span) known (sumTo cards (columns (R .costs .none) .lapses s₀)) (sumTo cards (columns (R .costs .none) .lapses ((run (next R) n [] s₀) .state)))
+        (columns (R .costs .none) .learned ((run (next R) n [] s₀) .state)) (columns (R .costs .none) .reviewed ((run (next R) n [] s₀) .state)) (columns (R .costs .none) .correct ((run (next R) n [] s₀) .state)) (columns (R .costs .none) .introduced ((run (next R) n [] s₀) .state))
         ((run (next R) n [] s₀) .turns)
-    turns-rows = run-rows view columns (R .costs) (R .limits) cards (R .span) known z run-steps
+    turns-rows = run-rows view (columns (R .costs .none)) (R .costs) (R .limits) cards (R .span) known z run-steps
 
   -- the bound on turns never shows
-  pub ends : (s₀ : State) → Fit s₀ → (y : Stop) × (next R ((run (next R) (suc (cards * suc (R .span))) [] s₀) .state) ≡ stops y)
+  pub ends : (s₀ : State C) → Fit s₀ → (y : Stop) × (next R ((run (next R) (suc (cards * suc (R .span))) [] s₀) .state) ≡ stops y)
   ends s₀ good = run-ends (next R) Steps Fit law s₀ (cards * suc (R .span)) good (λ ts s ch. few-turns view cards (R .span) (chain-map (λ ts s t s′ y. y .moves) ch))

@@ -20,46 +20,57 @@ enum-told-2 c = search needs
 
 returns : tie.Need-returns
 unfolding checked
-returns c = parameters-fail (c .before .before .before .before .before .before .args .parameters .now) _ _ (c .before .before .check-parameters .ensures) (c .before .match .keys2)
+returns c =
+    let at-match = c .before in
+    let at-check-parameters = at-match .before in
+    let start = at-check-parameters .before .before .before .before .before .before in
+    parameters-fail (start .args .parameters .now) _ _ (at-check-parameters .check-parameters .ensures) (at-match .match .keys2)
 
 returns-2 : tie.Need-returns-2
 unfolding checked
-returns-2 c = let e : checkParameters (c .before .before .before .before .before .before .before .before .args .parameters .now) check.Passed ≡ check.Passed = sym (c .before .before .before .before .check-parameters .ensures) ∙ c .before .before .enum-told .given .1 in rw (parameters-pass, eq-eqb _ _ (c .if1 .taken))
+returns-2 c =
+    let at-enum-told = c .before .before in
+    let at-check-parameters = at-enum-told .before .before in
+    let start = at-check-parameters .before .before .before .before .before .before in
+    let e : checkParameters (start .args .parameters .now) check.Passed ≡ check.Passed = sym (at-check-parameters .check-parameters .ensures) ∙ at-enum-told .enum-told .given .1 in rw (parameters-pass, eq-eqb _ _ (c .if1 .taken))
 
 returns-3 : tie.Need-returns-3
 unfolding checked
 returns-3 c =
-    let at-enum-told = c .before .before .before .before in
+    let at-if1 = c .before .before in
+    let at-enum-told = at-if1 .before .before in
     let at-check-parameters = at-enum-told .before .before in
-    let start = at-check-parameters .before .before .before .before in
+    let start = at-check-parameters .before .before .before .before .before .before in
     let e : checkParameters (start .args .parameters .now) check.Passed ≡ check.Passed = sym (at-check-parameters .check-parameters .ensures) ∙
-    at-enum-told .enum-told .given .1 in rw (parameters-pass, ne-eqb _ _ (c .before .before .if1 .left), lt-ltb _ _ (c .if2 .taken))
+    at-enum-told .enum-told .given .1 in rw (parameters-pass, ne-eqb _ _ (at-if1 .if1 .left), lt-ltb _ _ (c .if2 .taken))
 
 returns-4 : tie.Need-returns-4
 unfolding checked
 returns-4 c =
-    let at-if1 = c .before .before .before .before in
+    let at-if2 = c .before .before in
+    let at-if1 = at-if2 .before .before in
     let at-enum-told = at-if1 .before .before in
     let at-check-parameters = at-enum-told .before .before in
-    let start = at-check-parameters .before .before .before .before in
+    let start = at-check-parameters .before .before .before .before .before .before in
     let e : checkParameters (start .args .parameters .now) check.Passed ≡ check.Passed = sym (at-check-parameters .check-parameters .ensures) ∙
     at-enum-told .enum-told .given .1 in rw
-    (parameters-pass, ne-eqb _ _ (at-if1 .if1 .left), le-ltb _ _ (c .before .before .if2 .left), eq-eqb _ _ (c .if3 .taken))
+    (parameters-pass, ne-eqb _ _ (at-if1 .if1 .left), le-ltb _ _ (at-if2 .if2 .left), eq-eqb _ _ (c .if3 .taken))
 
 returns-5 : tie.Need-returns-5
 unfolding checked
 returns-5 c =
-    let at-if2 = c .before .before .before .before in
+    let at-if3 = c .before .before in
+    let at-if2 = at-if3 .before .before in
     let at-if1 = at-if2 .before .before in
     let at-enum-told = at-if1 .before .before in
     let at-check-parameters = at-enum-told .before .before in
-    let start = at-check-parameters .before .before .before .before in
+    let start = at-check-parameters .before .before .before .before .before .before in
     let e : checkParameters (start .args .parameters .now) check.Passed ≡ check.Passed = sym (at-check-parameters .check-parameters .ensures) ∙
     at-enum-told .enum-told .given .1 in rw (
       parameters-pass,
       ne-eqb _ _ (at-if1 .if1 .left),
       le-ltb _ _ (at-if2 .if2 .left),
-      ne-eqb _ _ (c .before .before .if3 .left),
+      ne-eqb _ _ (at-if3 .if3 .left),
       lt-ltb _ _ (c .if4 .taken),
     )
 
@@ -69,15 +80,17 @@ config-ok-requires c κs = search needs
 returns-6 : tie.Need-returns-6
 unfolding checked
 returns-6 c =
-    let at-if3 = c .before .before .before .before in
+    let at-config-ok = c .before in
+    let at-if4 = at-config-ok .before in
+    let at-if3 = at-if4 .before .before in
     let at-if2 = at-if3 .before .before in
     let at-if1 = at-if2 .before .before in
     let at-enum-told = at-if1 .before .before in
     let at-check-parameters = at-enum-told .before .before in
-    let start = at-check-parameters .before .before .before .before in
+    let start = at-check-parameters .before .before .before .before .before .before in
     let e : checkParameters (start .args .parameters .now) check.Passed ≡ check.Passed = sym (at-check-parameters .check-parameters .ensures) ∙
     at-enum-told .enum-told .given .1 in rw
-    (parameters-pass, ne-eqb _ _ (at-if1 .if1 .left), le-ltb _ _ (at-if2 .if2 .left), ne-eqb _ _ (at-if3 .if3 .left), le-ltb _ _ (c .before .before .if4 .left), ← c .before .config-ok .ensures, not-true (c .before .config-ok .result) (c .if5 .taken))
+    (parameters-pass, ne-eqb _ _ (at-if1 .if1 .left), le-ltb _ _ (at-if2 .if2 .left), ne-eqb _ _ (at-if3 .if3 .left), le-ltb _ _ (at-if4 .if4 .left), ← at-config-ok .config-ok .ensures, not-true (at-config-ok .config-ok .result) (c .if5 .taken))
 
 is-finite-requires : tie.Need-is-finite-requires
 is-finite-requires c κs = search needs
@@ -85,25 +98,7 @@ is-finite-requires c κs = search needs
 returns-7 : tie.Need-returns-7
 unfolding checked
 returns-7 c =
-    let at-config-ok = c .before .before .before in
-    let at-if4 = at-config-ok .before in
-    let at-if3 = at-if4 .before .before in
-    let at-if2 = at-if3 .before .before in
-    let at-if1 = at-if2 .before .before in
-    let at-enum-told = at-if1 .before .before in
-    let at-check-parameters = at-enum-told .before .before in
-    let start = at-check-parameters .before .before .before .before in
-    let e : checkParameters (start .args .parameters .now) check.Passed ≡ check.Passed = sym (at-check-parameters .check-parameters .ensures) ∙
-    at-enum-told .enum-told .given .1 in rw
-    (parameters-pass, ne-eqb _ _ (at-if1 .if1 .left), le-ltb _ _ (at-if2 .if2 .left), ne-eqb _ _ (at-if3 .if3 .left), le-ltb _ _ (at-if4 .if4 .left), ← at-config-ok .config-ok .ensures, not-false (at-config-ok .config-ok .result) (c .before .before .if5 .left), ← c .before .is-finite .ensures, not-true (c .before .is-finite .result) (c .if6 .taken))
-
-lists-ok-requires : tie.Need-lists-ok-requires
-lists-ok-requires c κs = search needs
-
-returns-8 : tie.Need-returns-8
-unfolding checked
-returns-8 c =
-    let at-is-finite = c .before .before .before in
+    let at-is-finite = c .before in
     let at-if5 = at-is-finite .before in
     let at-config-ok = at-if5 .before in
     let at-if4 = at-config-ok .before in
@@ -112,18 +107,18 @@ returns-8 c =
     let at-if1 = at-if2 .before .before in
     let at-enum-told = at-if1 .before .before in
     let at-check-parameters = at-enum-told .before .before in
-    let start = at-check-parameters .before .before .before .before in
+    let start = at-check-parameters .before .before .before .before .before .before in
     let e : checkParameters (start .args .parameters .now) check.Passed ≡ check.Passed = sym (at-check-parameters .check-parameters .ensures) ∙
     at-enum-told .enum-told .given .1 in rw
-    (parameters-pass, ne-eqb _ _ (at-if1 .if1 .left), le-ltb _ _ (at-if2 .if2 .left), ne-eqb _ _ (at-if3 .if3 .left), le-ltb _ _ (at-if4 .if4 .left), ← at-config-ok .config-ok .ensures, not-false (at-config-ok .config-ok .result) (at-if5 .if5 .left), ← at-is-finite .is-finite .ensures, not-false (at-is-finite .is-finite .result) (c .before .before .if6 .left), ← c .before .lists-ok .ensures (start .args .parameters .now) (start .args .retention), not-true (c .before .lists-ok .result) (c .if7 .taken))
+    (parameters-pass, ne-eqb _ _ (at-if1 .if1 .left), le-ltb _ _ (at-if2 .if2 .left), ne-eqb _ _ (at-if3 .if3 .left), le-ltb _ _ (at-if4 .if4 .left), ← at-config-ok .config-ok .ensures, not-false (at-config-ok .config-ok .result) (at-if5 .if5 .left), ← at-is-finite .is-finite .ensures, not-true (at-is-finite .is-finite .result) (c .if6 .taken))
 
-cast-if8 : tie.Need-cast-if8
-cast-if8 c = search needs
+lists-ok-requires : tie.Need-lists-ok-requires
+lists-ok-requires c κs = search needs
 
-returns-9 : tie.Need-returns-9
+returns-8 : tie.Need-returns-8
 unfolding checked
-returns-9 c =
-    let at-lists-ok = c .before .before .before in
+returns-8 c =
+    let at-lists-ok = c .before in
     let at-if6 = at-lists-ok .before in
     let at-is-finite = at-if6 .before in
     let at-if5 = at-is-finite .before in
@@ -134,21 +129,18 @@ returns-9 c =
     let at-if1 = at-if2 .before .before in
     let at-enum-told = at-if1 .before .before in
     let at-check-parameters = at-enum-told .before .before in
-    let start = at-check-parameters .before .before .before .before in
+    let start = at-check-parameters .before .before .before .before .before .before in
     let e : checkParameters (start .args .parameters .now) check.Passed ≡ check.Passed = sym (at-check-parameters .check-parameters .ensures) ∙
     at-enum-told .enum-told .given .1 in rw
-    (parameters-pass, ne-eqb _ _ (at-if1 .if1 .left), le-ltb _ _ (at-if2 .if2 .left), ne-eqb _ _ (at-if3 .if3 .left), le-ltb _ _ (at-if4 .if4 .left), ← at-config-ok .config-ok .ensures, not-false (at-config-ok .config-ok .result) (at-if5 .if5 .left), ← at-is-finite .is-finite .ensures, not-false (at-is-finite .is-finite .result) (at-if6 .if6 .left), ← at-lists-ok .lists-ok .ensures (start .args .parameters .now) (start .args .retention), not-false (at-lists-ok .lists-ok .result) (c .before .before .if7 .left), lt-ltb _ _ (c .if8 .taken))
+    (parameters-pass, ne-eqb _ _ (at-if1 .if1 .left), le-ltb _ _ (at-if2 .if2 .left), ne-eqb _ _ (at-if3 .if3 .left), le-ltb _ _ (at-if4 .if4 .left), ← at-config-ok .config-ok .ensures, not-false (at-config-ok .config-ok .result) (at-if5 .if5 .left), ← at-is-finite .is-finite .ensures, not-false (at-is-finite .is-finite .result) (at-if6 .if6 .left), ← at-lists-ok .lists-ok .ensures (start .args .parameters .now) (start .args .retention), not-true (at-lists-ok .lists-ok .result) (c .if7 .taken))
 
-cast-check-cards : tie.Need-cast-check-cards
-cast-check-cards c = search needs
+cast-if8 : tie.Need-cast-if8
+cast-if8 c = search needs
 
-check-cards-requires : tie.Need-check-cards-requires
-check-cards-requires c κs = search needs
-
-returns-10 : tie.Need-returns-10
+returns-9 : tie.Need-returns-9
 unfolding checked
-returns-10 c =
-    let at-if7 = c .before .before .before in
+returns-9 c =
+    let at-if7 = c .before .before in
     let at-lists-ok = at-if7 .before in
     let at-if6 = at-lists-ok .before in
     let at-is-finite = at-if6 .before in
@@ -160,10 +152,37 @@ returns-10 c =
     let at-if1 = at-if2 .before .before in
     let at-enum-told = at-if1 .before .before in
     let at-check-parameters = at-enum-told .before .before in
-    let start = at-check-parameters .before .before .before .before in
+    let start = at-check-parameters .before .before .before .before .before .before in
     let e : checkParameters (start .args .parameters .now) check.Passed ≡ check.Passed = sym (at-check-parameters .check-parameters .ensures) ∙
     at-enum-told .enum-told .given .1 in rw
-    (parameters-pass, ne-eqb _ _ (at-if1 .if1 .left), le-ltb _ _ (at-if2 .if2 .left), ne-eqb _ _ (at-if3 .if3 .left), le-ltb _ _ (at-if4 .if4 .left), ← at-config-ok .config-ok .ensures, not-false (at-config-ok .config-ok .result) (at-if5 .if5 .left), ← at-is-finite .is-finite .ensures, not-false (at-is-finite .is-finite .result) (at-if6 .if6 .left), ← at-lists-ok .lists-ok .ensures (start .args .parameters .now) (start .args .retention), not-false (at-lists-ok .lists-ok .result) (at-if7 .if7 .left), le-ltb _ _ (c .before .if8 .left))
+    (parameters-pass, ne-eqb _ _ (at-if1 .if1 .left), le-ltb _ _ (at-if2 .if2 .left), ne-eqb _ _ (at-if3 .if3 .left), le-ltb _ _ (at-if4 .if4 .left), ← at-config-ok .config-ok .ensures, not-false (at-config-ok .config-ok .result) (at-if5 .if5 .left), ← at-is-finite .is-finite .ensures, not-false (at-is-finite .is-finite .result) (at-if6 .if6 .left), ← at-lists-ok .lists-ok .ensures (start .args .parameters .now) (start .args .retention), not-false (at-lists-ok .lists-ok .result) (at-if7 .if7 .left), lt-ltb _ _ (c .if8 .taken))
+
+cast-check-cards : tie.Need-cast-check-cards
+cast-check-cards c = search needs
+
+check-cards-requires : tie.Need-check-cards-requires
+check-cards-requires c κs = search needs
+
+returns-10 : tie.Need-returns-10
+unfolding checked
+returns-10 c =
+    let at-if8 = c .before in
+    let at-if7 = at-if8 .before .before in
+    let at-lists-ok = at-if7 .before in
+    let at-if6 = at-lists-ok .before in
+    let at-is-finite = at-if6 .before in
+    let at-if5 = at-is-finite .before in
+    let at-config-ok = at-if5 .before in
+    let at-if4 = at-config-ok .before in
+    let at-if3 = at-if4 .before .before in
+    let at-if2 = at-if3 .before .before in
+    let at-if1 = at-if2 .before .before in
+    let at-enum-told = at-if1 .before .before in
+    let at-check-parameters = at-enum-told .before .before in
+    let start = at-check-parameters .before .before .before .before .before .before in
+    let e : checkParameters (start .args .parameters .now) check.Passed ≡ check.Passed = sym (at-check-parameters .check-parameters .ensures) ∙
+    at-enum-told .enum-told .given .1 in rw
+    (parameters-pass, ne-eqb _ _ (at-if1 .if1 .left), le-ltb _ _ (at-if2 .if2 .left), ne-eqb _ _ (at-if3 .if3 .left), le-ltb _ _ (at-if4 .if4 .left), ← at-config-ok .config-ok .ensures, not-false (at-config-ok .config-ok .result) (at-if5 .if5 .left), ← at-is-finite .is-finite .ensures, not-false (at-is-finite .is-finite .result) (at-if6 .if6 .left), ← at-lists-ok .lists-ok .ensures (start .args .parameters .now) (start .args .retention), not-false (at-lists-ok .lists-ok .result) (at-if7 .if7 .left), le-ltb _ _ (at-if8 .if8 .left))
     (c .check-cards .ensures)
 
 pub check-entry-spec : {M : Type 1} → statement M

@@ -1,5 +1,5 @@
 -- The calls of set-up leave, one after the other, the parts of `setUp`; nothing of it reads the parameters, the seed or the table's keys.
-use mathlib.Core.Path.{refl}
+use mathlib.Core.Path.{refl, _∙_}
 use native.Mathlib.Omega.{arith}
 use Rattle.simulation.proofs.set_up.State.{set-up-is}
 use borrow.Author.Needs.{needs}
@@ -7,10 +7,10 @@ use Rattle.simulation.proofs.set_up.set_up.Statement.{statement}
 use Rattle.simulation.proofs.set_up.set_up.Tie as tie
 
 cast-n : tie.Need-cast-n
-cast-n c = omega (arith, c .before .before .pre .0)
+cast-n c = search needs
 
 add-first-due : tie.Need-add-first-due
-add-first-due c = omega (arith, c .before .before .before .pre .1)
+add-first-due c = search needs
 
 first-due-requires : tie.Need-first-due-requires
 first-due-requires c κs = search needs
@@ -30,8 +30,11 @@ known-requires c κs = search needs
 first-counts-requires : tie.Need-first-counts-requires
 first-counts-requires c κs = search needs
 
-first-sums-requires : tie.Need-first-sums-requires
-first-sums-requires c κs = search needs
+first-zeros-requires : tie.Need-first-zeros-requires
+first-zeros-requires c κs = search needs
+
+first-zeros-requires-2 : tie.Need-first-zeros-requires-2
+first-zeros-requires-2 c κs = search needs
 
 clear-requires : tie.Need-clear-requires
 clear-requires c κs = search needs
@@ -55,24 +58,31 @@ same-length-6 : tie.Need-same-length-6
 same-length-6 c = search needs
 
 same-length-7 : tie.Need-same-length-7
-same-length-7 c = search needs
+same-length-7 c =
+    let at-retain = c .before .before .before .before .before .before .before .before .before .before .before .before .before .before .before .before .before .before .before .before .before .before .before .before .before .before .before .before .before in
+    let at-first-due = at-retain .before .before .before .before .before .before .before in
+    at-retain .retain .kept .1 .1 .1 .0 ∙ at-first-due .first-due .kept .0
+
+same-length-8 : tie.Need-same-length-8
+same-length-8 c = search needs
 
 returns : tie.Need-returns
 returns c =
     let at-clear = c .before .before in
-    let at-first-sums = at-clear .before .before .before in
-    let at-first-counts = at-first-sums .before .before .before in
+    let at-first-zeros2 = at-clear .before .before .before .before in
+    let at-first-zeros = at-first-zeros2 .before .before .before .before in
+    let at-first-counts = at-first-zeros .before .before .before in
     let at-known = at-first-counts .before in
     let at-create = at-known .before .before .before .before .before in
     let at-new-cards = at-create .before .before .before .before in
     let at-retain = at-new-cards .before .before .before .before .before .before in
     let at-first-due = at-retain .before .before .before .before .before .before .before in
-    let start = at-first-due .before .before .before .before in
+    let start = at-first-due .before .before .before .before .before .before in
     let a = start .args in
     λ w seed keys. set-up-is (a .config) w (a .retention) seed (a .existing .now) (a .existing-counts .now)
-    (a .cards .now) (a .counts .now) (a .rows .now) (a .days .now) (a .sums .now) (a .due .now) keys (a .intervals .now) _ _ refl refl
+    (a .cards .now) (a .counts .now) (a .rows .now) (a .days .now) (a .costs .now) (a .memorized .now) (a .due .now) keys (a .intervals .now) _ _ refl refl
     (at-first-due .first-due .ensures) (at-retain .retain .ensures) (at-new-cards .new-cards .ensures) (at-create .create .ensures)
-    (at-known .known .ensures) (at-first-counts .first-counts .ensures) (at-first-sums .first-sums .ensures) (at-clear .clear .ensures)
+    (at-known .known .ensures) (at-first-counts .first-counts .ensures) (at-first-zeros .first-zeros .ensures) (at-first-zeros2 .first-zeros2 .ensures) (at-clear .clear .ensures)
 
 pub set-up-spec : {M : Type 1} → statement M
 set-up-spec =
@@ -86,7 +96,8 @@ set-up-spec =
     create-requires
     known-requires
     first-counts-requires
-    first-sums-requires
+    first-zeros-requires
+    first-zeros-requires-2
     clear-requires
     same-length
     same-length-2
@@ -95,4 +106,5 @@ set-up-spec =
     same-length-5
     same-length-6
     same-length-7
+    same-length-8
     returns)

@@ -15,7 +15,7 @@ curve-requires : tie.Need-curve-requires
 curve-requires c κs = search needs
 
 event-of-requires : tie.Need-event-of-requires
-event-of-requires c κs = c .curve .ensures
+event-of-requires c κs = search needs
 
 enum-known-drawn : tie.Need-enum-known-drawn
 enum-known-drawn c = search needs
@@ -25,11 +25,13 @@ enum-told c = search needs
 
 returns : tie.Need-returns
 returns c =
-    let start = c .before .before .before .before .before .before in
+    let at-match = c .before in
+    let at-event-of = at-match .before in
+    let start = at-event-of .before .before .before .before .before .before in
     chance-is (rulesOf (start .args .config) (kept (start .args .m))) (lent (start .args .cards .now) (start .args .counts .now)
-    (start .args .rows .now) (start .args .days .now) (start .args .sums .now) (start .args .due .now) (start .args .keys .now)
+    (start .args .rows .now) (start .args .days .now) (start .args .costs .now) (start .args .memorized .now) (start .args .due .now) (start .args .keys .now)
     (start .args .intervals .now)) (start .args .len) (start .args .draws) (start .args .c) (start .args .card) (start .args .new) (start .args .d) _
-    (c .before .before .event-of .ensures) (not-happened _ (c .before .match .keys2))
+    (at-event-of .event-of .ensures) (not-happened _ (at-match .match .keys2))
 
 scheduled-interval-requires : tie.Need-scheduled-interval-requires
 scheduled-interval-requires c κs = search needs
@@ -46,13 +48,15 @@ same-length-2 c = search needs
 returns-2 : tie.Need-returns-2
 unfolding slotOf
 returns-2 c =
-    let at-drawn = c .before .before .before .before .before .before in
+    let at-is-full = c .before in
+    let at-scheduled-interval = at-is-full .before in
+    let at-drawn = at-scheduled-interval .before .before .before .before in
     let at-event-of = at-drawn .before .before in
-    let start = at-event-of .before .before .before .before in
+    let start = at-event-of .before .before .before .before .before .before in
     full-is (rulesOf (start .args .config) (kept (start .args .m))) (lent (start .args .cards .now) (start .args .counts .now)
-    (start .args .rows .now) (start .args .days .now) (start .args .sums .now) (start .args .due .now) (start .args .keys .now)
+    (start .args .rows .now) (start .args .days .now) (start .args .costs .now) (start .args .memorized .now) (start .args .due .now) (start .args .keys .now)
     (start .args .intervals .now)) (start .args .len) (start .args .draws) (start .args .c) (start .args .card) (start .args .new) (start .args .d) _ _
-    (at-event-of .event-of .ensures) (at-drawn .drawn .given .1) _ (c .before .before .scheduled-interval .ensures) _ (c .before .is-full .ensures)
+    (at-event-of .event-of .ensures) (at-drawn .drawn .given .1) _ (at-scheduled-interval .scheduled-interval .ensures) _ (at-is-full .is-full .ensures)
     (c .if1 .taken)
 
 interval-in-requires : tie.Need-interval-in-requires
@@ -100,14 +104,17 @@ same-length-9 c = search needs
 same-length-10 : tie.Need-same-length-10
 same-length-10 c = search needs
 
+same-length-11 : tie.Need-same-length-11
+same-length-11 c = search needs
+
 returns-3 : tie.Need-returns-3
 unfolding slotOf
 returns-3 c =
     let at-enter-slot = c .before .before .before in
     let at-add-due = at-enter-slot .before .before .before .before .before in
     let at-day-of = at-add-due .before in
-    let at-write-days = at-day-of .before .before .before .before in
-    let at-write-card = at-write-days .before .before .before .before .before .before in
+    let at-write-days = at-day-of .before .before .before .before .before .before .before in
+    let at-write-card = at-write-days .before .before .before .before .before .before .before in
     let at-event-card = at-write-card .before .before .before .before in
     let at-interval-in = at-event-card .before in
     let at-if1 = at-interval-in .before in
@@ -115,9 +122,9 @@ returns-3 c =
     let at-scheduled-interval = at-is-full .before in
     let at-drawn = at-scheduled-interval .before .before .before .before in
     let at-event-of = at-drawn .before .before in
-    let start = at-event-of .before .before .before .before in
+    let start = at-event-of .before .before .before .before .before .before in
     handled-is (rulesOf (start .args .config) (kept (start .args .m))) (lent (start .args .cards .now) (start .args .counts .now)
-    (start .args .rows .now) (start .args .days .now) (start .args .sums .now) (start .args .due .now) (start .args .keys .now)
+    (start .args .rows .now) (start .args .days .now) (start .args .costs .now) (start .args .memorized .now) (start .args .due .now) (start .args .keys .now)
     (start .args .intervals .now)) (start .args .len) (start .args .draws) (start .args .c) (start .args .card) (start .args .new) (start .args .d) _ _
     (at-event-of .event-of .ensures) (at-drawn .drawn .given .1) _ (at-scheduled-interval .scheduled-interval .ensures) _ (at-is-full .is-full .ensures)
     (at-if1 .if1 .left) _ (at-interval-in .interval-in .ensures) _ (at-event-card .event-card .ensures) _ (at-day-of .day-of .ensures) _
@@ -153,4 +160,5 @@ event-step-spec =
     same-length-8
     same-length-9
     same-length-10
+    same-length-11
     returns-3)

@@ -1,5 +1,3 @@
--- `simulation::turn::hold_card` meets its contract.
-use mathlib.Core.Path.{refl}
 use Rattle.simulation.specs.Turn.{holdCard}
 use borrow.Author.Needs.{needs}
 use Rattle.simulation.proofs.turn.hold_card.Statement.{statement}
@@ -10,31 +8,28 @@ is-new-requires c κs = search needs
 
 returns : tie.Need-returns
 unfolding holdCard
-returns c = record { costs-are = refl; held-are = rw (← c .before .is-new .ensures, c .if1 .taken) }
+returns c =
+    let at-is-new = c .before in
+    rw (← at-is-new .is-new .ensures, c .if1 .taken)
 
 to-u32-requires : tie.Need-to-u32-requires
 to-u32-requires c κs = search needs
 
-hold-from-requires : tie.Need-hold-from-requires
-hold-from-requires c κs = search needs
+add-forgetting-curve-range-requires : tie.Need-add-forgetting-curve-range-requires
+add-forgetting-curve-range-requires c κs = search needs
 
 same-length : tie.Need-same-length
 same-length c = search needs
 
 returns-2 : tie.Need-returns-2
 unfolding holdCard
-returns-2 c = record {
-  costs-are = c .before .hold-from .ensures .costs-are;
-  held-are = rw (← c .before .before .before .before .before .is-new .ensures, c .before .before .before .before .if1 .left, c .before .hold-from .ensures .held-are, c .before .before .before .before .before .before .pre, c .before .before .before .to-u32 .ensures);
-}
+returns-2 c =
+    let at-add-forgetting-curve-range = c .before .before in
+    let at-to-u32 = at-add-forgetting-curve-range .before .before in
+    let at-if1 = at-to-u32 .before in
+    let at-is-new = at-if1 .before in
+    let start = at-is-new .before .before in
+    rw (← at-is-new .is-new .ensures, at-if1 .if1 .left, at-add-forgetting-curve-range .add-forgetting-curve-range .ensures, start .pre, at-to-u32 .to-u32 .ensures)
 
 pub hold-card-spec : {M : Type 1} → statement M
-hold-card-spec =
-    tie.close
-    (tie.spec
-    is-new-requires
-    returns
-    to-u32-requires
-    hold-from-requires
-    same-length
-    returns-2)
+hold-card-spec = tie.close (tie.spec is-new-requires returns to-u32-requires add-forgetting-curve-range-requires same-length returns-2)

@@ -10,7 +10,7 @@ curve-requires : tie.Need-curve-requires
 curve-requires c κs = search needs
 
 hold-card-requires : tie.Need-hold-card-requires
-hold-card-requires c κs = c .before .curve .ensures
+hold-card-requires c κs = search needs
 
 pop-requires : tie.Need-pop-requires
 pop-requires c κs = search needs
@@ -22,12 +22,17 @@ same-length-2 : tie.Need-same-length-2
 same-length-2 c = search needs
 
 returns : tie.Need-returns
-returns c = record {
-  outcome = ap (λ (q : Queue). outcome.Took (q .len) (c .before .before .before .before .before .before .before .args .draws)) (c .before .pop .ensures);
-  sums-are = c .before .before .before .before .hold-card .ensures;
-  rows-are = ap (λ (q : Queue). q .rows) (c .before .pop .ensures);
-}
+returns c =
+    let at-pop = c .before in
+    let at-hold-card = at-pop .before .before .before .before in
+    let start = at-hold-card .before .before .before .before in
+    record {
+      outcome = ap (λ (q : Queue). outcome.Took (q .len) (start .args .draws)) (at-pop .pop .ensures);
+      memorized-are = at-hold-card .hold-card .ensures;
+      rows-are = ap (λ (q : Queue). q .rows) (at-pop .pop .ensures);
+    }
 
 pub retire-step-spec : {M : Type 1} → statement M
 retire-step-spec =
-    tie.close (tie.spec curve-requires hold-card-requires pop-requires same-length same-length-2 returns)
+    tie.close
+    (tie.spec curve-requires hold-card-requires pop-requires same-length same-length-2 returns)
