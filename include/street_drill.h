@@ -90,7 +90,7 @@ void drill_simulate(const float *parameters, size_t parameters_len, const float 
                     const float (*learning_step_transitions)[12], const float (*relearning_step_transitions)[12],
                     const float (*state_rating_costs)[12], float desired_retention, uint64_t seed, float (*cards)[6],
                     size_t cards_len, uint32_t (*counts)[2], size_t counts_len, uint64_t (*queue)[2], size_t queue_len,
-                    uint32_t (*days)[4], size_t days_len, float (*sums)[2], size_t sums_len, uint32_t *due, size_t due_len,
+                    uint32_t (*days)[4], size_t days_len, float *costs, size_t costs_len, float *memorized, size_t memorized_len, uint32_t *due, size_t due_len,
                     uint32_t (*keys)[2], size_t keys_len, float *intervals, size_t intervals_len, uint64_t (*answer)[5]);
 
 #ifdef __cplusplus

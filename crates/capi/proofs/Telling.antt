@@ -1,13 +1,16 @@
--- A run's result told in numbers. Assumes nothing.
+-- A call's contract at a configuration that is given by other words.
 use Prim.Native.Nat.{ℕ}
 use mathlib.Core.List.{List}
-use mathlib.Core.Path.{_≡_, _∙_, ap, subst}
+use mathlib.Core.Path.{_≡_, subst}
+use lib.Ieee.{Float}
 use Rattle.cards.specs.declared.SimulatorConfig.{SimulatorConfig}
 use Rattle.simulation.specs.declared.Answer.{Answer}
-use Rattle.simulation.specs.State.{Lent}
-use Rattle.simulation.specs.Simulate.{Result, Done}
-use Rattle.capi.specs.Answer.{numbersOf, Told}
+use Rattle.simulation.specs.State.{State, Lent}
+use Rattle.simulation.specs.Entry.{Inputs}
+use Rattle.simulation.specs.Demands.{RunContract}
+use Rattle.capi.specs.Answer.{numbersOf, CallContract}
 
--- the result at a configuration that is given by other words
-pub told : {l : Lent} (f : SimulatorConfig → Result) {g h : SimulatorConfig} → g ≡ h → {a : Answer} {n : List ℕ} → n ≡ numbersOf a → Done (f g) a l → Told (f h) n l
-told {l} f e {n = n} en d = subst (λ (k : SimulatorConfig). Told (f k) n l) e (record { answer = en ∙ ap numbersOf (d .answer); lists = d .lists })
+pub told : (f : SimulatorConfig → Inputs) (s : State Float) {l : Lent Float} {g h : SimulatorConfig} → g ≡ h
+    → {a : Answer} {n : List ℕ} → n ≡ numbersOf a → RunContract (f g) s a l → CallContract (f h) s n l
+told f s {l = l} e {a = a} {n = n} en r =
+    subst (λ (k : SimulatorConfig). CallContract (f k) s n l) e (record { answer = a; numbers-are = en; run = r })

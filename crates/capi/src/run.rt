@@ -2,12 +2,10 @@
 use cards::SimulatorConfig;
 use simulation::Answer;
 use simulation::Progress;
-use simulation::Refusal;
-ghost use Rattle.simulation.specs.Refusals.{numberOf, secondOf};
+use simulation::refusals;
 ghost use Rattle.simulation.specs.State.{lent, state};
 ghost use Rattle.simulation.specs.Entry.{inputs};
-ghost use Rattle.simulation.specs.Simulate.{simulated};
-ghost use Rattle.capi.specs.Answer.{numbersFrom, numbersOf, Told};
+ghost use Rattle.capi.specs.Answer.{numbersFrom, numbersOf, CallContract};
 ghost use mathlib.Core.Path.{_≡_};
 ghost use Rattle.capi.specs.Config.{configOf};
 
@@ -48,44 +46,16 @@ fn wide(n: u32) -> u64
     n as u64
 }
 
-fn number_of(refusal: Refusal) -> u64
-    ensures { λ r. ⌜ r ≡ numberOf refusal ⌝ }
-{
-    match refusal {
-        Refusal::Parameters(_) => 1,
-        Refusal::DeckSize => 2,
-        Refusal::LearnSpan => 3,
-        Refusal::Config => 4,
-        Refusal::Lists => 6,
-        Refusal::TooManyCards => 2,
-        Refusal::ExistingCard(_) => 5,
-        Refusal::ChanceOutOfRange(_) => 7,
-        Refusal::TableFull(_) => 8,
-        Refusal::DueCount(_) => 9,
-    }
-}
-
-fn second_of(refusal: Refusal) -> u64
-    ensures { λ r. ⌜ r ≡ secondOf refusal ⌝ }
-{
-    match refusal {
-        Refusal::Parameters(i) => wide(i),
-        Refusal::DeckSize => 0,
-        Refusal::LearnSpan => 0,
-        Refusal::Config => 0,
-        Refusal::Lists => 0,
-        Refusal::TooManyCards => 1,
-        Refusal::ExistingCard(i) => wide(i),
-        Refusal::ChanceOutOfRange(c) => wide(c),
-        Refusal::TableFull(c) => wide(c),
-        Refusal::DueCount(c) => wide(c),
-    }
-}
-
-fn numbers_from(number: u64, second: u64, p: Progress) -> [u64; 5]
+fn numbers_from(number: u32, second: u32, p: Progress) -> [u64; 5]
     ensures { λ r. ⌜ r ≡ numbersFrom number second p ⌝ }
 {
-    [number, second, wide(p.turns), wide(p.cards), p.draws]
+    [
+        wide(number),
+        wide(second),
+        wide(p.turns),
+        wide(p.cards),
+        p.draws,
+    ]
 }
 
 fn numbers_of(answer: Answer) -> [u64; 5]
@@ -93,7 +63,7 @@ fn numbers_of(answer: Answer) -> [u64; 5]
 {
     match answer {
         Answer::Finished(p) => numbers_from(0, 0, p),
-        Answer::Refused(r, p) => numbers_from(number_of(r), second_of(r), p),
+        Answer::Refused(r, p) => numbers_from(refusals::number_of(r), refusals::second_of(r), p),
     }
 }
 
@@ -109,26 +79,27 @@ pub extern "C" fn drill_simulate(
     review: &[f32; 3],
     learning: &[f32; 12],
     relearning: &[f32; 12],
-    costs: &[f32; 12],
+    rating_costs: &[f32; 12],
     desired_retention: f32,
     seed: u64,
     cards: &mut [[f32; 6]],
     counts: &mut [[u32; 2]],
     queue: &mut [[u64; 2]],
     days: &mut [[u32; 4]],
-    sums: &mut [[f32; 2]],
+    costs: &mut [f32],
+    memorized: &mut [f32],
     due: &mut [u32],
     keys: &mut [[u32; 2]],
     intervals: &mut [f32],
     answer: &mut [u64; 5],
 )
-    ensures { λ _. ⌜ Told
-        (simulated
-        (inputs (configOf (now (numbers .entry)) «max_cost_perday» «max_ivl» (now (first .entry)) (now (review .entry)) (now (learning .entry)) (now (relearning .entry)) (now (costs .entry)))
-        (now (parameters .entry)) «desired_retention» seed (now (existing .entry)) (now («existing_counts» .entry)))
-        (state (lent (now (cards .entry)) (now (counts .entry)) (now (queue .entry)) (now (days .entry)) (now (sums .entry)) (now (due .entry)) (now (keys .entry)) (now (intervals .entry))) 0 seed))
+    ensures { λ _. ⌜ (
+        let g = configOf (now (numbers .entry)) «max_cost_perday» «max_ivl» (now (first .entry)) (now (review .entry)) (now (learning .entry)) (now (relearning .entry)) (now («rating_costs» .entry)) in
+        CallContract
+        (inputs g (now (parameters .entry)) «desired_retention» seed (now (existing .entry)) (now («existing_counts» .entry)))
+        (state (lent (now (cards .entry)) (now (counts .entry)) (now (queue .entry)) (now (days .entry)) (now (costs .entry)) (now (memorized .entry)) (now (due .entry)) (now (keys .entry)) (now (intervals .entry))) 0 seed)
         (now (answer .exit))
-        (lent (now (cards .exit)) (now (counts .exit)) (now (queue .exit)) (now (days .exit)) (now (sums .exit)) (now (due .exit)) (now (keys .exit)) (now (intervals .exit))) ⌝ }
+        (lent (now (cards .exit)) (now (counts .exit)) (now (queue .exit)) (now (days .exit)) (now (costs .exit)) (now (memorized .exit)) (now (due .exit)) (now (keys .exit)) (now (intervals .exit)))) ⌝ }
 {
     let config = config_of(
         numbers,
@@ -138,14 +109,15 @@ pub extern "C" fn drill_simulate(
         review,
         learning,
         relearning,
-        costs,
+        rating_costs,
     );
     let told = simulation::simulate(
         cards,
         counts,
         queue,
         days,
-        sums,
+        costs,
+        memorized,
         due,
         keys,
         intervals,

@@ -10,11 +10,11 @@ use lib.Dec.{ltb, eqb}
 use lib.ListN.{getD, set, length, length-set}
 use lib.Seq.{getD-set-same, getD-set-other, set-out}
 use Rattle.turns.specs.Sums.{bit}
-use Rattle.days.specs.Counts.{raised, learnedAt, reviewedAt, correctAt, introducedAt, learnOn, reviewOn, introduceOn, introduceFrom}
+use Rattle.days.specs.Counts.{saturatingSuc, learnedAt, reviewedAt, correctAt, introducedAt, addLearn, addReview, addIntroduced, addIntroducedFrom}
 use Rattle.days.specs.Sums.{costAt, addCost}
 
-pub raised-is : (n : ℕ) → n < 4294967295 → raised n ≡ n + 1
-unfolding raised
+pub raised-is : (n : ℕ) → n < 4294967295 → saturatingSuc n ≡ n + 1
+unfolding saturatingSuc
 raised-is n h = rw (lt-ltb n 4294967295 h)
 
 -- ---- a row written anew: of its numbers one stays, or is one more
@@ -28,7 +28,7 @@ module _ {A : Type 0} (rows : List (List A)) (d i j : ℕ) (row : List A) (x : A
       go (yes q) (yes r) = rw q (ap (λ (l : List A). getD l j x) (getD-set-same rows d row [] r) ∙ e)
       go (yes q) (no r) = rw (set-out rows d row (omega (arith, r)))
 
-pub raised-column : (rows : List (List ℕ)) (d i j : ℕ) (row : List ℕ) → d < length rows → getD (getD rows d []) j 0 < 4294967295 → getD row j 0 ≡ raised (getD (getD rows d []) j 0)
+pub raised-column : (rows : List (List ℕ)) (d i j : ℕ) (row : List ℕ) → d < length rows → getD (getD rows d []) j 0 < 4294967295 → getD row j 0 ≡ saturatingSuc (getD (getD rows d []) j 0)
     → getD (getD (set rows d row) i []) j 0 ≡ getD (getD rows i []) j 0 + bit (eqb d i)
 raised-column rows d i j row h u e = go (ℕ-discrete i d)
   where
@@ -42,115 +42,115 @@ raised-column rows d i j row h u e = go (ℕ-discrete i d)
 
 -- ---- a learning
 module _ (rows : List (List ℕ)) (d : ℕ) where
-  pub learn-long : length (learnOn rows d) ≡ length rows
-  unfolding learnOn
+  pub learn-long : length (addLearn rows d) ≡ length rows
+  unfolding addLearn
   learn-long = length-set rows d _
 
-  pub learn-learned : (i : ℕ) → d < length rows → learnedAt rows d < 4294967295 → learnedAt (learnOn rows d) i ≡ learnedAt rows i + bit (eqb d i)
-  unfolding learnOn
+  pub learn-learned : (i : ℕ) → d < length rows → learnedAt rows d < 4294967295 → learnedAt (addLearn rows d) i ≡ learnedAt rows i + bit (eqb d i)
+  unfolding addLearn
   learn-learned i h u = raised-column rows d i 0 _ h u refl
 
-  pub learn-reviewed : (i : ℕ) → reviewedAt (learnOn rows d) i ≡ reviewedAt rows i
-  unfolding learnOn
+  pub learn-reviewed : (i : ℕ) → reviewedAt (addLearn rows d) i ≡ reviewedAt rows i
+  unfolding addLearn
   learn-reviewed i = same-column rows d i 1 _ 0 refl
 
-  pub learn-correct : (i : ℕ) → correctAt (learnOn rows d) i ≡ correctAt rows i
-  unfolding learnOn
+  pub learn-correct : (i : ℕ) → correctAt (addLearn rows d) i ≡ correctAt rows i
+  unfolding addLearn
   learn-correct i = same-column rows d i 2 _ 0 refl
 
-  pub learn-introduced : (i : ℕ) → introducedAt (learnOn rows d) i ≡ introducedAt rows i
-  unfolding learnOn
+  pub learn-introduced : (i : ℕ) → introducedAt (addLearn rows d) i ≡ introducedAt rows i
+  unfolding addLearn
   learn-introduced i = same-column rows d i 3 _ 0 refl
 
-  intro-long : length (introduceOn rows d) ≡ length rows
-  unfolding introduceOn
+  intro-long : length (addIntroduced rows d) ≡ length rows
+  unfolding addIntroduced
   intro-long = length-set rows d _
 
-  intro-learned : (i : ℕ) → learnedAt (introduceOn rows d) i ≡ learnedAt rows i
-  unfolding introduceOn
+  intro-learned : (i : ℕ) → learnedAt (addIntroduced rows d) i ≡ learnedAt rows i
+  unfolding addIntroduced
   intro-learned i = same-column rows d i 0 _ 0 refl
 
-  intro-reviewed : (i : ℕ) → reviewedAt (introduceOn rows d) i ≡ reviewedAt rows i
-  unfolding introduceOn
+  intro-reviewed : (i : ℕ) → reviewedAt (addIntroduced rows d) i ≡ reviewedAt rows i
+  unfolding addIntroduced
   intro-reviewed i = same-column rows d i 1 _ 0 refl
 
-  intro-correct : (i : ℕ) → correctAt (introduceOn rows d) i ≡ correctAt rows i
-  unfolding introduceOn
+  intro-correct : (i : ℕ) → correctAt (addIntroduced rows d) i ≡ correctAt rows i
+  unfolding addIntroduced
   intro-correct i = same-column rows d i 2 _ 0 refl
 
-  intro-introduced : (i : ℕ) → d < length rows → introducedAt rows d < 4294967295 → introducedAt (introduceOn rows d) i ≡ introducedAt rows i + bit (eqb d i)
-  unfolding introduceOn
+  intro-introduced : (i : ℕ) → d < length rows → introducedAt rows d < 4294967295 → introducedAt (addIntroduced rows d) i ≡ introducedAt rows i + bit (eqb d i)
+  unfolding addIntroduced
   intro-introduced i h u = raised-column rows d i 3 _ h u refl
 
-pub from-long : (rows : List (List ℕ)) (m d : ℕ) → length (introduceFrom rows m d) ≡ length rows
-unfolding introduceFrom
+pub from-long : (rows : List (List ℕ)) (m d : ℕ) → length (addIntroducedFrom rows m d) ≡ length rows
+unfolding addIntroducedFrom
 from-long rows zero d = refl
-from-long rows (suc m) d = from-long (introduceOn rows d) m (d + 1) ∙ intro-long rows d
+from-long rows (suc m) d = from-long (addIntroduced rows d) m (d + 1) ∙ intro-long rows d
 
-pub from-learned : (rows : List (List ℕ)) (m d i : ℕ) → learnedAt (introduceFrom rows m d) i ≡ learnedAt rows i
-unfolding introduceFrom
+pub from-learned : (rows : List (List ℕ)) (m d i : ℕ) → learnedAt (addIntroducedFrom rows m d) i ≡ learnedAt rows i
+unfolding addIntroducedFrom
 from-learned rows zero d i = refl
-from-learned rows (suc m) d i = from-learned (introduceOn rows d) m (d + 1) i ∙ intro-learned rows d i
+from-learned rows (suc m) d i = from-learned (addIntroduced rows d) m (d + 1) i ∙ intro-learned rows d i
 
-pub from-reviewed : (rows : List (List ℕ)) (m d i : ℕ) → reviewedAt (introduceFrom rows m d) i ≡ reviewedAt rows i
-unfolding introduceFrom
+pub from-reviewed : (rows : List (List ℕ)) (m d i : ℕ) → reviewedAt (addIntroducedFrom rows m d) i ≡ reviewedAt rows i
+unfolding addIntroducedFrom
 from-reviewed rows zero d i = refl
-from-reviewed rows (suc m) d i = from-reviewed (introduceOn rows d) m (d + 1) i ∙ intro-reviewed rows d i
+from-reviewed rows (suc m) d i = from-reviewed (addIntroduced rows d) m (d + 1) i ∙ intro-reviewed rows d i
 
-pub from-correct : (rows : List (List ℕ)) (m d i : ℕ) → correctAt (introduceFrom rows m d) i ≡ correctAt rows i
-unfolding introduceFrom
+pub from-correct : (rows : List (List ℕ)) (m d i : ℕ) → correctAt (addIntroducedFrom rows m d) i ≡ correctAt rows i
+unfolding addIntroducedFrom
 from-correct rows zero d i = refl
-from-correct rows (suc m) d i = from-correct (introduceOn rows d) m (d + 1) i ∙ intro-correct rows d i
+from-correct rows (suc m) d i = from-correct (addIntroduced rows d) m (d + 1) i ∙ intro-correct rows d i
 
 -- one more on day d and every later one
 pub from-introduced : (m d : ℕ) (rows : List (List ℕ)) → ((i : ℕ) → d ≤ i → i < d + m → introducedAt rows i < 4294967295) → d + m ≤ length rows
-    → (i : ℕ) → i < d + m → introducedAt (introduceFrom rows m d) i ≡ introducedAt rows i + bit (ltb d (suc i))
-unfolding introduceFrom
+    → (i : ℕ) → i < d + m → introducedAt (addIntroducedFrom rows m d) i ≡ introducedAt rows i + bit (ltb d (suc i))
+unfolding addIntroducedFrom
 from-introduced zero d rows small long i h = omega (arith, ap bit (le-ltb d (suc i) (omega arith)))
 from-introduced (suc m) d rows small long i h =
-    go (ℕ-discrete i d) (from-introduced m (d + 1) (introduceOn rows d) less (omega (arith, intro-long rows d)) i (omega arith))
+    go (ℕ-discrete i d) (from-introduced m (d + 1) (addIntroduced rows d) less (omega (arith, intro-long rows d)) i (omega arith))
   where
-    at : (x : ℕ) → introducedAt (introduceOn rows d) x ≡ introducedAt rows x + bit (eqb d x)
+    at : (x : ℕ) → introducedAt (addIntroduced rows d) x ≡ introducedAt rows x + bit (eqb d x)
     at x = intro-introduced rows d x (omega arith) (small d (omega arith) (omega arith))
 
-    less : (x : ℕ) → d + 1 ≤ x → x < d + 1 + m → introducedAt (introduceOn rows d) x < 4294967295
+    less : (x : ℕ) → d + 1 ≤ x → x < d + 1 + m → introducedAt (addIntroduced rows d) x < 4294967295
     less x u v = omega (arith, at x, ap bit (ne-eqb d x (omega arith)), small x (omega arith) (omega arith))
 
-    go : Dec (i ≡ d) → introducedAt (introduceFrom (introduceOn rows d) m (d + 1)) i ≡ introducedAt (introduceOn rows d) i + bit (ltb (d + 1) (suc i))
-        → introducedAt (introduceFrom (introduceOn rows d) m (d + 1)) i ≡ introducedAt rows i + bit (ltb d (suc i))
+    go : Dec (i ≡ d) → introducedAt (addIntroducedFrom (addIntroduced rows d) m (d + 1)) i ≡ introducedAt (addIntroduced rows d) i + bit (ltb (d + 1) (suc i))
+        → introducedAt (addIntroducedFrom (addIntroduced rows d) m (d + 1)) i ≡ introducedAt rows i + bit (ltb d (suc i))
     go (yes e) ih = omega (arith, ih, at i, ap bit (eq-eqb d i (sym e)), ap bit (le-ltb (d + 1) (suc i) (omega arith)), ap bit (lt-ltb d (suc i) (omega arith)))
     go (no e) ih = by (decLt d i)
       where
-        same : introducedAt (introduceOn rows d) i ≡ introducedAt rows i
+        same : introducedAt (addIntroduced rows d) i ≡ introducedAt rows i
         same = omega (arith, at i, ap bit (ne-eqb d i (omega (arith, e))))
 
-        by : Dec (d < i) → introducedAt (introduceFrom (introduceOn rows d) m (d + 1)) i ≡ introducedAt rows i + bit (ltb d (suc i))
+        by : Dec (d < i) → introducedAt (addIntroducedFrom (addIntroduced rows d) m (d + 1)) i ≡ introducedAt rows i + bit (ltb d (suc i))
         by (yes u) = omega (arith, ih, same, ap bit (lt-ltb (d + 1) (suc i) (omega arith)), ap bit (lt-ltb d (suc i) (omega arith)))
         by (no u) = omega (arith, ih, same, ap bit (le-ltb (d + 1) (suc i) (omega (arith, u))), ap bit (le-ltb d (suc i) (omega (arith, u, e))))
 
 -- ---- a review
 module _ (rows : List (List ℕ)) (d : ℕ) (recalled : Bool) where
-  pub review-long : length (reviewOn rows d recalled) ≡ length rows
-  unfolding reviewOn
+  pub review-long : length (addReview rows d recalled) ≡ length rows
+  unfolding addReview
   review-long = length-set rows d _
 
-  pub review-learned : (i : ℕ) → learnedAt (reviewOn rows d recalled) i ≡ learnedAt rows i
-  unfolding reviewOn
+  pub review-learned : (i : ℕ) → learnedAt (addReview rows d recalled) i ≡ learnedAt rows i
+  unfolding addReview
   review-learned i = same-column rows d i 0 _ 0 refl
 
-  pub review-reviewed : (i : ℕ) → d < length rows → reviewedAt rows d < 4294967295 → reviewedAt (reviewOn rows d recalled) i ≡ reviewedAt rows i + bit (eqb d i)
-  unfolding reviewOn
+  pub review-reviewed : (i : ℕ) → d < length rows → reviewedAt rows d < 4294967295 → reviewedAt (addReview rows d recalled) i ≡ reviewedAt rows i + bit (eqb d i)
+  unfolding addReview
   review-reviewed i h u = raised-column rows d i 1 _ h u refl
 
-  pub review-introduced : (i : ℕ) → introducedAt (reviewOn rows d recalled) i ≡ introducedAt rows i
-  unfolding reviewOn
+  pub review-introduced : (i : ℕ) → introducedAt (addReview rows d recalled) i ≡ introducedAt rows i
+  unfolding addReview
   review-introduced i = same-column rows d i 3 _ 0 refl
 
 pub review-correct : (rows : List (List ℕ)) (d : ℕ) (recalled : Bool) (i : ℕ) → d < length rows → correctAt rows d < 4294967295
-    → correctAt (reviewOn rows d recalled) i ≡ correctAt rows i + bit (recalled && eqb d i)
-unfolding reviewOn
+    → correctAt (addReview rows d recalled) i ≡ correctAt rows i + bit (recalled && eqb d i)
+unfolding addReview
 review-correct rows d true i h u = raised-column rows d i 2 _ h u refl
-review-correct rows d false i h u = let e = same-column rows d i 2 (learnedAt rows d ∷ raised (reviewedAt rows d) ∷ correctAt rows d ∷ introducedAt rows d ∷ []) 0 refl in omega (arith, e)
+review-correct rows d false i h u = let e = same-column rows d i 2 (learnedAt rows d ∷ saturatingSuc (reviewedAt rows d) ∷ correctAt rows d ∷ introducedAt rows d ∷ []) 0 refl in omega (arith, e)
 
 -- ---- sums
 

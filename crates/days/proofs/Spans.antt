@@ -5,28 +5,28 @@ use Prim.Native.Nat.{ℕ, suc, _+_, _-_, _≤_, _<_}
 use native.Mathlib.Omega.{arith}
 use lib.IntN.{pos}
 use lib.Ieee.{Float, binary32, sub, ofInt}
-use Rattle.days.specs.Counts.{introduceOn, introduceFrom}
+use Rattle.days.specs.Counts.{addIntroduced, addIntroducedFrom}
 use Rattle.days.specs.Sums.{addMemorized, addForgettingCurveRange}
 
 -- what is left to introduce equals the whole
 pub introduce-turn : (l l′ l₀ : List (List ℕ)) (d to from : ℕ)
-    → introduceFrom l (to - d) d ≡ introduceFrom l₀ (to - from) from
+    → addIntroducedFrom l (to - d) d ≡ addIntroducedFrom l₀ (to - from) from
     → d < to
-    → l′ ≡ introduceOn l d
-    → introduceFrom l′ (to - (d + 1)) (d + 1) ≡ introduceFrom l₀ (to - from) from
-unfolding introduceFrom
+    → l′ ≡ addIntroduced l d
+    → addIntroducedFrom l′ (to - (d + 1)) (d + 1) ≡ addIntroducedFrom l₀ (to - from) from
+unfolding addIntroducedFrom
 introduce-turn l l′ l₀ d to from e h el =
     let n : to - d ≡ suc (to - (d + 1)) = omega arith in
-    rw el (sym (ap (λ (m : ℕ). introduceFrom l m d) n) ∙ e)
+    rw el (sym (ap (λ (m : ℕ). addIntroducedFrom l m d) n) ∙ e)
 
 pub introduce-end : (l l₀ : List (List ℕ)) (d to from : ℕ)
-    → introduceFrom l (to - d) d ≡ introduceFrom l₀ (to - from) from
+    → addIntroducedFrom l (to - d) d ≡ addIntroducedFrom l₀ (to - from) from
     → to ≤ d
-    → l ≡ introduceFrom l₀ (to - from) from
-unfolding introduceFrom
+    → l ≡ addIntroducedFrom l₀ (to - from) from
+unfolding addIntroducedFrom
 introduce-end l l₀ d to from e h =
     let n : to - d ≡ 0 = omega arith in
-    sym (ap (λ (m : ℕ). introduceFrom l m d) n) ∙ e
+    sym (ap (λ (m : ℕ). addIntroducedFrom l m d) n) ∙ e
 
 -- what is left to add equals the whole
 module _ (chance : Float → Float) (last : Float) where

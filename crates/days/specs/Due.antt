@@ -4,18 +4,18 @@ use mathlib.Core.Bool.{Bool, not, _&&_, cond}
 use mathlib.Core.List.{List}
 use lib.Dec.{eqb, ltb}
 use lib.ListN.{getD, set}
-use Rattle.days.specs.Counts.{raised}
+use Rattle.days.specs.Counts.{saturatingSuc}
 
 -- the days that are counted: half as many again as the span
 abbrev pub dueDays : ℕ → ℕ
 dueDays span = span + span / 2
 
-abbrev pub raiseAt : List ℕ → ℕ → List ℕ
-raiseAt due d = set due d (raised (getD due d 0))
+abbrev pub addOneAt : List ℕ → ℕ → List ℕ
+addOneAt due d = set due d (saturatingSuc (getD due d 0))
 
 -- one more on day d, if that is counted
 unfoldable pub addDue : ℕ → List ℕ → ℕ → List ℕ
-addDue span due d = cond (ltb d (dueDays span)) (raiseAt due d) due
+addDue span due d = cond (ltb d (dueDays span)) (addOneAt due d) due
 
 -- a dated card is put off from day d to the next; one without a last date is not moved
 unfoldable pub moveDue : ℕ → List ℕ → Bool → ℕ → List ℕ

@@ -5,13 +5,13 @@ ghost use mathlib.Core.Bool.{cond};
 ghost use Prim.Native.Nat.{_+_, _-_, _/_};
 ghost use lib.ListN.{getD, set};
 ghost use lib.Ieee.{ofBits, binary32, add};
-ghost use Rattle.days.specs.Counts.{raised, learnedAt, reviewedAt, learnOn, reviewOn, introduceOn, introduceFrom, countEvent};
+ghost use Rattle.days.specs.Counts.{saturatingSuc, learnedAt, reviewedAt, addLearn, addReview, addIntroduced, addIntroducedFrom, addEvent};
 ghost use Rattle.model.specs.Kept.{retention};
 ghost use Rattle.days.specs.Sums.{costAt, addCost, addMemorized, addForgettingCurveRange};
-ghost use Rattle.days.specs.Due.{raiseAt, addDue, moveDue, noneDue};
+ghost use Rattle.days.specs.Due.{addOneAt, addDue, moveDue, noneDue};
 
-pub fn raise(n: u32) -> u32
-    ensures { λ r. ⌜ r ≡ raised n ⌝ }
+pub fn saturating_suc(n: u32) -> u32
+    ensures { λ r. ⌜ r ≡ saturatingSuc n ⌝ }
 {
     if n < 4294967295 { n + 1 } else { n }
 }
@@ -36,66 +36,66 @@ pub fn reviewed_at(rows: &[[u32; 4]], d: u32) -> u32
     if i < rows.len() { rows[i][1] } else { 0 }
 }
 
-fn learn_on(rows: &mut [[u32; 4]], d: u32)
-    ensures { λ _. ⌜ now (rows .exit) ≡ learnOn (now (rows .entry)) d ⌝ }
+fn add_learn(rows: &mut [[u32; 4]], d: u32)
+    ensures { λ _. ⌜ now (rows .exit) ≡ addLearn (now (rows .entry)) d ⌝ }
 {
     let i = d as usize;
     if i < rows.len() {
         let row = rows[i];
-        let more = raise(row[0]);
+        let more = saturating_suc(row[0]);
         rows[i] = [more, row[1], row[2], row[3]];
     }
 }
 
-fn review_on(rows: &mut [[u32; 4]], d: u32, recalled: bool)
-    ensures { λ _. ⌜ now (rows .exit) ≡ reviewOn (now (rows .entry)) d recalled ⌝ }
+fn add_review(rows: &mut [[u32; 4]], d: u32, recalled: bool)
+    ensures { λ _. ⌜ now (rows .exit) ≡ addReview (now (rows .entry)) d recalled ⌝ }
 {
     let i = d as usize;
     if i < rows.len() {
         let row = rows[i];
-        let more = raise(row[1]);
-        let correct = raise_if(row[2], recalled);
+        let more = saturating_suc(row[1]);
+        let correct = saturating_suc_if(row[2], recalled);
         rows[i] = [row[0], more, correct, row[3]];
     }
 }
 
-fn raise_if(n: u32, more: bool) -> u32
-    ensures { λ r. ⌜ r ≡ cond more (raised n) n ⌝ }
+fn saturating_suc_if(n: u32, more: bool) -> u32
+    ensures { λ r. ⌜ r ≡ cond more (saturatingSuc n) n ⌝ }
 {
-    if more { raise(n) } else { n }
+    if more { saturating_suc(n) } else { n }
 }
 
-fn introduce_on(rows: &mut [[u32; 4]], d: u32)
-    ensures { λ _. ⌜ now (rows .exit) ≡ introduceOn (now (rows .entry)) d ⌝ }
+fn add_introduced(rows: &mut [[u32; 4]], d: u32)
+    ensures { λ _. ⌜ now (rows .exit) ≡ addIntroduced (now (rows .entry)) d ⌝ }
 {
     let i = d as usize;
     if i < rows.len() {
         let row = rows[i];
-        let more = raise(row[3]);
+        let more = saturating_suc(row[3]);
         rows[i] = [row[0], row[1], row[2], more];
     }
 }
 
 // On each day from `from` up to `to`, that day left out.
-fn introduce_from(rows: &mut [[u32; 4]], from: u32, to: u32)
-    ensures { λ _. ⌜ now (rows .exit) ≡ introduceFrom (now (rows .entry)) (to - from) from ⌝ }
+fn add_introduced_from(rows: &mut [[u32; 4]], from: u32, to: u32)
+    ensures { λ _. ⌜ now (rows .exit) ≡ addIntroducedFrom (now (rows .entry)) (to - from) from ⌝ }
 {
     let mut d = from;
     while d < to {
-        introduce_on(rows, d);
+        add_introduced(rows, d);
         d += 1;
     }
 }
 
-pub fn count_event(rows: &mut [[u32; 4]], span: u32, new: bool, d: u32, recalled: bool)
-    ensures { λ _. ⌜ now (rows .exit) ≡ countEvent span (now (rows .entry)) new d recalled ⌝ }
+pub fn add_event(rows: &mut [[u32; 4]], span: u32, new: bool, d: u32, recalled: bool)
+    ensures { λ _. ⌜ now (rows .exit) ≡ addEvent span (now (rows .entry)) new d recalled ⌝ }
 {
     if new {
-        learn_on(rows, d);
-        introduce_from(rows, d, span);
+        add_learn(rows, d);
+        add_introduced_from(rows, d, span);
         return;
     }
-    review_on(rows, d, recalled);
+    add_review(rows, d, recalled);
 }
 
 pub fn cost_at(costs: &[f32], d: u32) -> f32
@@ -166,7 +166,7 @@ fn add_due_at(due: &mut [u32], span: u32, i: usize)
 {
     if i < due_days(span) {
         let n = due_at(due, i);
-        put_due(due, i, raise(n));
+        put_due(due, i, saturating_suc(n));
     }
 }
 

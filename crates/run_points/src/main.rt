@@ -43,36 +43,6 @@ fn config(deck_size: u32, learn_span: u32) -> SimulatorConfig {
     }
 }
 
-fn second_of(refusal: Refusal) -> u32 {
-    match refusal {
-        Refusal::Parameters(i) => i,
-        Refusal::ExistingCard(i) => i,
-        Refusal::ChanceOutOfRange(c) => c,
-        Refusal::TableFull(c) => c,
-        Refusal::DueCount(c) => c,
-        Refusal::TooManyCards => 1,
-        Refusal::DeckSize => 0,
-        Refusal::LearnSpan => 0,
-        Refusal::Config => 0,
-        Refusal::Lists => 0,
-    }
-}
-
-fn number_of(refusal: Refusal) -> u32 {
-    match refusal {
-        Refusal::Parameters(_) => 1,
-        Refusal::DeckSize => 2,
-        Refusal::TooManyCards => 2,
-        Refusal::LearnSpan => 3,
-        Refusal::Config => 4,
-        Refusal::ExistingCard(_) => 5,
-        Refusal::Lists => 6,
-        Refusal::ChanceOutOfRange(_) => 7,
-        Refusal::TableFull(_) => 8,
-        Refusal::DueCount(_) => 9,
-    }
-}
-
 fn show(progress: Progress) {
     io::write_all(1, b"turns");
     number(progress.turns);
@@ -85,19 +55,19 @@ fn show(progress: Progress) {
 
 fn show_refusal(refusal: Refusal) {
     io::write_all(1, b"refused");
-    number(number_of(refusal));
-    number(second_of(refusal));
+    number(simulation::refusals::number_of(refusal));
+    number(simulation::refusals::second_of(refusal));
     io::write_all(1, b"\n");
 }
 
-fn day(counts: [u32; 4], sums: [f32; 2]) {
+fn day(counts: [u32; 4], cost: f32, memorized: f32) {
     io::write_all(1, b"day");
     number(counts[0]);
     number(counts[1]);
     number(counts[2]);
     number(counts[3]);
-    float(sums[0]);
-    float(sums[1]);
+    float(cost);
+    float(memorized);
     io::write_all(1, b"\n");
 }
 
@@ -106,7 +76,8 @@ fn forecast(deck_size: u32, learn_span: u32) {
     let mut counts: [[u32; 2]; 8] = [[0; 2]; 8];
     let mut rows: [[u64; 2]; 8] = [[0; 2]; 8];
     let mut days: [[u32; 4]; 10] = [[0; 4]; 10];
-    let mut sums: [[f32; 2]; 10] = [[0.0; 2]; 10];
+    let mut costs: [f32; 10] = [0.0; 10];
+    let mut memorized: [f32; 10] = [0.0; 10];
     let mut due: [u32; 15] = [0; 15];
     let mut keys: [[u32; 2]; 64] = [[0; 2]; 64];
     let mut intervals: [f32; 64] = [0.0; 64];
@@ -118,7 +89,8 @@ fn forecast(deck_size: u32, learn_span: u32) {
         &mut counts,
         &mut rows,
         &mut days,
-        &mut sums,
+        &mut costs,
+        &mut memorized,
         &mut due,
         &mut keys,
         &mut intervals,
@@ -132,9 +104,9 @@ fn forecast(deck_size: u32, learn_span: u32) {
     match answer {
         Answer::Finished(progress) => {
             show(progress);
-            day(days[0], sums[0]);
-            day(days[1], sums[1]);
-            day(days[9], sums[9]);
+            day(days[0], costs[0], memorized[0]);
+            day(days[1], costs[1], memorized[1]);
+            day(days[9], costs[9], memorized[9]);
         }
         Answer::Refused(refusal, _) => show_refusal(refusal),
     }
@@ -146,7 +118,8 @@ fn at_the_limits(deck_size: u32, learn_span: u32) {
     let mut counts: [[u32; 2]; 65536] = [[0; 2]; 65536];
     let mut rows: [[u64; 2]; 65536] = [[0; 2]; 65536];
     let mut days: [[u32; 4]; 36500] = [[0; 4]; 36500];
-    let mut sums: [[f32; 2]; 36500] = [[0.0; 2]; 36500];
+    let mut costs: [f32; 36500] = [0.0; 36500];
+    let mut memorized: [f32; 36500] = [0.0; 36500];
     let mut due: [u32; 54750] = [0; 54750];
     let mut keys: [[u32; 2]; 20000] = [[0; 2]; 20000];
     let mut intervals: [f32; 20000] = [0.0; 20000];
@@ -158,7 +131,8 @@ fn at_the_limits(deck_size: u32, learn_span: u32) {
         &mut counts,
         &mut rows,
         &mut days,
-        &mut sums,
+        &mut costs,
+        &mut memorized,
         &mut due,
         &mut keys,
         &mut intervals,

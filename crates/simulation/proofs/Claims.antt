@@ -33,9 +33,9 @@ use Rattle.simulation.specs.State.{State, Lent, listsOf, withDraws}
 use Rattle.simulation.specs.Rules.{Rules, rulesWith, rulesOf}
 use Rattle.simulation.specs.Turn.{next}
 use Rattle.simulation.specs.Entry.{Inputs, inputs, listsOk, checked}
-use Rattle.simulation.specs.SetUp.{known}
-use Rattle.simulation.specs.Simulate.{Done, progress, rulesFor, bound, ran, finished, simulatedBy, simulated}
-use Rattle.simulation.specs.Demands.{Finished, startOf, cardsOf, turnsOf, DemandThree, RunContract}
+use Rattle.simulation.specs.SetUp.{introducedBefore}
+use Rattle.simulation.specs.Simulate.{IsResult, progress, rulesFor, bound, runFrom, resultFrom, simulatedBy, simulated}
+use Rattle.simulation.specs.Demands.{EndedOk, startOf, cardsOf, turnsOf, DemandThree, RunContract}
 use Rattle.simulation.specs.Invariant.{RunBounds, StateInvariant}
 use Rattle.simulation.proofs.turn.Slots.{Slots, table-slots}
 use Rattle.simulation.proofs.turn.Views.{columns}
@@ -101,30 +101,30 @@ module _ {C : Type 0} (R : Rules C) (i : Inputs) (s : State C) (ok : Accepted i 
   fine : RunBounds (R .span) (cardsOf R i s)
   fine = record { some = omega (arith, fit .span-is, ok .span-some); most = omega (arith, fit .span-is, ok .span-most); few = omega (arith, set-up-few (R .costs) i s ok, ok .deck-most) }
 
-  begins : SetUp (columns (R .costs .none)) (R .costs) (R .span) (known (i .existing) (i .existing-counts) (length (i .existing))) (startOf R i s)
-  begins = subst (λ (z : ℕ). SetUp (columns (R .costs .none)) (R .costs) z (known (i .existing) (i .existing-counts) (length (i .existing))) (startOf R i s)) (fit .span-is) (set-up-start (R .costs) i s ok)
+  begins : SetUp (columns (R .costs .none)) (R .costs) (R .span) (introducedBefore (i .existing) (i .existing-counts) (length (i .existing))) (startOf R i s)
+  begins = subst (λ (z : ℕ). SetUp (columns (R .costs .none)) (R .costs) z (introducedBefore (i .existing) (i .existing-counts) (length (i .existing))) (startOf R i s)) (fit .span-is) (set-up-start (R .costs) i s ok)
 
   good : StateInvariant (cardsOf R i s) (R .span) (startOf R i s)
   good = subst (λ (z : ℕ). StateInvariant (cardsOf R i s) z (startOf R i s)) (fit .span-is) (set-up-good (R .costs) i s ok)
 
   -- the bound on turns never shows: the run has stopped
-  pub has-stopped : (y : Stop) × (next R ((ran R (startOf R i s)) .state) ≡ stops y)
-  unfolding ran
+  pub has-stopped : (y : Stop) × (next R ((runFrom R (startOf R i s)) .state) ≡ stops y)
+  unfolding runFrom
   has-stopped = ends R (cardsOf R i s) fine (fit .slots) (startOf R i s) good
 
   pub few-turns : length (turnsOf R i s) ≤ cardsOf R i s * suc (R .span)
-  unfolding ran
+  unfolding runFrom
   few-turns = turns-demand R (cardsOf R i s) fine (fit .slots) _ (startOf R i s) begins good (bound R (startOf R i s)) .few
 
-  pub demand-three : (counts days : List (List ℕ)) → counts ≡ (ran R (startOf R i s)) .state .counts → days ≡ (ran R (startOf R i s)) .state .days → DemandThree R i s counts days
-  unfolding ran
+  pub demand-three : (counts days : List (List ℕ)) → counts ≡ (runFrom R (startOf R i s)) .state .counts → days ≡ (runFrom R (startOf R i s)) .state .days → DemandThree R i s counts days
+  unfolding runFrom
   demand-three counts days ec ed = record {
     demand = turns-demand R (cardsOf R i s) fine (fit .slots) _ (startOf R i s) begins good (bound R (startOf R i s));
     rows = rw (ec, ed) (turns-rows R (cardsOf R i s) fine (fit .slots) _ (startOf R i s) begins good (bound R (startOf R i s)));
   }
 
 -- ---- the entry point
-not-finished : (r : Refusal) (p : Progress) → Finished (answer.Refused r p) → ⊥
+not-finished : (r : Refusal) (p : Progress) → EndedOk (answer.Refused r p) → ⊥
 not-finished r p f = let e = f .1 in not-one cc
 
 module _ (i : Inputs) (s : State Float) where
@@ -141,16 +141,16 @@ module _ (i : Inputs) (s : State Float) where
   }
 
   module _ (e : checked i s ≡ check.Passed) {r : Answer} {l′ : Lent Float}
-      (d : Done (finished (rulesOf (i .config) (kept (Kept.newOf (i .parameters)))) (startOf (rulesFor i) i s)) r l′) where
-    plainly : Done (finished (rulesFor i) (startOf (rulesFor i) i s)) r l′
-    plainly = subst (λ (x : Scalars). Done (finished (rulesOf (i .config) x) (startOf (rulesFor i) i s)) r l′) (kept-is (i .parameters)) d
+      (d : IsResult (resultFrom (rulesOf (i .config) (kept (Kept.newOf (i .parameters)))) (startOf (rulesFor i) i s)) r l′) where
+    plainly : IsResult (resultFrom (rulesFor i) (startOf (rulesFor i) i s)) r l′
+    plainly = subst (λ (x : Scalars). IsResult (resultFrom (rulesOf (i .config) x) (startOf (rulesFor i) i s)) r l′) (kept-is (i .parameters)) d
 
-    done : Done (simulated i s) r l′
+    done : IsResult (simulated i s) r l′
     unfolding simulatedBy
     done = rw e plainly
 
     three : DemandThree (rulesFor i) i s (l′ .counts) (l′ .days)
-    unfolding finished
+    unfolding resultFrom
     three = demand-three (rulesFor i) i s (accepted i s e) (suits splitMix i s (accepted i s e)) (l′ .counts) (l′ .days) (ap (λ (l : Lent Float). l .counts) (plainly .lists)) (ap (λ (l : Lent Float). l .days) (plainly .lists))
 
     pub accepted-is : RunContract i s r l′

@@ -10,7 +10,7 @@ use native.Mathlib.Omega.{arith}
 use lib.ListN.{length}
 use lib.Ieee.{Float, ofBits, binary32}
 use Rattle.turns.specs.Turns.{Turn}
-use Rattle.turns.specs.Run.{stops, Reached, run, stopOf}
+use Rattle.turns.specs.Run.{stops, RunState, run, stopOf}
 use Rattle.turns.proofs.Loop.{stop-is}
 use Rattle.draws.specs.Draws.{DrawRule}
 use Rattle.events.specs.Scalars.{plain}
@@ -30,9 +30,9 @@ use Rattle.simulation.specs.State.{State, withTable}
 use Rattle.simulation.specs.Rules.{Rules, rulesWith}
 use Rattle.simulation.specs.Turn.{next}
 use Rattle.simulation.specs.Entry.{Inputs, checked}
-use Rattle.simulation.specs.SetUp.{emptied, setUp}
-use Rattle.simulation.specs.Simulate.{Result, progress, answerOf, bound, ran, finished, simulatedBy}
-use Rattle.simulation.specs.Demands.{Demands, Finished, startOf, cardsOf, turnsOf, LongerTable, SameRun}
+use Rattle.simulation.specs.SetUp.{emptyDeck, setUp}
+use Rattle.simulation.specs.Simulate.{Result, progress, answerOf, bound, runFrom, resultFrom, simulatedBy}
+use Rattle.simulation.specs.Demands.{Demands, EndedOk, startOf, cardsOf, turnsOf, LongerTable, SameRun}
 use Rattle.simulation.proofs.entry.Accepted.{Accepted, accepted}
 use Rattle.simulation.proofs.Claims.{Suits, suits, demand-three, has-stopped, few-turns}
 use Rattle.simulation.proofs.run.Table.{run-sound}
@@ -45,8 +45,8 @@ unfolding simulatedBy
 entry-refusal R i s r e = rw e
 
 -- a run refusal leaves the state after the last finished turn: the state that the turns taken lead to
-run-leaves : {C : Type 0} (R : Rules C) (i : Inputs) (s : State C) → checked i s ≡ check.Passed → simulatedBy R i s .state ≡ (ran R (startOf R i s)) .state
-unfolding simulatedBy finished
+run-leaves : {C : Type 0} (R : Rules C) (i : Inputs) (s : State C) → checked i s ≡ check.Passed → simulatedBy R i s .state ≡ (runFrom R (startOf R i s)) .state
+unfolding simulatedBy resultFrom
 run-leaves R i s e = rw e
 
 -- refusal 8 exactly when the key is new and as many keys are held as the table is long, after any number of turns of an accepted call
@@ -72,8 +72,8 @@ module _ {C : Type 0} (R : Rules C) (i : Inputs) (s : State C) (fit : Suits R i)
   ends-within : length (turnsOf R i s) ≤ cardsOf R i s * suc (R .span)
   ends-within = few-turns R i s ok fit
 
-  stops-so : (y : Stop) → next R ((ran R s₀) .state) ≡ stops y → stopOf (next R) stop.Ended (bound R s₀) s₀ ≡ y
-  unfolding ran
+  stops-so : (y : Stop) → next R ((runFrom R s₀) .state) ≡ stops y → stopOf (next R) stop.Ended (bound R s₀) s₀ ≡ y
+  unfolding runFrom
   stops-so y q = stop-is (next R) stop.Ended (bound R s₀) [] s₀ y q (let h = ends-within in omega (arith, h))
 
   -- it ends Ok exactly when no turn is left
@@ -81,15 +81,15 @@ module _ {C : Type 0} (R : Rules C) (i : Inputs) (s : State C) (fit : Suits R i)
   end-of stop.Ended p q z = refl
   end-of (stop.Refused r) p q z = absurd (not-one cc)
 
-  finished-is : simulatedBy R i s ≡ finished R s₀
+  finished-is : simulatedBy R i s ≡ resultFrom R s₀
   unfolding simulatedBy
   finished-is = rw e
 
-  ok-ends : Finished (simulatedBy R i s .answer) → next R ((ran R s₀) .state) ≡ stops stop.Ended
-  unfolding finished
+  ok-ends : EndedOk (simulatedBy R i s .answer) → next R ((runFrom R s₀) .state) ≡ stops stop.Ended
+  unfolding resultFrom
   ok-ends f =
       let h = has-stopped R i s ok fit in
-      let a : finished R s₀ .answer ≡ answer.Finished (f .0) = sym (ap (λ (r : Result C). r .answer) finished-is) ∙ f .1 in
+      let a : resultFrom R s₀ .answer ≡ answer.Finished (f .0) = sym (ap (λ (r : Result C). r .answer) finished-is) ∙ f .1 in
       let z : stopOf (next R) stop.Ended (bound R s₀) s₀ ≡ stop.Ended = end-of (stopOf (next R) stop.Ended (bound R s₀) s₀) _ (f .0) a in
       h .1 ∙ ap stops (sym (stops-so (h .0) (h .1)) ∙ z)
 
@@ -97,7 +97,7 @@ module _ {C : Type 0} (R : Rules C) (i : Inputs) (s : State C) (fit : Suits R i)
 -- rows, due counts and cards
 module _ {C : Type 0} (R : Rules C) (i : Inputs) (s s′ : State C) (fit : Suits R i) (e : checked i s ≡ check.Passed) (e′ : checked i s′ ≡ check.Passed) (longer : LongerTable s s′) where
   set-up-same : (t : Table) → startOf R i (withTable t s) ≡ withTable (clearIn t) (startOf R i s)
-  unfolding setUp emptied
+  unfolding setUp emptyDeck
   set-up-same t = refl
 
   set-up-table : startOf R i s .table ≡ clearIn (s .table)
@@ -122,22 +122,22 @@ module _ {C : Type 0} (R : Rules C) (i : Inputs) (s s′ : State C) (fit : Suits
   same-answer : (a a′ b b′ c c′ : ℕ) → a′ ≡ a → b′ ≡ b → c′ ≡ c → answer.Finished (progress a′ b′ c′) ≡ answer.Finished (progress a b c)
   same-answer a a′ b b′ c c′ p q r = rw (p, q, r)
 
-  longer-table : Finished (simulatedBy R i s .answer) → SameRun (simulatedBy R i s) (simulatedBy R i s′)
-  unfolding finished ran
+  longer-table : EndedOk (simulatedBy R i s .answer) → SameRun (simulatedBy R i s) (simulatedBy R i s′)
+  unfolding resultFrom runFrom
   longer-table f =
       let q = ok-ends R i s fit e f in
       let b : bound R (startOf R i s′) ≡ bound R (startOf R i s) = ap (λ (z : ℕ). suc (z * suc (R .span))) same-length in
       let r = run-longer R (fit .slots) (bound R (startOf R i s)) (startOf R i s) (startOf R i s′) alike q in
       let r′ : run (next R) (bound R (startOf R i s′)) [] (startOf R i s′) ≡ run (next R) (bound R (startOf R i s)) [] (startOf R i s′) = ap (λ (z : ℕ). run (next R) z [] (startOf R i s′)) b in
-      let st : (ran R (startOf R i s′)) .state ≡ (run (next R) (bound R (startOf R i s)) [] (startOf R i s′)) .state = ap (λ (z : Reached (Turn Drawn) (State C)). z .state) r′ in
+      let st : (runFrom R (startOf R i s′)) .state ≡ (run (next R) (bound R (startOf R i s)) [] (startOf R i s′)) .state = ap (λ (z : RunState (Turn Drawn) (State C)). z .state) r′ in
       let one : stopOf (next R) stop.Ended (bound R (startOf R i s)) (startOf R i s) ≡ stop.Ended = stops-so R i s fit e stop.Ended q in
       let two : stopOf (next R) stop.Ended (bound R (startOf R i s′)) (startOf R i s′) ≡ stop.Ended = stops-so R i s′ fit e′ stop.Ended (ap (λ (z : State C). next R z) st ∙ r .stop) in
-      let turns : length ((ran R (startOf R i s′)) .turns) ≡ length ((ran R (startOf R i s)) .turns) = ap (λ (z : Reached (Turn Drawn) (State C)). length (z .turns)) r′ ∙ ap (λ (z : List (Turn Drawn)). length z) (sym (r .turns)) in
-      let all : (ran R (startOf R i s′)) .state ≡ withTable ((run (next R) (bound R (startOf R i s)) [] (startOf R i s′)) .state .table) ((ran R (startOf R i s)) .state) = st ∙ r .states .same in
-      let draws : (ran R (startOf R i s′)) .state .draws ≡ (ran R (startOf R i s)) .state .draws = ap (λ (z : State C). z .draws) all in
+      let turns : length ((runFrom R (startOf R i s′)) .turns) ≡ length ((runFrom R (startOf R i s)) .turns) = ap (λ (z : RunState (Turn Drawn) (State C)). length (z .turns)) r′ ∙ ap (λ (z : List (Turn Drawn)). length z) (sym (r .turns)) in
+      let all : (runFrom R (startOf R i s′)) .state ≡ withTable ((run (next R) (bound R (startOf R i s)) [] (startOf R i s′)) .state .table) ((runFrom R (startOf R i s)) .state) = st ∙ r .states .same in
+      let draws : (runFrom R (startOf R i s′)) .state .draws ≡ (runFrom R (startOf R i s)) .state .draws = ap (λ (z : State C). z .draws) all in
       rw (finished-is R i s fit e, finished-is R i s′ fit e′)
       (record {
-        answers = rw (two, one) (same-answer (length ((ran R (startOf R i s)) .turns)) (length ((ran R (startOf R i s′)) .turns)) (startOf R i s .queue .len) (startOf R i s′ .queue .len) ((ran R (startOf R i s)) .state .draws) ((ran R (startOf R i s′)) .state .draws) turns same-length draws);
+        answers = rw (two, one) (same-answer (length ((runFrom R (startOf R i s)) .turns)) (length ((runFrom R (startOf R i s′)) .turns)) (startOf R i s .queue .len) (startOf R i s′ .queue .len) ((runFrom R (startOf R i s)) .state .draws) ((runFrom R (startOf R i s′)) .state .draws) turns same-length draws);
         cards-are = ap (λ (z : State C). z .cards) all;
         counts-are = ap (λ (z : State C). z .counts) all;
         queue-is = ap (λ (z : State C). z .queue) all;
@@ -156,7 +156,7 @@ demands w i s =
       entry-refusal = entry-refusal R i s;
       run-leaves = run-leaves R i s;
       table-full = table-full w i s;
-      daily-rules = λ e. demand-three R i s (accepted i s e) (suits w i s (accepted i s e)) ((ran R (startOf R i s)) .state .counts) ((ran R (startOf R i s)) .state .days) refl refl;
+      daily-rules = λ e. demand-three R i s (accepted i s e) (suits w i s (accepted i s e)) ((runFrom R (startOf R i s)) .state .counts) ((runFrom R (startOf R i s)) .state .days) refl refl;
       ends-within = λ e. ends-within R i s (suits w i s (accepted i s e)) e;
       ok-ends = λ e. ok-ends R i s (suits w i s (accepted i s e)) e;
       longer-table = λ s′ e e′ longer. longer-table R i s s′ (suits w i s (accepted i s e)) e e′ longer;

@@ -46,8 +46,8 @@ abbrev pub deck : List (List Float) → List (List ℕ) → List (List ℕ) → 
 deck cards counts rows due len = record { cards = cards; counts = counts; queue = queue rows len; due = due }
 
 -- a card joins as the run's next: its place is the queue's length so far
-unfoldable pub joined : Deck → Card → Deck
-joined s k = record {
+unfoldable pub addCard : Deck → Card → Deck
+addCard s k = record {
   cards = writeFloats (s .cards) (s .queue .len) k;
   counts = writeCounts (s .counts) (s .queue .len) k;
   queue = pushed (s .queue) (s .queue .len) (keyOf k);
@@ -55,42 +55,42 @@ joined s k = record {
 }
 
 -- a kept card joins, and is counted on its day
-unfoldable pub retained : ℕ → Deck → Card → Deck
-retained span s k = record {
-  cards = joined s k .cards;
-  counts = joined s k .counts;
-  queue = joined s k .queue;
+unfoldable pub addKeptCard : ℕ → Deck → Card → Deck
+addKeptCard span s k = record {
+  cards = addCard s k .cards;
+  counts = addCard s k .counts;
+  queue = addCard s k .queue;
   due = addDue span (s .due) (dayOf (k .due));
 }
 
 -- an existing card joins only if it is kept
-unfoldable pub retainCard : ℕ → Deck → Card → Deck
-retainCard span s k = cond (isKept k) (retained span s k) s
+unfoldable pub addExistingCard : ℕ → Deck → Card → Deck
+addExistingCard span s k = cond (isKept k) (addKeptCard span s k) s
 
 -- the first n existing cards
-unfoldable pub retain : ℕ → List (List Float) → List (List ℕ) → ℕ → Deck → Deck
-retain span cards counts zero s = s
-retain span cards counts (suc i) s = retainCard span (retain span cards counts i s) (cardAt cards counts i)
+unfoldable pub addExistingCards : ℕ → List (List Float) → List (List ℕ) → ℕ → Deck → Deck
+addExistingCards span cards counts zero s = s
+addExistingCards span cards counts (suc i) s = addExistingCard span (addExistingCards span cards counts i s) (cardAt cards counts i)
 
 -- how many of the first n existing cards are kept and have a last date
-unfoldable pub known : List (List Float) → List (List ℕ) → ℕ → ℕ
-known cards counts zero = 0
-known cards counts (suc i) =
+unfoldable pub introducedBefore : List (List Float) → List (List ℕ) → ℕ → ℕ
+introducedBefore cards counts zero = 0
+introducedBefore cards counts (suc i) =
     let k = cardAt cards counts i in
-    known cards counts i + bit (isKept k && not (isNew (k .«last_date»)))
+    introducedBefore cards counts i + bit (isKept k && not (isNew (k .«last_date»)))
 
 -- n new cards join
-unfoldable pub create : Float → ℕ → ℕ → Deck → Deck
-create retention limit zero s = s
-create retention limit (suc i) s = joined (create retention limit i s) (newCard retention limit i)
+unfoldable pub addNewCards : Float → ℕ → ℕ → Deck → Deck
+addNewCards retention limit zero s = s
+addNewCards retention limit (suc i) s = addCard (addNewCards retention limit i s) (newCard retention limit i)
 
 -- how many new cards there are: none at a learn limit of 0, else as many as the deck has left
-unfoldable pub newCards : SimulatorConfig → ℕ → ℕ
-newCards g kept = cond (eqb (g .«learn_limit») 0) 0 (g .«deck_size» - kept)
+unfoldable pub newCardCount : SimulatorConfig → ℕ → ℕ
+newCardCount g kept = cond (eqb (g .«learn_limit») 0) 0 (g .«deck_size» - kept)
 
 -- the queue empty, and due counts of 0
-unfoldable pub emptied : {C : Type 0} → Inputs → State C → Deck
-emptied i s = record {
+unfoldable pub emptyDeck : {C : Type 0} → Inputs → State C → Deck
+emptyDeck i s = record {
   cards = s .cards;
   counts = s .counts;
   queue = queue (s .queue .rows) 0;
@@ -98,24 +98,24 @@ emptied i s = record {
 }
 
 -- the existing cards that are kept, and then the new ones
-unfoldable pub dealt : Inputs → Deck → Deck
-dealt i s =
-    let kept = retain (i .config .«learn_span») (i .existing) (i .existing-counts) (length (i .existing)) s in
-    create (i .retention) (i .config .«learn_limit») (newCards (i .config) (kept .queue .len)) kept
+unfoldable pub addAllCards : Inputs → Deck → Deck
+addAllCards i s =
+    let kept = addExistingCards (i .config .«learn_span») (i .existing) (i .existing-counts) (length (i .existing)) s in
+    addNewCards (i .retention) (i .config .«learn_limit») (newCardCount (i .config) (kept .queue .len)) kept
 
 -- the row of counts at set-up: the known cards are introduced on each day
-abbrev pub firstCounts : Inputs → List ℕ
-firstCounts i = 0 ∷ 0 ∷ 0 ∷ known (i .existing) (i .existing-counts) (length (i .existing)) ∷ []
+abbrev pub firstDayCounts : Inputs → List ℕ
+firstDayCounts i = 0 ∷ 0 ∷ 0 ∷ introducedBefore (i .existing) (i .existing-counts) (length (i .existing)) ∷ []
 
 -- every day begins at the cost of no event, the table is emptied, and the draws are at the seed
 unfoldable pub setUp : {C : Type 0} → C → Inputs → State C → State C
 setUp none i s =
-    let deck = dealt i (emptied i s) in
+    let deck = addAllCards i (emptyDeck i s) in
     record {
       cards = deck .cards;
       counts = deck .counts;
       queue = deck .queue;
-      days = filled (firstCounts i) (i .config .«learn_span») (s .days);
+      days = filled (firstDayCounts i) (i .config .«learn_span») (s .days);
       costs = filled none (i .config .«learn_span») (s .costs);
       memorized = filled (ofBits binary32 0) (i .config .«learn_span») (s .memorized);
       due = deck .due;

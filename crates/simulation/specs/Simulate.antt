@@ -5,7 +5,7 @@ use mathlib.Core.Path.{_≡_}
 use lib.ListN.{length}
 use lib.Ieee.{Float}
 use Rattle.turns.specs.Turns.{Turn}
-use Rattle.turns.specs.Run.{Reached, run, stopOf}
+use Rattle.turns.specs.Run.{RunState, run, stopOf}
 use Rattle.events.specs.Scalars.{plain}
 use Rattle.events.specs.Drawn.{Drawn}
 use Rattle.simulation.specs.declared.Stop.{Stop}
@@ -43,17 +43,17 @@ module _ {C : Type 0} (R : Rules C) where
   bound s = suc (s .queue .len * suc (R .span))
 
   -- the turns, latest first, and the state that they lead to
-  unfoldable pub ran : State C → Reached (Turn Drawn) (State C)
-  ran s = run (next R) (bound s) [] s
+  unfoldable pub runFrom : State C → RunState (Turn Drawn) (State C)
+  runFrom s = run (next R) (bound s) [] s
 
-  unfoldable pub finished : State C → Result C
-  finished s =
-      let r = ran s in
+  unfoldable pub resultFrom : State C → Result C
+  resultFrom s =
+      let r = runFrom s in
       record { answer = answerOf (stopOf (next R) stop.Ended (bound s) s) (progress (length (r .turns)) (s .queue .len) (r .state .draws)); state = r .state }
 
   -- an entry refusal leaves the lists as they are
   abbrev pub afterCheck : Inputs → Check → State C → Result C
-  afterCheck i check.Passed s = finished (setUp (R .costs .none) i s)
+  afterCheck i check.Passed s = resultFrom (setUp (R .costs .none) i s)
   afterCheck i (check.Failed r) s = record { answer = answer.Refused r (progress 0 0 (i .seed)); state = s }
 
   -- a run by any rules, from inputs and lent lists
@@ -65,6 +65,6 @@ abbrev pub simulated : Inputs → State Float → Result Float
 simulated i = simulatedBy (rulesFor i) i
 
 -- an answer and lists are those of a result
-pub record Done {C : Type 0} (x : Result C) (r : Answer) (l : Lent C) : Type 0 where
+pub record IsResult {C : Type 0} (x : Result C) (r : Answer) (l : Lent C) : Type 0 where
   pub answer : r ≡ x .answer
   pub lists : l ≡ listsOf (x .state)

@@ -10,21 +10,21 @@ use Rattle.turns.specs.Run.{Next, takes, stops, run, stopOf}
 use Rattle.cards.specs.declared.Card.{Card}
 use Rattle.cards.specs.Day.{isNew}
 use Rattle.cards.specs.Cards.{writeFloats, writeCounts}
-use Rattle.days.specs.Counts.{countEvent}
+use Rattle.days.specs.Counts.{addEvent}
 use Rattle.days.specs.Sums.{addCost}
 use Rattle.days.specs.Due.{moveDue, noneDue}
 use Rattle.events.specs.declared.Memory.{Memory}
 use Rattle.queue.specs.Queue.{queue, frontChanged, popped, pushed}
 use Rattle.events.specs.Drawn.{Drawn}
 use Rattle.simulation.specs.declared.Outcome.{Outcome}
-use Rattle.simulation.specs.declared.Reach.{Reach}
+use Rattle.simulation.specs.declared.RunEnd.{RunEnd}
 use Rattle.simulation.specs.declared.Stop.{Stop}
 use Rattle.simulation.specs.declared.Stop.the-variants as stop
 use Rattle.simulation.specs.declared.Refusal.the-variants as refusal
 use Rattle.simulation.specs.declared.Outcome.the-variants as outcome
 use Rattle.simulation.specs.State.{State, Lent, listsOf, keyOf}
 use Rattle.simulation.specs.Rules.{Rules}
-use Rattle.simulation.specs.Turn.{cardAfterPutOff, holdCard, next}
+use Rattle.simulation.specs.Turn.{cardAfterPutOff, addForgettingCurve, next}
 
 -- the stop of a turn that was not taken
 abbrev pub stopIn : Outcome → Stop
@@ -41,7 +41,7 @@ afterOf s (takes t s′) = s′
 afterOf s (stops x) = s
 
 -- the outcome, and the lists as the turn leaves them: untouched where it stops
-pub record Turned {C : Type 0} (n : Next (Turn Drawn) (State C) Stop) (s : State C) (r : Outcome) (l : Lent C) : Type 0 where
+pub record TurnContract {C : Type 0} (n : Next (Turn Drawn) (State C) Stop) (s : State C) (r : Outcome) (l : Lent C) : Type 0 where
   pub outcome : r ≡ outcomeOf n
   pub lists : l ≡ listsOf (afterOf s n)
 
@@ -62,13 +62,13 @@ pub record PutOffStep (span c : ℕ) (k : Card) (d len draws : ℕ) (cards : Lis
 
 pub record RetireStep {C : Type 0} (R : Rules C) (k : Card) (len draws : ℕ) (memorized : List Float) (rows : List (List ℕ)) (r : Outcome) (memorized′ : List Float) (rows′ : List (List ℕ)) : Type 0 where
   pub outcome : r ≡ outcome.Took (popped (queue rows len) .len) draws
-  pub memorized-are : memorized′ ≡ holdCard (R .model) memorized k (R .span)
+  pub memorized-are : memorized′ ≡ addForgettingCurve (R .model) memorized k (R .span)
   pub rows-are : rows′ ≡ popped (queue rows len) .rows
 
 pub record DaysWritten (R : Rules Float) (k : Card) (new : Bool) (d : ℕ) (x : Memory) (days : List (List ℕ)) (costs memorized : List Float) (days′ : List (List ℕ)) (costs′ memorized′ : List Float) : Type 0 where
-  pub days-are : days′ ≡ countEvent (R .span) days new d (x .recalled)
+  pub days-are : days′ ≡ addEvent (R .span) days new d (x .recalled)
   pub costs-are : costs′ ≡ addCost (R .costs .none) (R .costs .plus) costs d (x .cost)
-  pub memorized-are : memorized′ ≡ holdCard (R .model) memorized k d
+  pub memorized-are : memorized′ ≡ addForgettingCurve (R .model) memorized k d
 
 pub record CardWritten (c : ℕ) (k : Card) (len : ℕ) (cards : List (List Float)) (counts rows : List (List ℕ)) (cards′ : List (List Float)) (counts′ rows′ : List (List ℕ)) : Type 0 where
   pub cards-are : cards′ ≡ writeFloats cards c k
@@ -76,14 +76,14 @@ pub record CardWritten (c : ℕ) (k : Card) (len : ℕ) (cards : List (List Floa
   pub queue-is : queue rows′ len ≡ frontChanged (queue rows len) (keyOf k)
 
 -- what the loop over turns leaves, from a state and for at most n turns
-pub record Ran {C : Type 0} (R : Rules C) (s : State C) (n : ℕ) (r : Reach) (l : Lent C) : Type 0 where
+pub record RunTurns {C : Type 0} (R : Rules C) (s : State C) (n : ℕ) (r : RunEnd) (l : Lent C) : Type 0 where
   pub stop-is : r .stop ≡ stopOf (next R) stop.Ended n s
   pub turns : r .turns ≡ length ((run (next R) n [] s) .turns)
   pub draws : r .draws ≡ (run (next R) n [] s) .state .draws
   pub lists : l ≡ listsOf ((run (next R) n [] s) .state)
 
 -- ---- set-up
-pub record Joined (k : Card) (len : ℕ) (cards : List (List Float)) (counts rows : List (List ℕ)) (r : ℕ) (cards′ : List (List Float)) (counts′ rows′ : List (List ℕ)) : Type 0 where
+pub record CardAdded (k : Card) (len : ℕ) (cards : List (List Float)) (counts rows : List (List ℕ)) (r : ℕ) (cards′ : List (List Float)) (counts′ rows′ : List (List ℕ)) : Type 0 where
   pub cards-are : cards′ ≡ writeFloats cards len k
   pub counts-are : counts′ ≡ writeCounts counts len k
   pub queue-is : queue rows′ r ≡ pushed (queue rows len) len (keyOf k)

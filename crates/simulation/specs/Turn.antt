@@ -13,7 +13,7 @@ use Rattle.cards.specs.declared.Choice.the-variants as choice
 use Rattle.cards.specs.Day.{dayOf, nextDue, isNew}
 use Rattle.cards.specs.Cards.{writeFloats, writeCounts}
 use Rattle.cards.specs.Choices.{choiceOf}
-use Rattle.days.specs.Counts.{raised, learnedAt, reviewedAt, countEvent}
+use Rattle.days.specs.Counts.{saturatingSuc, learnedAt, reviewedAt, addEvent}
 use Rattle.days.specs.Sums.{costAt, addCost, addForgettingCurveRange}
 use Rattle.days.specs.Due.{addDue, moveDue, noneDue}
 use Rattle.events.specs.declared.Memory.{Memory}
@@ -58,16 +58,16 @@ cardAfterEvent k new m d v = record {
   due = add binary32 (ofInt binary32 (pos d)) v;
   interval = v;
   «desired_retention» = k .«desired_retention»;
-  reps = raised (k .reps);
-  lapses = cond new (k .lapses) (cond (m .recalled) (k .lapses) (raised (k .lapses)));
+  reps = saturatingSuc (k .reps);
+  lapses = cond new (k .lapses) (cond (m .recalled) (k .lapses) (saturatingSuc (k .lapses)));
 }
 
 abbrev pub turnAs : ℕ → ℕ → Kind Drawn → Turn Drawn
 turnAs c d kind = record { card = c; day = d; kind = kind }
 
 -- what is memorized, with a card's chances from its last date up to day e, which is left out; a new card has none
-unfoldable pub holdCard : Model → List Float → Card → ℕ → List Float
-holdCard m memorized k e =
+unfoldable pub addForgettingCurve : Model → List Float → Card → ℕ → List Float
+addForgettingCurve m memorized k e =
     cond (isNew (k .«last_date»)) memorized
     (let from = toUnsigned 32 (k .«last_date») in addForgettingCurveRange (λ t. m .chance t (k .stability)) memorized (e - from) from (k .«last_date»))
 
@@ -78,7 +78,7 @@ orElse false a b = b
 module _ {C : Type 0} (R : Rules C) where
   -- the first card leaves the queue, memorized to the span's end
   unfoldable pub afterRetire : State C → Card → State C
-  afterRetire s k = withQueue (popped (s .queue)) (withMemorized (holdCard (R .model) (s .memorized) k (R .span)) s)
+  afterRetire s k = withQueue (popped (s .queue)) (withMemorized (addForgettingCurve (R .model) (s .memorized) k (R .span)) s)
 
   -- the first card, c, goes from day d to the next
   unfoldable pub afterPutOff : State C → ℕ → Card → ℕ → State C
@@ -100,9 +100,9 @@ module _ {C : Type 0} (R : Rules C) where
         cards = writeFloats (s .cards) c k′;
         counts = writeCounts (s .counts) c k′;
         queue = frontChanged (s .queue) (keyOf k′);
-        days = countEvent (R .span) (s .days) new d (x .recalled);
+        days = addEvent (R .span) (s .days) new d (x .recalled);
         costs = addCost (R .costs .none) (R .costs .plus) (s .costs) d (R .costs .cost (eventTurn s c k new d x));
-        memorized = holdCard (R .model) (s .memorized) k d;
+        memorized = addForgettingCurve (R .model) (s .memorized) k d;
         due = addDue (R .span) (s .due) (dayOf (k′ .due));
         table = entered (s .table) t;
         draws = x .draws;

@@ -1,15 +1,16 @@
-// The run: the types of its answer, and the entry. Its parts are entry (the tests), set_up, turn and run.
+// The run: the types of its answer, and the entry. Its parts are entry (the tests), set_up, turn and run; refusals has the numbers.
 use cards::SimulatorConfig;
 ghost use Rattle.simulation.specs.State.{lent, state};
 ghost use Rattle.simulation.specs.Entry.{inputs};
 ghost use Rattle.simulation.specs.Demands.{RunContract};
 
 mod entry;
+pub mod refusals;
 mod run;
 mod set_up;
 mod turn;
 
-// Why a call is turned away; `numberOf` and `secondOf` give the numbers of each.
+// Why a call is turned away; `refusals::number_of` and `second_of` give the numbers of each.
 pub enum Refusal {
     Parameters(u32),
     DeckSize,
@@ -54,7 +55,7 @@ pub enum Outcome {
 }
 
 // What a run of turns came to.
-pub struct Reach {
+pub struct RunEnd {
     pub stop: Stop,
     pub turns: u32,
     pub draws: u64,
@@ -110,7 +111,7 @@ pub fn simulate(
                 draws: seed,
             },
         ),
-        Check::Passed => run::start(
+        Check::Passed => run::simulate_inner(
             cards,
             counts,
             rows,

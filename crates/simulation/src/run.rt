@@ -2,7 +2,7 @@
 use super::Answer;
 use super::Outcome;
 use super::Progress;
-use super::Reach;
+use super::RunEnd;
 use super::Stop;
 use cards::SimulatorConfig;
 use model::Fsrs7;
@@ -13,11 +13,11 @@ ghost use Rattle.model.specs.Kept as Kept;
 ghost use Rattle.events.specs.Scalars.{kept};
 ghost use Rattle.simulation.specs.State.{lent, state, mostCards, mostDays};
 ghost use Rattle.simulation.specs.Rules.{rulesOf};
-ghost use Rattle.simulation.specs.Steps.{stopIn, Ran};
+ghost use Rattle.simulation.specs.Steps.{stopIn, RunTurns};
 ghost use Rattle.simulation.specs.declared.Check.the-variants as check;
 ghost use Rattle.simulation.specs.Entry.{inputs, checked};
 ghost use Rattle.simulation.specs.SetUp.{setUp};
-ghost use Rattle.simulation.specs.Simulate.{progress, answerOf, finished, Done};
+ghost use Rattle.simulation.specs.Simulate.{progress, answerOf, resultFrom, IsResult};
 
 // The stop of a turn that was not taken.
 fn stop_in(o: Outcome) -> Stop
@@ -45,8 +45,8 @@ fn run_turns(
     len: u32,
     seed: u64,
     bound: u32,
-) -> Reach
-    ensures { λ r. ⌜ Ran (rulesOf config (kept m))
+) -> RunEnd
+    ensures { λ r. ⌜ RunTurns (rulesOf config (kept m))
         (state (lent (now (cards .entry)) (now (counts .entry)) (now (rows .entry)) (now (days .entry)) (now (costs .entry)) (now (memorized .entry)) (now (due .entry)) (now (keys .entry)) (now (intervals .entry))) len seed)
         bound r
         (lent (now (cards .exit)) (now (counts .exit)) (now (rows .exit)) (now (days .exit)) (now (costs .exit)) (now (memorized .exit)) (now (due .exit)) (now (keys .exit)) (now (intervals .exit))) ⌝ }
@@ -71,7 +71,7 @@ fn run_turns(
             draws,
         );
         let Outcome::Took(left, after) = o else {
-            return Reach {
+            return RunEnd {
                 stop: stop_in(o),
                 turns,
                 draws,
@@ -81,7 +81,7 @@ fn run_turns(
         draws = after;
         turns += 1;
     }
-    Reach {
+    RunEnd {
         stop: Stop::Ended,
         turns,
         draws,
@@ -95,7 +95,7 @@ fn bound_of(len: u32, span: u32) -> u32
     len * (span + 1) + 1
 }
 
-fn answer_of(r: Reach, cards: u32) -> Answer
+fn answer_of(r: RunEnd, cards: u32) -> Answer
     ensures { λ x. ⌜ x ≡ answerOf (r .stop) (progress (r .turns) cards (r .draws)) ⌝ }
 {
     let progress = Progress {
@@ -111,7 +111,7 @@ fn answer_of(r: Reach, cards: u32) -> Answer
 }
 
 // A call that the entry accepts: set-up, and the turns.
-pub(crate) fn start(
+pub(crate) fn simulate_inner(
     cards: &mut [[f32; 6]],
     counts: &mut [[u32; 2]],
     rows: &mut [[u64; 2]],
@@ -131,8 +131,8 @@ pub(crate) fn start(
     requires { ⌜ checked
         (inputs config (now parameters) retention seed (now existing) (now «existing_counts»))
         (state (lent (now cards) (now counts) (now rows) (now days) (now costs) (now memorized) (now due) (now keys) (now intervals)) 0 seed) ≡ check.Passed ⌝ }
-    ensures { λ r. ⌜ Done
-        (finished (rulesOf config (kept (Kept.newOf (now (parameters .entry)))))
+    ensures { λ r. ⌜ IsResult
+        (resultFrom (rulesOf config (kept (Kept.newOf (now (parameters .entry)))))
         (setUp (ofBits binary32 0)
         (inputs config (now (parameters .entry)) retention seed (now (existing .entry)) (now («existing_counts» .entry)))
         (state (lent (now (cards .entry)) (now (counts .entry)) (now (rows .entry)) (now (days .entry)) (now (costs .entry)) (now (memorized .entry)) (now (due .entry)) (now (keys .entry)) (now (intervals .entry))) 0 seed)))

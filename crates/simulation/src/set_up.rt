@@ -14,8 +14,8 @@ ghost use Rattle.cards.specs.Day as Day;
 ghost use Rattle.cards.specs.Cards.{isKept};
 ghost use Rattle.simulation.specs.State.{lent, state, mostCards, mostDays};
 ghost use Rattle.simulation.specs.Entry.{inputs};
-ghost use Rattle.simulation.specs.Steps.{Joined};
-ghost use Rattle.simulation.specs.SetUp.{deck, filled, newCard, retainCard, retain, known, create, newCards, setUp};
+ghost use Rattle.simulation.specs.Steps.{CardAdded};
+ghost use Rattle.simulation.specs.SetUp.{deck, filled, newCard, addExistingCard, addExistingCards, introducedBefore, addNewCards, newCardCount, setUp};
 
 fn put_due(due: &mut [u32], i: u32)
     ensures { λ _. ⌜ now (due .exit) ≡ set (now (due .entry)) i 0 ⌝ }
@@ -45,12 +45,12 @@ fn put_counts(days: &mut [[u32; 4]], i: u32, row: [u32; 4])
     }
 }
 
-fn first_counts(days: &mut [[u32; 4]], span: u32, known: u32)
-    ensures { λ _. ⌜ now (days .exit) ≡ filled (dayRow 0 0 0 known) span (now (days .entry)) ⌝ }
+fn first_day_counts(days: &mut [[u32; 4]], span: u32, introduced: u32)
+    ensures { λ _. ⌜ now (days .exit) ≡ filled (dayRow 0 0 0 introduced) span (now (days .entry)) ⌝ }
 {
     let mut i: u32 = 0;
     while i < span {
-        put_counts(days, i, [0, 0, 0, known]);
+        put_counts(days, i, [0, 0, 0, introduced]);
         i += 1;
     }
 }
@@ -75,14 +75,14 @@ fn first_zeros(list: &mut [f32], span: u32)
     }
 }
 
-fn join(
+fn add_card(
     cards: &mut [[f32; 6]],
     counts: &mut [[u32; 2]],
     rows: &mut [[u64; 2]],
     card: Card,
     len: u32,
 ) -> u32
-    ensures { λ r. ⌜ Joined card len
+    ensures { λ r. ⌜ CardAdded card len
         (now (cards .entry)) (now (counts .entry)) (now (rows .entry)) r (now (cards .exit)) (now (counts .exit)) (now (rows .exit)) ⌝ }
 {
     let key = super::turn::key_of(card);
@@ -93,7 +93,7 @@ fn join(
     more.len
 }
 
-fn retain_card(
+fn add_existing_card(
     cards: &mut [[f32; 6]],
     counts: &mut [[u32; 2]],
     rows: &mut [[u64; 2]],
@@ -103,10 +103,10 @@ fn retain_card(
     len: u32,
 ) -> u32
     ensures { λ r. ⌜ deck (now (cards .exit)) (now (counts .exit)) (now (rows .exit)) (now (due .exit)) r
-        ≡ retainCard span (deck (now (cards .entry)) (now (counts .entry)) (now (rows .entry)) (now (due .entry)) len) card ⌝ }
+        ≡ addExistingCard span (deck (now (cards .entry)) (now (counts .entry)) (now (rows .entry)) (now (due .entry)) len) card ⌝ }
 {
     if cards::is_kept(card) {
-        let more = join(cards, counts, rows, card, len);
+        let more = add_card(cards, counts, rows, card, len);
         days::add_due(due, span, cards::day_of(card.due));
         return more;
     }
@@ -114,7 +114,7 @@ fn retain_card(
 }
 
 // The kept ones of the first n existing cards join an empty queue.
-fn retain(
+fn add_existing_cards(
     cards: &mut [[f32; 6]],
     counts: &mut [[u32; 2]],
     rows: &mut [[u64; 2]],
@@ -125,19 +125,19 @@ fn retain(
     n: u32,
 ) -> u32
     ensures { λ r. ⌜ deck (now (cards .exit)) (now (counts .exit)) (now (rows .exit)) (now (due .exit)) r
-        ≡ retain span (now (existing .entry)) (now («existing_counts» .entry)) n (deck (now (cards .entry)) (now (counts .entry)) (now (rows .entry)) (now (due .entry)) 0) ⌝ }
+        ≡ addExistingCards span (now (existing .entry)) (now («existing_counts» .entry)) n (deck (now (cards .entry)) (now (counts .entry)) (now (rows .entry)) (now (due .entry)) 0) ⌝ }
 {
     let mut len: u32 = 0;
     let mut i: u32 = 0;
     while i < n {
         let card = cards::card_at(existing, existing_counts, i);
-        len = retain_card(cards, counts, rows, due, span, card, len);
+        len = add_existing_card(cards, counts, rows, due, span, card, len);
         i += 1;
     }
     len
 }
 
-fn is_known(card: Card) -> bool
+fn is_introduced(card: Card) -> bool
     ensures { λ r. ⌜ r ≡ isKept card && not (Day.isNew (card .«last_date»)) ⌝ }
 {
     if cards::is_kept(card) {
@@ -147,21 +147,21 @@ fn is_known(card: Card) -> bool
     }
 }
 
-fn one_more_if(n: u32, more: bool) -> u32
+fn count_if(n: u32, more: bool) -> u32
     requires { ⌜ n < 4294967295 ⌝ }
     ensures { λ r. ⌜ r ≡ n + bit more ⌝ }
 {
     if more { n + 1 } else { n }
 }
 
-fn known(existing: &[[f32; 6]], existing_counts: &[[u32; 2]], n: u32) -> u32
-    ensures { λ r. ⌜ r ≡ known (now (existing .entry)) (now («existing_counts» .entry)) n ⌝ }
+fn introduced_before(existing: &[[f32; 6]], existing_counts: &[[u32; 2]], n: u32) -> u32
+    ensures { λ r. ⌜ r ≡ introducedBefore (now (existing .entry)) (now («existing_counts» .entry)) n ⌝ }
 {
     let mut count: u32 = 0;
     let mut i: u32 = 0;
     while i < n {
         let card = cards::card_at(existing, existing_counts, i);
-        count = one_more_if(count, is_known(card));
+        count = count_if(count, is_introduced(card));
         i += 1;
     }
     count
@@ -189,8 +189,8 @@ fn new_card(retention: f32, limit: u32, i: u32) -> Card
     }
 }
 
-fn new_cards(config: SimulatorConfig, kept: u32) -> u32
-    ensures { λ r. ⌜ r ≡ newCards config kept ⌝ }
+fn new_card_count(config: SimulatorConfig, kept: u32) -> u32
+    ensures { λ r. ⌜ r ≡ newCardCount config kept ⌝ }
 {
     if config.learn_limit == 0 {
         return 0;
@@ -202,7 +202,7 @@ fn new_cards(config: SimulatorConfig, kept: u32) -> u32
 }
 
 // n new cards join after the first `from`.
-fn create(
+fn add_new_cards(
     cards: &mut [[f32; 6]],
     counts: &mut [[u32; 2]],
     rows: &mut [[u64; 2]],
@@ -212,13 +212,13 @@ fn create(
     from: u32,
 ) -> u32
     ensures { λ r. ⌜ deck (now (cards .exit)) (now (counts .exit)) (now (rows .exit)) [] r
-        ≡ create retention limit n (deck (now (cards .entry)) (now (counts .entry)) (now (rows .entry)) [] from) ⌝ }
+        ≡ addNewCards retention limit n (deck (now (cards .entry)) (now (counts .entry)) (now (rows .entry)) [] from) ⌝ }
 {
     let mut len = from;
     let mut i: u32 = 0;
     while i < n {
         let card = new_card(retention, limit, i);
-        len = join(cards, counts, rows, card, len);
+        len = add_card(cards, counts, rows, card, len);
         i += 1;
     }
     len
@@ -248,9 +248,9 @@ pub(crate) fn set_up(
     let span = config.learn_span;
     let n = existing.len() as u32;
     first_due(due, span + span / 2);
-    let retained = retain(cards, counts, rows, due, existing, existing_counts, span, n);
-    let more = new_cards(config, retained);
-    let len = create(
+    let retained = add_existing_cards(cards, counts, rows, due, existing, existing_counts, span, n);
+    let more = new_card_count(config, retained);
+    let len = add_new_cards(
         cards,
         counts,
         rows,
@@ -259,7 +259,7 @@ pub(crate) fn set_up(
         more,
         retained,
     );
-    first_counts(days, span, known(existing, existing_counts, n));
+    first_day_counts(days, span, introduced_before(existing, existing_counts, n));
     first_zeros(costs, span);
     first_zeros(memorized, span);
     intervals::clear(intervals);

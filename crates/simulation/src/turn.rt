@@ -13,14 +13,14 @@ use queue::CardPriorityQueue;
 ghost use mathlib.Core.Path.{_≡_};
 ghost use mathlib.Core.Bool.{cond};
 ghost use Rattle.draws.specs.Draws.{splitMix};
-ghost use Rattle.days.specs.Counts.{raised};
+ghost use Rattle.days.specs.Counts.{saturatingSuc};
 ghost use Rattle.events.specs.Scalars.{kept};
 ghost use Rattle.events.specs.Events.{eventOf};
 ghost use Rattle.simulation.specs.State.{lent, keyOf, state};
 ghost use Rattle.simulation.specs.Model.{modelOf, curveFor};
 ghost use Rattle.simulation.specs.Rules.{rulesOf};
-ghost use Rattle.simulation.specs.Turn.{cardAfterPutOff, cardAfterEvent, holdCard, eventOn, next};
-ghost use Rattle.simulation.specs.Steps.{Turned, PutOff, PutOffStep, RetireStep, DaysWritten, CardWritten};
+ghost use Rattle.simulation.specs.Turn.{cardAfterPutOff, cardAfterEvent, addForgettingCurve, eventOn, next};
+ghost use Rattle.simulation.specs.Steps.{TurnContract, PutOff, PutOffStep, RetireStep, DaysWritten, CardWritten};
 
 // ---- the turn's card
 
@@ -66,7 +66,7 @@ fn put_off_card(card: Card, d: u32) -> Card
 }
 
 fn lapses_after(lapses: u32, new: bool, recalled: bool) -> u32
-    ensures { λ r. ⌜ r ≡ cond new lapses (cond recalled lapses (raised lapses)) ⌝ }
+    ensures { λ r. ⌜ r ≡ cond new lapses (cond recalled lapses (saturatingSuc lapses)) ⌝ }
 {
     if new {
         return lapses;
@@ -74,7 +74,7 @@ fn lapses_after(lapses: u32, new: bool, recalled: bool) -> u32
     if recalled {
         return lapses;
     }
-    days::raise(lapses)
+    days::saturating_suc(lapses)
 }
 
 fn event_card(card: Card, new: bool, x: Memory, d: u32, v: f32) -> Card
@@ -88,12 +88,12 @@ fn event_card(card: Card, new: bool, x: Memory, d: u32, v: f32) -> Card
         due: day + v,
         interval: v,
         desired_retention: card.desired_retention,
-        reps: days::raise(card.reps),
+        reps: days::saturating_suc(card.reps),
         lapses: lapses_after(card.lapses, new, x.recalled),
     }
 }
 
-fn hold_card(
+fn add_forgetting_curve(
     memorized: &mut [f32],
     config: SimulatorConfig,
     m: Fsrs7,
@@ -102,7 +102,7 @@ fn hold_card(
     to: u32,
 )
     requires { ⌜ curve ≡ curveFor m card ⌝ }
-    ensures { λ _. ⌜ now (memorized .exit) ≡ holdCard (modelOf config (kept m)) (now (memorized .entry)) card to ⌝ }
+    ensures { λ _. ⌜ now (memorized .exit) ≡ addForgettingCurve (modelOf config (kept m)) (now (memorized .entry)) card to ⌝ }
 {
     if cards::is_new(card.last_date) {
         return;
@@ -173,7 +173,7 @@ fn retire_step(
         r (now (memorized .exit)) (now (rows .exit)) ⌝ }
 {
     let curve = m.curve(card.stability);
-    hold_card(memorized, config, m, curve, card, config.learn_span);
+    add_forgetting_curve(memorized, config, m, curve, card, config.learn_span);
     let queue = CardPriorityQueue { len };
     let left = queue.pop(rows);
     Outcome::Took(left.len, draws)
@@ -196,9 +196,9 @@ fn write_days(
     ensures { λ _. ⌜ DaysWritten (rulesOf config (kept m)) card new d x
         (now (days .entry)) (now (costs .entry)) (now (memorized .entry)) (now (days .exit)) (now (costs .exit)) (now (memorized .exit)) ⌝ }
 {
-    days::count_event(days, config.learn_span, new, d, x.recalled);
+    days::add_event(days, config.learn_span, new, d, x.recalled);
     days::add_cost(costs, d, x.cost);
-    hold_card(memorized, config, m, curve, card, d);
+    add_forgetting_curve(memorized, config, m, curve, card, d);
 }
 
 fn write_card(
@@ -257,7 +257,7 @@ fn event_step(
 ) -> Outcome
     ensures { λ r. ⌜ (
         let before = state (lent (now (cards .entry)) (now (counts .entry)) (now (rows .entry)) (now (days .entry)) (now (costs .entry)) (now (memorized .entry)) (now (due .entry)) (now (keys .entry)) (now (intervals .entry))) len draws in
-        Turned (eventOn (rulesOf config (kept m)) before c card new d) before r
+        TurnContract (eventOn (rulesOf config (kept m)) before c card new d) before r
         (lent (now (cards .exit)) (now (counts .exit)) (now (rows .exit)) (now (days .exit)) (now (costs .exit)) (now (memorized .exit)) (now (due .exit)) (now (keys .exit)) (now (intervals .exit)))) ⌝ }
 {
     let curve = m.curve(card.stability);
@@ -302,7 +302,7 @@ pub(crate) fn turn(
 ) -> Outcome
     ensures { λ r. ⌜ (
         let before = state (lent (now (cards .entry)) (now (counts .entry)) (now (rows .entry)) (now (days .entry)) (now (costs .entry)) (now (memorized .entry)) (now (due .entry)) (now (keys .entry)) (now (intervals .entry))) len draws in
-        Turned (next (rulesOf config (kept m)) before) before r
+        TurnContract (next (rulesOf config (kept m)) before) before r
         (lent (now (cards .exit)) (now (counts .exit)) (now (rows .exit)) (now (days .exit)) (now (costs .exit)) (now (memorized .exit)) (now (due .exit)) (now (keys .exit)) (now (intervals .exit)))) ⌝ }
 {
     if len == 0 {

@@ -6,7 +6,7 @@ use mathlib.Core.List.{List, [], _∷_}
 use mathlib.Core.Path.{_≡_, refl, sym, ap, _∙_}
 use native.Mathlib.Nat.{zero-add, suc-add, add-suc}
 use lib.ListN.{length}
-use Rattle.turns.specs.Run.{Next, takes, stops, Reached, run, stopOf}
+use Rattle.turns.specs.Run.{Next, takes, stops, RunState, run, stopOf}
 use Rattle.turns.proofs.Chain.{Steps, Chain, start, more}
 
 -- a turn is a step of R and keeps I; nothing is asked of a stop
@@ -47,7 +47,7 @@ module _ {A S X : Type 0} (next : S → Next A S X) where
       ap (λ (i : ℕ). run next i ts s) (sym j) ∙ run-add k (n - k) ts s ∙ run-stopped (n - k) ((run next k ts s) .turns) ((run next k ts s) .state) x e
 
   -- it has stopped, or the fuel is spent
-  pub data Came (m : ℕ) (r : Reached A S) : Type 0 where
+  pub data Came (m : ℕ) (r : RunState A S) : Type 0 where
     stopped : (x : X) → next (r .state) ≡ stops x → Came m r
     spent : length (r .turns) ≡ m → Came m r
 
@@ -78,7 +78,7 @@ module _ {A S X : Type 0} (next : S → Next A S X) where
         go (spent e) = absurd (omega (arith, bound _ _ (run-chain (suc N) start i)))
 
 -- two runs that have the same turns, and states that B joins, the second stopped with x
-pub record Same {A S X : Type 0} (B : S → S → Type 0) (next : S → Next A S X) (r r′ : Reached A S) (x : X) : Type 0 where
+pub record Same {A S X : Type 0} (B : S → S → Type 0) (next : S → Next A S X) (r r′ : RunState A S) (x : X) : Type 0 where
   pub turns : r .turns ≡ r′ .turns
   pub states : B (r .state) (r′ .state)
   pub stop : next (r′ .state) ≡ stops x

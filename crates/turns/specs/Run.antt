@@ -8,11 +8,11 @@ pub data Next (A S X : Type 0) : Type 0 where
   stops : X → Next A S X
 
 -- what a run has come to: its turns, latest first, and its state
-pub record Reached (A S : Type 0) : Type 0 where
+pub record RunState (A S : Type 0) : Type 0 where
   pub turns : List A
   pub state : S
 
-abbrev pub run : {A S X : Type 0} → (S → Next A S X) → ℕ → List A → S → Reached A S
+abbrev pub run : {A S X : Type 0} → (S → Next A S X) → ℕ → List A → S → RunState A S
 run next zero ts s = record { turns = ts; state = s }
 run next (suc n) ts s = elim (next s) [ takes t s′ ↦ run next n (t ∷ ts) s′ | stops x ↦ record { turns = ts; state = s } ]
 

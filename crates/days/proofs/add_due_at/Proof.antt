@@ -11,8 +11,8 @@ due-days-requires c κs = search needs
 due-at-requires : tie.Need-due-at-requires
 due-at-requires c κs = search needs
 
-raise-requires : tie.Need-raise-requires
-raise-requires c κs = search needs
+saturating-suc-requires : tie.Need-saturating-suc-requires
+saturating-suc-requires c κs = search needs
 
 put-due-requires : tie.Need-put-due-requires
 put-due-requires c κs = search needs
@@ -22,7 +22,7 @@ same-length c = search needs
 
 returns : tie.Need-returns
 unfolding addDue
-returns c = rw (← c .before .before .before .before .before .before .before .before .due-days .ensures, lt-ltb _ _ (c .before .before .before .before .before .before .before .if1 .taken), c .before .before .put-due .ensures, c .before .before .before .raise .ensures, c .before .before .before .before .before .due-at .ensures)
+returns c = rw (← c .before .before .before .before .before .before .before .before .due-days .ensures, lt-ltb _ _ (c .before .before .before .before .before .before .before .if1 .taken), c .before .before .put-due .ensures, c .before .before .before .saturating-suc .ensures, c .before .before .before .before .before .due-at .ensures)
 
 returns-2 : tie.Need-returns-2
 unfolding addDue
@@ -34,7 +34,7 @@ add-due-at-spec =
     (tie.spec
     due-days-requires
     due-at-requires
-    raise-requires
+    saturating-suc-requires
     put-due-requires
     same-length
     returns

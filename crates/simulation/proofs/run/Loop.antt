@@ -7,7 +7,7 @@ use types.Run.{OneOf}
 use denote.Enum.Declared.{tagOf}
 use lib.ListN.{length}
 use Rattle.turns.specs.Turns.{Turn}
-use Rattle.turns.specs.Run.{Next, takes, stops, Reached, run, stopOf}
+use Rattle.turns.specs.Run.{Next, takes, stops, RunState, run, stopOf}
 use Rattle.turns.proofs.Loop.{run-one-more, run-enough, stop-takes, stop-stops}
 use Rattle.events.specs.Drawn.{Drawn}
 use Rattle.simulation.proofs.Outcome as outcome-type
@@ -18,7 +18,7 @@ use Rattle.simulation.specs.declared.Stop.the-variants as stop
 use Rattle.simulation.specs.State.{State, Lent, listsOf, state}
 use Rattle.simulation.specs.Rules.{Rules}
 use Rattle.simulation.specs.Turn.{next}
-use Rattle.simulation.specs.Steps.{stopIn, Turned, Ran}
+use Rattle.simulation.specs.Steps.{stopIn, TurnContract, RunTurns}
 use Rattle.simulation.proofs.Logic.{not-one}
 
 -- the state of a state's lists
@@ -37,7 +37,7 @@ took-both : (a b n r : ℕ) → outcome.Took n r ≡ outcome.Took a b → (n ≡
 took-both a b n r e = (cc, cc)
 
 module _ {C : Type 0} (R : Rules C) (s₀ : State C) (bound : ℕ) where
-  abbrev after : ℕ → Reached (Turn Drawn) (State C)
+  abbrev after : ℕ → RunState (Turn Drawn) (State C)
   after k = run (next R) k [] s₀
 
   -- after k turns
@@ -49,14 +49,14 @@ module _ {C : Type 0} (R : Rules C) (s₀ : State C) (bound : ℕ) where
 
   module _ {st : State C} {k : ℕ} (i : Going st k) {o : Outcome}
       {l′ : Lent C}
-      (p : Turned (next R st) st o l′) (l : k < bound) where
+      (p : TurnContract (next R st) st o l′) (l : k < bound) where
     one-left : bound - k ≡ suc (bound - (k + 1))
     one-left = omega arith
 
     pub going-on : (n′ r : ℕ) → o ≡ outcome.Took n′ r → Going (state l′ n′ r) (k + 1)
     going-on n′ r e = go (next R st) refl p
       where
-        go : (x : Next (Turn Drawn) (State C) Stop) → next R st ≡ x → Turned x st o l′ → Going (state l′ n′ r) (k + 1)
+        go : (x : Next (Turn Drawn) (State C) Stop) → next R st ≡ x → TurnContract x st o l′ → Going (state l′ n′ r) (k + 1)
         go (stops x) q h = absurd (stop-took x n′ r (sym (h .outcome) ∙ e))
         go (takes t s′) q h =
             let u = took-both (s′ .queue .len) (s′ .draws) n′ r (sym e ∙ h .outcome) in
@@ -64,33 +64,33 @@ module _ {C : Type 0} (R : Rules C) (s₀ : State C) (bound : ℕ) where
             let one : after (k + 1) ≡ record { turns = t ∷ (after k) .turns; state = s′ } = run-one-more (next R) k [] s₀ t s′ q′ in
             let now : state l′ n′ r ≡ s′ = state-is s′ l′ n′ r (h .lists) (u .0) (u .1) in
             record {
-              at = now ∙ sym (ap (λ (z : Reached (Turn Drawn) (State C)). z .state) one);
-              many = ap (λ (z : Reached (Turn Drawn) (State C)). length (z .turns)) one ∙ omega (arith, i .many);
+              at = now ∙ sym (ap (λ (z : RunState (Turn Drawn) (State C)). z .state) one);
+              many = ap (λ (z : RunState (Turn Drawn) (State C)). length (z .turns)) one ∙ omega (arith, i .many);
               within = omega arith;
               left = ap (λ (z : State C). stopOf (next R) stop.Ended (bound - (k + 1)) z) now ∙ sym (stop-takes (next R) stop.Ended (bound - (k + 1)) st t s′ q) ∙ sym (ap (λ (z : ℕ). stopOf (next R) stop.Ended z st) one-left) ∙ i .left;
             }
 
     pub going-stops : OneOf (1 ∷ []) (tagOf outcome-type.the-type o) → (z : Stop) → z ≡ stopIn o
-        → Ran R s₀ bound (record { stop = z; turns = k; draws = st .draws }) l′
+        → RunTurns R s₀ bound (record { stop = z; turns = k; draws = st .draws }) l′
     going-stops t z ez = go (next R st) refl p
       where
-        go : (x : Next (Turn Drawn) (State C) Stop) → next R st ≡ x → Turned x st o l′
-            → Ran R s₀ bound (record { stop = z; turns = k; draws = st .draws }) l′
+        go : (x : Next (Turn Drawn) (State C) Stop) → next R st ≡ x → TurnContract x st o l′
+            → RunTurns R s₀ bound (record { stop = z; turns = k; draws = st .draws }) l′
         go (takes u s′) q h = absurd (took-tag o (s′ .queue .len) (s′ .draws) t (h .outcome))
         go (stops x) q h =
             let q′ : next R ((after k) .state) ≡ stops x = rw (← i .at) q in
             let one : after bound ≡ after k = run-enough (next R) k bound [] s₀ x (i .within) q′ in
-            let s : st ≡ (after bound) .state = i .at ∙ sym (ap (λ (z : Reached (Turn Drawn) (State C)). z .state) one) in
+            let s : st ≡ (after bound) .state = i .at ∙ sym (ap (λ (z : RunState (Turn Drawn) (State C)). z .state) one) in
             let y : stopOf (next R) stop.Ended bound s₀ ≡ x = sym (i .left) ∙ ap (λ (z : ℕ). stopOf (next R) stop.Ended z st) one-left ∙ stop-stops (next R) stop.Ended (bound - (k + 1)) st x q in
             record {
               stop-is = ez ∙ ap stopIn (h .outcome) ∙ sym y;
-              turns = sym (ap (λ (z : Reached (Turn Drawn) (State C)). length (z .turns)) one ∙ i .many);
+              turns = sym (ap (λ (z : RunState (Turn Drawn) (State C)). length (z .turns)) one ∙ i .many);
               draws = ap (λ (z : State C). z .draws) s;
               lists = h .lists ∙ ap listsOf s;
             }
 
   pub going-spent : {x : Lent C} {n draws k : ℕ} → Going (state x n draws) k → bound ≤ k
-      → Ran R s₀ bound (record { stop = stop.Ended; turns = k; draws = draws }) x
+      → RunTurns R s₀ bound (record { stop = stop.Ended; turns = k; draws = draws }) x
   going-spent {x} {n} {draws} {k} i l =
       let e : k ≡ bound = omega (arith, i .within) in
       let none : bound - k ≡ 0 = omega arith in

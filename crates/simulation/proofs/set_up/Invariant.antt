@@ -33,7 +33,7 @@ use Rattle.intervals.specs.Table.{Table, places, freeAt, clearIn}
 use Rattle.events.specs.Drawn.{Drawn}
 use Rattle.simulation.specs.State.{State}
 use Rattle.simulation.specs.Entry.{Inputs}
-use Rattle.simulation.specs.SetUp.{Deck, filled, newCard, joined, retained, retainCard, retain, known, create, newCards, emptied, dealt, firstCounts, setUp}
+use Rattle.simulation.specs.SetUp.{Deck, filled, newCard, addCard, addKeptCard, addExistingCard, addExistingCards, introducedBefore, addNewCards, newCardCount, emptyDeck, addAllCards, firstDayCounts, setUp}
 use Rattle.simulation.specs.Invariant.{dayIn, newIn, keyIn, lapsesIn, StateInvariant}
 use Rattle.simulation.proofs.turn.Views.{columns}
 use Rattle.simulation.proofs.turn.Invariant.{write-long, else-key, else-day, else-new, own-day, own-new, own-key}
@@ -113,8 +113,8 @@ module _ (rows : List (List ℕ)) (lc ln : ℕ) where
   at-length dated n s j = subst (λ (z : ℕ). Joining rows lc ln dated z s) (sym (j .fill .count)) j
 
   join-here : (dated : ℕ) (s : Deck) (k : Card) → Joining rows lc ln dated (s .queue .len) s → s .queue .len < lc → s .queue .len < ln → s .queue .len < length rows → s .queue .len < 65536 → dayOf (k .due) < 2147483648 → k .lapses ≤ 4000000000
-      → Joining rows lc ln (dated + bit (not (isNew (k .«last_date»)))) (suc (s .queue .len)) (joined s k)
-  unfolding joined
+      → Joining rows lc ln (dated + bit (not (isNew (k .«last_date»)))) (suc (s .queue .len)) (addCard s k)
+  unfolding addCard
   join-here dated s k j h hn r few near most = record {
     cards-are = write-long (s .cards) n k ∙ j .cards-are;
     counts-are = counts-long (s .counts) n k ∙ j .counts-are;
@@ -143,10 +143,10 @@ module _ (rows : List (List ℕ)) (lc ln : ℕ) where
       lapsed c l (no e) = omega (arith, else-lapses (s .counts) n k c e, j .lapses c (omega arith))
 
   pub join : (dated n : ℕ) (s : Deck) (k : Card) → Joining rows lc ln dated n s → n < lc → n < ln → n < length rows → n < 65536 → dayOf (k .due) < 2147483648 → k .lapses ≤ 4000000000
-      → Joining rows lc ln (dated + bit (not (isNew (k .«last_date»)))) (suc n) (joined s k)
+      → Joining rows lc ln (dated + bit (not (isNew (k .«last_date»)))) (suc n) (addCard s k)
   join dated n s k j h hn r few near most =
       let e : s .queue .len ≡ n = j .fill .count in
-      subst (λ (z : ℕ). Joining rows lc ln (dated + bit (not (isNew (k .«last_date»)))) (suc z) (joined s k)) e
+      subst (λ (z : ℕ). Joining rows lc ln (dated + bit (not (isNew (k .«last_date»)))) (suc z) (addCard s k)) e
       (join-here dated s k (at-length dated n s j) (omega arith) (omega arith) (omega arith) (omega arith) near most)
 
 -- ---- the existing cards
@@ -172,20 +172,20 @@ module _ {C : Type 0} (b : CostRule Drawn C) (i : Inputs) (s : State C) (ok : Ac
     pub few : cards ≤ most
     pub joining : Joining rows (length (s .cards)) (length (s .counts)) dated cards s′
 
-  none : Came 0 0 (emptied i s)
-  unfolding emptied
+  none : Came 0 0 (emptyDeck i s)
+  unfolding emptyDeck
   none = record {
     cards = 0;
     few = omega arith;
     joining = record { cards-are = refl; counts-are = refl; fill = fill-none (keyIn (s .cards)) rows; near = λ c l. absurd (omega arith); news = refl; lapses = λ c l. absurd (omega arith) };
   }
 
-  retained-same : (dated n : ℕ) (s′ : Deck) (k : Card) → Joining rows (length (s .cards)) (length (s .counts)) dated n (joined s′ k) → Joining rows (length (s .cards)) (length (s .counts)) dated n (retained span s′ k)
-  unfolding retained
+  retained-same : (dated n : ℕ) (s′ : Deck) (k : Card) → Joining rows (length (s .cards)) (length (s .counts)) dated n (addCard s′ k) → Joining rows (length (s .cards)) (length (s .counts)) dated n (addKeptCard span s′ k)
+  unfolding addKeptCard
   retained-same dated n s′ k j = record { cards-are = j .cards-are; counts-are = j .counts-are; fill = j .fill; near = j .near; news = j .news; lapses = j .lapses }
 
-  retains : (n : ℕ) → n ≤ length es → Came (known es ns n) n (retain span es ns n (emptied i s))
-  unfolding retain retainCard known
+  retains : (n : ℕ) → n ≤ length es → Came (introducedBefore es ns n) n (addExistingCards span es ns n (emptyDeck i s))
+  unfolding addExistingCards addExistingCard introducedBefore
   retains zero h = none
   retains (suc n) h = go (isKept k) refl (retains n (omega arith))
     where
@@ -193,22 +193,22 @@ module _ {C : Type 0} (b : CostRule Drawn C) (i : Inputs) (s : State C) (ok : Ac
       k = cardAt es ns n
 
       before : Deck
-      before = retain span es ns n (emptied i s)
+      before = addExistingCards span es ns n (emptyDeck i s)
 
-      go : (b : Bool) → isKept k ≡ b → Came (known es ns n) n before → Came (known es ns n + bit (b && not (isNew (k .«last_date»)))) (suc n) (cond b (retained span before k) before)
+      go : (b : Bool) → isKept k ≡ b → Came (introducedBefore es ns n) n before → Came (introducedBefore es ns n + bit (b && not (isNew (k .«last_date»)))) (suc n) (cond b (addKeptCard span before k) before)
       go true e c = record {
         cards = suc (c .cards);
         few = omega (arith, c .few);
-        joining = retained-same (known es ns n + bit (not (isNew (k .«last_date»)))) (suc (c .cards)) before k
-            (join rows (length (s .cards)) (length (s .counts)) (known es ns n) (c .cards) before k (c .joining) (omega (arith, c .few, ok .existing-few, ok .cards-long)) (omega (arith, c .few, ok .existing-few, ok .counts-long)) (omega (arith, c .few, ok .existing-few, ok .queue-long)) (omega (arith, c .few, ok .existing-few, ok .deck-most)) (day-kept k (ok .cards-ok n (omega arith) e)) (lapses-kept k (ok .cards-ok n (omega arith) e)));
+        joining = retained-same (introducedBefore es ns n + bit (not (isNew (k .«last_date»)))) (suc (c .cards)) before k
+            (join rows (length (s .cards)) (length (s .counts)) (introducedBefore es ns n) (c .cards) before k (c .joining) (omega (arith, c .few, ok .existing-few, ok .cards-long)) (omega (arith, c .few, ok .existing-few, ok .counts-long)) (omega (arith, c .few, ok .existing-few, ok .queue-long)) (omega (arith, c .few, ok .existing-few, ok .deck-most)) (day-kept k (ok .cards-ok n (omega arith) e)) (lapses-kept k (ok .cards-ok n (omega arith) e)));
       }
-      go false e c = record { cards = c .cards; few = omega (arith, c .few); joining = subst (λ (z : ℕ). Joining rows (length (s .cards)) (length (s .counts)) z (c .cards) before) (let z : known es ns n ≡ known es ns n + 0 = omega arith in z) (c .joining) }
+      go false e c = record { cards = c .cards; few = omega (arith, c .few); joining = subst (λ (z : ℕ). Joining rows (length (s .cards)) (length (s .counts)) z (c .cards) before) (let z : introducedBefore es ns n ≡ introducedBefore es ns n + 0 = omega arith in z) (c .joining) }
 
   -- ---- the new ones
   abbrev kept : Deck
-  kept = retain span es ns (length es) (emptied i s)
+  kept = addExistingCards span es ns (length es) (emptyDeck i s)
 
-  all-kept : Came (known es ns (length es)) (length es) kept
+  all-kept : Came (introducedBefore es ns (length es)) (length es) kept
   all-kept = retains (length es) (omega arith)
 
   new-day : (n : ℕ) → n < 65536 → dayOf (newCard (i .retention) (i .config .«learn_limit») n .due) < 2147483648
@@ -223,28 +223,28 @@ module _ {C : Type 0} (b : CostRule Drawn C) (i : Inputs) (s : State C) (ok : Ac
   unfolding newCard isNew eq
   new-new n = refl
 
-  creates : (n : ℕ) → all-kept .cards + n ≤ deck → Came (known es ns (length es)) (all-kept .cards + n) (create (i .retention) (i .config .«learn_limit») n kept)
-  unfolding create
+  creates : (n : ℕ) → all-kept .cards + n ≤ deck → Came (introducedBefore es ns (length es)) (all-kept .cards + n) (addNewCards (i .retention) (i .config .«learn_limit») n kept)
+  unfolding addNewCards
   creates zero h = record { cards = all-kept .cards; few = omega arith; joining = all-kept .joining }
   creates (suc n) h = go (creates n (omega arith))
     where
       before : Deck
-      before = create (i .retention) (i .config .«learn_limit») n kept
+      before = addNewCards (i .retention) (i .config .«learn_limit») n kept
 
       k : Card
       k = newCard (i .retention) (i .config .«learn_limit») n
 
-      go : Came (known es ns (length es)) (all-kept .cards + n) before → Came (known es ns (length es)) (all-kept .cards + suc n) (joined before k)
+      go : Came (introducedBefore es ns (length es)) (all-kept .cards + n) before → Came (introducedBefore es ns (length es)) (all-kept .cards + suc n) (addCard before k)
       go c = record {
         cards = suc (c .cards);
         few = omega (arith, c .few);
-        joining = subst (λ (z : ℕ). Joining rows (length (s .cards)) (length (s .counts)) z (suc (c .cards)) (joined before k)) (let z : known es ns (length es) + bit (not (isNew (k .«last_date»))) ≡ known es ns (length es) = omega (arith, ap (λ (b : Bool). bit (not b)) (new-new n)) in z)
-            (join rows (length (s .cards)) (length (s .counts)) (known es ns (length es)) (c .cards) before k (c .joining) (omega (arith, c .few, h, ok .cards-long)) (omega (arith, c .few, h, ok .counts-long)) (omega (arith, c .few, h, ok .queue-long)) (omega (arith, c .few, h, ok .deck-most)) (new-day n (omega (arith, h, ok .deck-most))) (new-lapses n));
+        joining = subst (λ (z : ℕ). Joining rows (length (s .cards)) (length (s .counts)) z (suc (c .cards)) (addCard before k)) (let z : introducedBefore es ns (length es) + bit (not (isNew (k .«last_date»))) ≡ introducedBefore es ns (length es) = omega (arith, ap (λ (b : Bool). bit (not b)) (new-new n)) in z)
+            (join rows (length (s .cards)) (length (s .counts)) (introducedBefore es ns (length es)) (c .cards) before k (c .joining) (omega (arith, c .few, h, ok .cards-long)) (omega (arith, c .few, h, ok .counts-long)) (omega (arith, c .few, h, ok .queue-long)) (omega (arith, c .few, h, ok .deck-most)) (new-day n (omega (arith, h, ok .deck-most))) (new-lapses n));
       }
 
   -- ---- the whole set-up
-  room : all-kept .cards + newCards (i .config) (kept .queue .len) ≤ deck
-  unfolding newCards
+  room : all-kept .cards + newCardCount (i .config) (kept .queue .len) ≤ deck
+  unfolding newCardCount
   room = go (eqb (i .config .«learn_limit») 0)
     where
       go : (b : Bool) → all-kept .cards + cond b 0 (deck - kept .queue .len) ≤ deck
@@ -252,19 +252,19 @@ module _ {C : Type 0} (b : CostRule Drawn C) (i : Inputs) (s : State C) (ok : Ac
       go false = omega (arith, all-kept .few, ok .existing-few, all-kept .joining .fill .count)
 
   abbrev s₁ : Deck
-  s₁ = dealt i (emptied i s)
+  s₁ = addAllCards i (emptyDeck i s)
 
-  all-joined : Came (known es ns (length es)) deck s₁
-  unfolding dealt
+  all-joined : Came (introducedBefore es ns (length es)) deck s₁
+  unfolding addAllCards
   all-joined =
-      let c = creates (newCards (i .config) (kept .queue .len)) room in
+      let c = creates (newCardCount (i .config) (kept .queue .len)) room in
       record { cards = c .cards; few = omega (arith, c .few, room); joining = c .joining }
 
   len-is : s₁ .queue .len ≡ all-joined .cards
   len-is = all-joined .joining .fill .count
 
-  row-at : (d : ℕ) → d < span → getD (filled (firstCounts i) span (s .days)) d [] ≡ firstCounts i
-  row-at d h = filled-at (firstCounts i) [] span (s .days) d h (ok .days-long)
+  row-at : (d : ℕ) → d < span → getD (filled (firstDayCounts i) span (s .days)) d [] ≡ firstDayCounts i
+  row-at d h = filled-at (firstDayCounts i) [] span (s .days) d h (ok .days-long)
 
   costs-at : (d : ℕ) → d < span → getD (filled (b .none) span (s .costs)) d (b .none) ≡ b .none
   costs-at d h = filled-at (b .none) (b .none) span (s .costs) d h (ok .costs-long)
@@ -281,7 +281,7 @@ module _ {C : Type 0} (b : CostRule Drawn C) (i : Inputs) (s : State C) (ok : Ac
   unfolding setUp
   set-up-few = omega (arith, len-is, all-joined .few)
 
-  pub set-up-start : SetUp (columns (b .none)) b span (known es ns (length es)) (setUp (b .none) i s)
+  pub set-up-start : SetUp (columns (b .none)) b span (introducedBefore es ns (length es)) (setUp (b .none) i s)
   unfolding setUp
   set-up-start = record {
     learned-none = λ d h. ap (λ (l : List ℕ). getD l 0 0) (row-at d h);
@@ -299,7 +299,7 @@ module _ {C : Type 0} (b : CostRule Drawn C) (i : Inputs) (s : State C) (ok : Ac
         lengths = record {
           cards-long = omega (arith, len-is, all-joined .few, j .cards-are, ok .cards-long);
           counts-long = omega (arith, len-is, all-joined .few, j .counts-are, ok .counts-long);
-          days-long = omega (arith, ok .days-long, filled-long (firstCounts i) span (s .days));
+          days-long = omega (arith, ok .days-long, filled-long (firstDayCounts i) span (s .days));
           costs-long = omega (arith, ok .costs-long, filled-long (b .none) span (s .costs));
         };
         order = record {
@@ -315,5 +315,5 @@ module _ {C : Type 0} (b : CostRule Drawn C) (i : Inputs) (s : State C) (ok : Ac
         };
       }
     where
-      news : (d : ℕ) → d < span → getD (getD (filled (firstCounts i) span (s .days)) d []) 3 0 + sumTo (s₁ .queue .len) (λ c. bit (newIn (s₁ .cards) c)) ≤ s₁ .queue .len
+      news : (d : ℕ) → d < span → getD (getD (filled (firstDayCounts i) span (s .days)) d []) 3 0 + sumTo (s₁ .queue .len) (λ c. bit (newIn (s₁ .cards) c)) ≤ s₁ .queue .len
       news d h = rw len-is (omega (arith, ap (λ (l : List ℕ). getD l 3 0) (row-at d h), all-joined .joining .news))

@@ -16,8 +16,8 @@ enum-known-entry c = search needs
 enum-told : tie.Need-enum-told
 enum-told c = search needs
 
-start-requires : tie.Need-start-requires
-start-requires c κs =
+simulate-inner-requires : tie.Need-simulate-inner-requires
+simulate-inner-requires c κs =
     let at-enum-told = c .before .before .before .before .before .before .before .before .before in
     let at-check-entry = at-enum-told .before .before in
     let start = at-check-entry .before .before .before .before .before .before .before .before .before .before .before .before .before .before .before in
@@ -92,15 +92,15 @@ same-length-18 c = search needs
 
 returns-2 : tie.Need-returns-2
 returns-2 c =
-    let at-start = c .before .before .before .before .before .before .before .before .before .before .before .before .before in
-    let at-enum-told = at-start .before .before .before .before .before .before .before .before .before .before in
+    let at-simulate-inner = c .before .before .before .before .before .before .before .before .before .before .before .before .before in
+    let at-enum-told = at-simulate-inner .before .before .before .before .before .before .before .before .before .before in
     let at-check-entry = at-enum-told .before .before in
     let start = at-check-entry .before .before .before .before .before .before .before .before .before .before .before .before .before .before .before in
     let a = start .args in
     let i = inputs (a .config) (a .parameters .now) (a .retention) (a .seed) (a .existing .now) (a .existing-counts .now) in
     let s = state (lent (a .cards .now) (a .counts .now) (a .rows .now) (a .days .now) (a .costs .now) (a .memorized .now) (a .due .now) (a .keys .now) (a .intervals .now)) 0 (a .seed) in
     let e = sym (same-check i s (at-check-entry .check-entry .ensures)) ∙ at-enum-told .enum-told .given .1 in
-    accepted-is i s e (at-start .start .ensures)
+    accepted-is i s e (at-simulate-inner .simulate-inner .ensures)
 
 pub simulate-spec : {M : Type 1} → statement M
 simulate-spec =
@@ -109,7 +109,7 @@ simulate-spec =
     check-entry-requires
     enum-known-entry
     enum-told
-    start-requires
+    simulate-inner-requires
     same-length
     same-length-2
     same-length-3

@@ -36,7 +36,7 @@ use Rattle.simulation.specs.declared.Stop.the-variants as stop
 use Rattle.simulation.specs.State.{State, Lent, lent, state, keyOf}
 use Rattle.simulation.specs.Rules.{Rules}
 use Rattle.simulation.specs.Turn.{refuses, turnAs, eventTurn, cardAfterEvent, afterRetire, afterPutOff, afterEvent, eventWithSlot, eventOn, orElse, act, next}
-use Rattle.simulation.specs.Steps.{Turned, PutOff, PutOffStep, RetireStep, DaysWritten, CardWritten}
+use Rattle.simulation.specs.Steps.{TurnContract, PutOff, PutOffStep, RetireStep, DaysWritten, CardWritten}
 use Rattle.simulation.proofs.Lent.{same-lists}
 
 -- neither variant but the second
@@ -76,7 +76,7 @@ module _ (R : Rules Float) (l : Lent Float) (len draws : ℕ) where
 
   -- ---- an event
   module _ (c : ℕ) (k : Card) (new : Bool) (d : ℕ) where
-    pub chance-is : (e : Event) → e ≡ R .model .event (R .draw) k new d draws → e ≡ event.ChanceOutOfRange → Turned (eventOn R st c k new d) st (outcome.Stopped (stop.Refused (refusal.ChanceOutOfRange c))) l
+    pub chance-is : (e : Event) → e ≡ R .model .event (R .draw) k new d draws → e ≡ event.ChanceOutOfRange → TurnContract (eventOn R st c k new d) st (outcome.Stopped (stop.Refused (refusal.ChanceOutOfRange c))) l
     unfolding eventOn
     chance-is e p q =
         let x : R .model .event (R .draw) k new d draws ≡ event.ChanceOutOfRange = sym p ∙ q in
@@ -89,7 +89,7 @@ module _ (R : Rules Float) (l : Lent Float) (len draws : ℕ) where
           let y : R .model .event (R .draw) k new d draws ≡ event.Happened x = sym p ∙ q in
           rw (y, z)
 
-      pub full-is : (f : Bool) → f ≡ isFull t → f ≡ true → Turned (eventOn R st c k new d) st (outcome.Stopped (stop.Refused (refusal.TableFull c))) l
+      pub full-is : (f : Bool) → f ≡ isFull t → f ≡ true → TurnContract (eventOn R st c k new d) st (outcome.Stopped (stop.Refused (refusal.TableFull c))) l
       full-is f u y = rw (handles ∙ event-full R st c k new d x t (sym u ∙ y)) (record { outcome = refl; lists = refl })
 
       pub handled-is : (f : Bool) → f ≡ isFull t → f ≡ false
@@ -102,7 +102,7 @@ module _ (R : Rules Float) (l : Lent Float) (len draws : ℕ) where
           → x .cost ≡ R .costs .cost (eventTurn R st c k new d x)
           → l′ .due ≡ addDue (R .span) (l .due) day
           → table (l′ .keys) (l′ .intervals) ≡ entered (table (l .keys) (l .intervals)) t
-          → Turned (eventOn R st c k new d) st (outcome.Took len (x .draws)) l′
+          → TurnContract (eventOn R st c k new d) st (outcome.Took len (x .draws)) l′
       unfolding afterEvent
       handled-is f u y v ev k′ ek day ed l′ cw dw pw du tw =
           let kk : cardAfterEvent k new x d (intervalOf t) ≡ k′ = sym (ek ∙ ap (λ (w : Float). cardAfterEvent k new x d w) ev) in
@@ -125,7 +125,7 @@ module _ (R : Rules Float) (l : Lent Float) (len draws : ℕ) where
           }))
 
   -- ---- the turn
-  pub ended-is : len ≡ 0 → Turned (next R st) st (outcome.Stopped stop.Ended) l
+  pub ended-is : len ≡ 0 → TurnContract (next R st) st (outcome.Stopped stop.Ended) l
   unfolding next
   ended-is e = rw (eq-eqb len 0 e) (record { outcome = refl; lists = refl })
 
@@ -136,7 +136,7 @@ module _ (R : Rules Float) (l : Lent Float) (len draws : ℕ) where
     next-is = rw (ne-eqb len 0 ne, ← ec, ← ek, ← ed, ← el, ← er, ← ex, ← eh)
 
     pub retired-is : (o : Outcome) (memorized′ : List Float) (rows′ : List (List ℕ)) → ch ≡ choice.Retire → RetireStep R k len draws (l .memorized) (l .rows) o memorized′ rows′
-        → Turned (next R st) st o (lent (l .cards) (l .counts) rows′ (l .days) (l .costs) memorized′ (l .due) (l .keys) (l .intervals))
+        → TurnContract (next R st) st o (lent (l .cards) (l .counts) rows′ (l .days) (l .costs) memorized′ (l .due) (l .keys) (l .intervals))
     unfolding afterRetire
     retired-is o memorized′ rows′ e p =
         rw (next-is ∙ ap (act R st c k d) e)
@@ -146,12 +146,12 @@ module _ (R : Rules Float) (l : Lent Float) (len draws : ℕ) where
         })
 
     pub put-off-is : (o : Outcome) (cards′ : List (List Float)) (rows′ : List (List ℕ)) (due′ : List ℕ) → ch ≡ choice.PutOff → PutOffStep (R .span) c k d len draws (l .cards) (l .rows) (l .due) o cards′ rows′ due′
-        → Turned (next R st) st o (lent cards′ (l .counts) rows′ (l .days) (l .costs) (l .memorized) due′ (l .keys) (l .intervals))
+        → TurnContract (next R st) st o (lent cards′ (l .counts) rows′ (l .days) (l .costs) (l .memorized) due′ (l .keys) (l .intervals))
     unfolding afterPutOff
     put-off-is o cards′ rows′ due′ e p = rw (next-is ∙ ap (act R st c k d) e) (go (noneDue (l .due) (isNew (k .«last_date»)) d) refl)
       where
         go : (b : Bool) → noneDue (l .due) (isNew (k .«last_date»)) d ≡ b
-            → Turned (orElse b (refuses (refusal.DueCount c)) (takes (turnAs c d putOff) (afterPutOff R st c k d))) st o (lent cards′ (l .counts) rows′ (l .days) (l .costs) (l .memorized) due′ (l .keys) (l .intervals))
+            → TurnContract (orElse b (refuses (refusal.DueCount c)) (takes (turnAs c d putOff) (afterPutOff R st c k d))) st o (lent cards′ (l .counts) rows′ (l .days) (l .costs) (l .memorized) due′ (l .keys) (l .intervals))
         go true y =
             let h = p .refused y in
             record { outcome = h .0; lists = rw (h .1 .cards-are, h .1 .rows-are, h .1 .due-are) }
@@ -159,5 +159,5 @@ module _ (R : Rules Float) (l : Lent Float) (len draws : ℕ) where
             let h = p .done y in
             rw (sym (h .1 .queue-is)) (record { outcome = h .0; lists = rw (h .1 .cards-are, h .1 .due-are) })
 
-    pub event-is : (new : Bool) (o : Outcome) (l′ : Lent Float) → act R st c k d ch ≡ eventOn R st c k new d → Turned (eventOn R st c k new d) st o l′ → Turned (next R st) st o l′
+    pub event-is : (new : Bool) (o : Outcome) (l′ : Lent Float) → act R st c k d ch ≡ eventOn R st c k new d → TurnContract (eventOn R st c k new d) st o l′ → TurnContract (next R st) st o l′
     event-is new o l′ e p = rw (next-is ∙ e) p

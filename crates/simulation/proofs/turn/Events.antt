@@ -22,7 +22,7 @@ use Rattle.cards.specs.Day.{IntervalInRange, dayOf, isNew}
 use Rattle.cards.specs.Cards.{cardAt, noCounts, writeFloats, writeCounts, countsOf}
 use Rattle.cards.proofs.Basics.{getD-any}
 use Rattle.cards.proofs.Later.{day-later, day-bound}
-use Rattle.days.specs.Counts.{raised, learnedAt, reviewedAt, correctAt, introducedAt, learnOn, reviewOn, introduceFrom, countEvent}
+use Rattle.days.specs.Counts.{saturatingSuc, learnedAt, reviewedAt, correctAt, introducedAt, addLearn, addReview, addIntroducedFrom, addEvent}
 use Rattle.days.specs.Sums.{costAt, addCost}
 use Rattle.days.proofs.Laws.{raised-is, learn-long, learn-learned, learn-reviewed, learn-correct, learn-introduced, from-long, from-learned, from-reviewed, from-correct, from-introduced, review-long, review-learned, review-reviewed, review-introduced, review-correct, cost-long, cost-added}
 use Rattle.events.specs.declared.Memory.{Memory}
@@ -175,20 +175,20 @@ module _ {C : Type 0} (R : Rules C) (cards : ℕ) (fine : RunBounds (R .span) ca
   module _ (en : newIn fs c ≡ true) (is : new ≡ true) (l-ok : learnedAt rows d < R .limits .learns d) (b-ok : R .limits .counted d ≡ true → learnedAt rows d + reviewedAt rows d < R .limits .reviews d)
       (c-ok : R .limits .over d (costAt (R .costs .none) (s .costs) d) ≡ false) where
     abbrev rows′ : List (List ℕ)
-    rows′ = introduceFrom (learnOn rows d) (R .span - d) d
+    rows′ = addIntroducedFrom (addLearn rows d) (R .span - d) d
 
     learn-row : (i : ℕ) → learnedAt rows′ i ≡ learnedAt rows i + bit (eqb d i)
-    learn-row i = from-learned (learnOn rows d) (R .span - d) d i ∙ learn-learned rows d i (omega (arith, h, good .lengths .days-long)) (omega (arith, few-events d h))
+    learn-row i = from-learned (addLearn rows d) (R .span - d) d i ∙ learn-learned rows d i (omega (arith, h, good .lengths .days-long)) (omega (arith, few-events d h))
 
     review-row : (i : ℕ) → reviewedAt rows′ i ≡ reviewedAt rows i
-    review-row i = from-reviewed (learnOn rows d) (R .span - d) d i ∙ learn-reviewed rows d i
+    review-row i = from-reviewed (addLearn rows d) (R .span - d) d i ∙ learn-reviewed rows d i
 
     correct-row : (i : ℕ) → correctAt rows′ i ≡ correctAt rows i
-    correct-row i = from-correct (learnOn rows d) (R .span - d) d i ∙ learn-correct rows d i
+    correct-row i = from-correct (addLearn rows d) (R .span - d) d i ∙ learn-correct rows d i
 
     introduced-row : (i : ℕ) → i < R .span → introducedAt rows′ i ≡ introducedAt rows i + bit (ltb d (suc i))
     introduced-row i l =
-        from-introduced (R .span - d) d (learnOn rows d) (λ j u v. omega (arith, learn-introduced rows d j, good .counts .introduced j (omega (arith, h)), fine .few)) (omega (arith, learn-long rows d, h, good .lengths .days-long)) i (omega (arith, h))
+        from-introduced (R .span - d) d (addLearn rows d) (λ j u v. omega (arith, learn-introduced rows d j, good .counts .introduced j (omega (arith, h)), fine .few)) (omega (arith, learn-long rows d, h, good .lengths .days-long)) i (omega (arith, h))
         ∙ ap (λ (n : ℕ). n + bit (ltb d (suc i))) (learn-introduced rows d i)
 
     same-lapses : lapsesIn (writeCounts (s .counts) c k′) c ≡ lapsesIn (s .counts) c
@@ -196,7 +196,7 @@ module _ {C : Type 0} (R : Rules C) (cards : ℕ) (fine : RunBounds (R .span) ca
     same-lapses = lapses-now ∙ rw is lapses-then
 
     pub step-learn : Step view (columns (R .costs .none)) (R .costs) (R .limits) cards (R .span) ts s (eventTurn R s c k true d x) (afterEvent R s c k true d x t)
-    unfolding afterEvent countEvent cardAt
+    unfolding afterEvent addEvent cardAt
     step-learn = rw (← is) (record {
       moves = record {
         is-card = mine;
@@ -222,12 +222,12 @@ module _ {C : Type 0} (R : Rules C) (cards : ℕ) (fine : RunBounds (R .span) ca
     fewer = omega (arith, sum-at cards c (λ i. bit (newIn fs i)) (λ i. bit (newIn fs′ i)) mine (λ i ne. ap bit (else-new fs c k′ i ne)), ap bit en, ap bit dated)
 
     pub good-learn : StateInvariant cards (R .span) (afterEvent R s c k true d x t)
-    unfolding afterEvent countEvent
+    unfolding afterEvent addEvent
     good-learn = rw (← is) (record {
       lengths = record {
         cards-long = omega (arith, good .lengths .cards-long, write-long fs c k′);
         counts-long = omega (arith, good .lengths .counts-long, counts-long (s .counts) c k′);
-        days-long = omega (arith, good .lengths .days-long, from-long (learnOn rows d) (R .span - d) d, learn-long rows d);
+        days-long = omega (arith, good .lengths .days-long, from-long (addLearn rows d) (R .span - d) d, learn-long rows d);
         costs-long = omega (arith, good .lengths .costs-long, cost-long none (R .costs .plus) (s .costs) d (R .costs .cost (turnAs c d (learn rs))));
       };
       order = record {
@@ -246,7 +246,7 @@ module _ {C : Type 0} (R : Rules C) (cards : ℕ) (fine : RunBounds (R .span) ca
   -- ---- A REVIEW
   module _ (en : newIn fs c ≡ false) (is : new ≡ false) (r-ok : reviewedAt rows d < R .limits .reviews d) (c-ok : R .limits .over d (costAt (R .costs .none) (s .costs) d) ≡ false) where
     abbrev rows″ : List (List ℕ)
-    rows″ = reviewOn rows d (x .recalled)
+    rows″ = addReview rows d (x .recalled)
 
     in-rows : d < length rows
     in-rows = omega (arith, h, good .lengths .days-long)
@@ -257,7 +257,7 @@ module _ {C : Type 0} (R : Rules C) (cards : ℕ) (fine : RunBounds (R .span) ca
     recalled-row : (i : ℕ) → correctAt rows″ i ≡ correctAt rows i + bit (x .recalled && eqb d i)
     recalled-row i = review-correct rows d (x .recalled) i in-rows (omega (arith, good .counts .recalls d h, few-events d h))
 
-    lapsed : (b : Bool) (n : ℕ) → n < 4294967295 → cond b n (raised n) ≡ n + bit (not b)
+    lapsed : (b : Bool) (n : ℕ) → n < 4294967295 → cond b n (saturatingSuc n) ≡ n + bit (not b)
     lapsed true n l = omega arith
     lapsed false n l = raised-is n l
 
@@ -266,7 +266,7 @@ module _ {C : Type 0} (R : Rules C) (cards : ℕ) (fine : RunBounds (R .span) ca
     more-lapses = lapses-now ∙ rw is (lapsed (x .recalled) (k .lapses) (omega (arith, lapses-then-few, h, fine .most)) ∙ ap (λ (n : ℕ). n + bit (not (x .recalled))) lapses-then)
 
     pub step-review : Step view (columns (R .costs .none)) (R .costs) (R .limits) cards (R .span) ts s (eventTurn R s c k false d x) (afterEvent R s c k false d x t)
-    unfolding afterEvent countEvent cardAt
+    unfolding afterEvent addEvent cardAt
     step-review = rw (← is) (record {
       moves = record {
         is-card = mine;
@@ -296,7 +296,7 @@ module _ {C : Type 0} (R : Rules C) (cards : ℕ) (fine : RunBounds (R .span) ca
         at (no q) = else-new fs c k′ i q
 
     pub good-review : StateInvariant cards (R .span) (afterEvent R s c k false d x t)
-    unfolding afterEvent countEvent
+    unfolding afterEvent addEvent
     good-review = rw (← is) (record {
       lengths = record {
         cards-long = omega (arith, good .lengths .cards-long, write-long fs c k′);

@@ -152,17 +152,17 @@ module _ {C : Type 0} (R : Rules C) (cards : ℕ) (fine : RunBounds (R .span) ca
       go false e = let ne = eqb-false (s .queue .len) 0 e in law-turn ts s good (omega (arith, ne))
 
   -- DEMAND 3, of n turns from a state as set up
-  module _ (known : ℕ) (s₀ : State C) (z : SetUp (columns (R .costs .none)) (R .costs) (R .span) known s₀) (good : Fit s₀) (n : ℕ) where
+  module _ (introducedBefore : ℕ) (s₀ : State C) (z : SetUp (columns (R .costs .none)) (R .costs) (R .span) introducedBefore s₀) (good : Fit s₀) (n : ℕ) where
     run-steps : Chain Steps s₀ ((run (next R) n [] s₀) .turns) ((run (next R) n [] s₀) .state)
     run-steps = run-chain (next R) Steps Fit law n start good
 
     pub turns-demand : Demand cards (R .span) (R .costs) (R .limits) ((run (next R) n [] s₀) .turns)
-    turns-demand = run-demand view (columns (R .costs .none)) (R .costs) (R .limits) cards (R .span) known z run-steps
+    turns-demand = run-demand view (columns (R .costs .none)) (R .costs) (R .limits) cards (R .span) introducedBefore z run-steps
 
-    pub turns-rows : Rows (R .span) known (sumTo cards (columns (R .costs .none) .lapses s₀)) (sumTo cards (columns (R .costs .none) .lapses ((run (next R) n [] s₀) .state)))
+    pub turns-rows : Rows (R .span) introducedBefore (sumTo cards (columns (R .costs .none) .lapses s₀)) (sumTo cards (columns (R .costs .none) .lapses ((run (next R) n [] s₀) .state)))
         (columns (R .costs .none) .learned ((run (next R) n [] s₀) .state)) (columns (R .costs .none) .reviewed ((run (next R) n [] s₀) .state)) (columns (R .costs .none) .correct ((run (next R) n [] s₀) .state)) (columns (R .costs .none) .introduced ((run (next R) n [] s₀) .state))
         ((run (next R) n [] s₀) .turns)
-    turns-rows = run-rows view (columns (R .costs .none)) (R .costs) (R .limits) cards (R .span) known z run-steps
+    turns-rows = run-rows view (columns (R .costs .none)) (R .costs) (R .limits) cards (R .span) introducedBefore z run-steps
 
   -- the bound on turns never shows
   pub ends : (s₀ : State C) → Fit s₀ → (y : Stop) × (next R ((run (next R) (suc (cards * suc (R .span))) [] s₀) .state) ≡ stops y)

@@ -15,20 +15,20 @@ add-first-due c = search needs
 first-due-requires : tie.Need-first-due-requires
 first-due-requires c κs = search needs
 
-retain-requires : tie.Need-retain-requires
-retain-requires c κs = search needs
+add-existing-cards-requires : tie.Need-add-existing-cards-requires
+add-existing-cards-requires c κs = search needs
 
-new-cards-requires : tie.Need-new-cards-requires
-new-cards-requires c κs = search needs
+new-card-count-requires : tie.Need-new-card-count-requires
+new-card-count-requires c κs = search needs
 
-create-requires : tie.Need-create-requires
-create-requires c κs = search needs
+add-new-cards-requires : tie.Need-add-new-cards-requires
+add-new-cards-requires c κs = search needs
 
-known-requires : tie.Need-known-requires
-known-requires c κs = search needs
+introduced-before-requires : tie.Need-introduced-before-requires
+introduced-before-requires c κs = search needs
 
-first-counts-requires : tie.Need-first-counts-requires
-first-counts-requires c κs = search needs
+first-day-counts-requires : tie.Need-first-day-counts-requires
+first-day-counts-requires c κs = search needs
 
 first-zeros-requires : tie.Need-first-zeros-requires
 first-zeros-requires c κs = search needs
@@ -59,9 +59,9 @@ same-length-6 c = search needs
 
 same-length-7 : tie.Need-same-length-7
 same-length-7 c =
-    let at-retain = c .before .before .before .before .before .before .before .before .before .before .before .before .before .before .before .before .before .before .before .before .before .before .before .before .before .before .before .before .before in
-    let at-first-due = at-retain .before .before .before .before .before .before .before in
-    at-retain .retain .kept .1 .1 .1 .0 ∙ at-first-due .first-due .kept .0
+    let at-add-existing-cards = c .before .before .before .before .before .before .before .before .before .before .before .before .before .before .before .before .before .before .before .before .before .before .before .before .before .before .before .before .before in
+    let at-first-due = at-add-existing-cards .before .before .before .before .before .before .before in
+    at-add-existing-cards .add-existing-cards .kept .1 .1 .1 .0 ∙ at-first-due .first-due .kept .0
 
 same-length-8 : tie.Need-same-length-8
 same-length-8 c = search needs
@@ -71,18 +71,18 @@ returns c =
     let at-clear = c .before .before in
     let at-first-zeros2 = at-clear .before .before .before .before in
     let at-first-zeros = at-first-zeros2 .before .before .before .before in
-    let at-first-counts = at-first-zeros .before .before .before in
-    let at-known = at-first-counts .before in
-    let at-create = at-known .before .before .before .before .before in
-    let at-new-cards = at-create .before .before .before .before in
-    let at-retain = at-new-cards .before .before .before .before .before .before in
-    let at-first-due = at-retain .before .before .before .before .before .before .before in
+    let at-first-day-counts = at-first-zeros .before .before .before in
+    let at-introduced-before = at-first-day-counts .before in
+    let at-add-new-cards = at-introduced-before .before .before .before .before .before in
+    let at-new-card-count = at-add-new-cards .before .before .before .before in
+    let at-add-existing-cards = at-new-card-count .before .before .before .before .before .before in
+    let at-first-due = at-add-existing-cards .before .before .before .before .before .before .before in
     let start = at-first-due .before .before .before .before .before .before in
     let a = start .args in
     λ w seed keys. set-up-is (a .config) w (a .retention) seed (a .existing .now) (a .existing-counts .now)
     (a .cards .now) (a .counts .now) (a .rows .now) (a .days .now) (a .costs .now) (a .memorized .now) (a .due .now) keys (a .intervals .now) _ _ refl refl
-    (at-first-due .first-due .ensures) (at-retain .retain .ensures) (at-new-cards .new-cards .ensures) (at-create .create .ensures)
-    (at-known .known .ensures) (at-first-counts .first-counts .ensures) (at-first-zeros .first-zeros .ensures) (at-first-zeros2 .first-zeros2 .ensures) (at-clear .clear .ensures)
+    (at-first-due .first-due .ensures) (at-add-existing-cards .add-existing-cards .ensures) (at-new-card-count .new-card-count .ensures) (at-add-new-cards .add-new-cards .ensures)
+    (at-introduced-before .introduced-before .ensures) (at-first-day-counts .first-day-counts .ensures) (at-first-zeros .first-zeros .ensures) (at-first-zeros2 .first-zeros2 .ensures) (at-clear .clear .ensures)
 
 pub set-up-spec : {M : Type 1} → statement M
 set-up-spec =
@@ -91,11 +91,11 @@ set-up-spec =
     cast-n
     add-first-due
     first-due-requires
-    retain-requires
-    new-cards-requires
-    create-requires
-    known-requires
-    first-counts-requires
+    add-existing-cards-requires
+    new-card-count-requires
+    add-new-cards-requires
+    introduced-before-requires
+    first-day-counts-requires
     first-zeros-requires
     first-zeros-requires-2
     clear-requires

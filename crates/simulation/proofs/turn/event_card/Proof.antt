@@ -7,16 +7,16 @@ use Rattle.simulation.proofs.turn.event_card.Tie as tie
 from-u32-requires : tie.Need-from-u32-requires
 from-u32-requires c κs = search needs
 
-raise-requires : tie.Need-raise-requires
-raise-requires c κs = search needs
+saturating-suc-requires : tie.Need-saturating-suc-requires
+saturating-suc-requires c κs = search needs
 
 lapses-after-requires : tie.Need-lapses-after-requires
 lapses-after-requires c κs = search needs
 
 returns : tie.Need-returns
 unfolding cardAfterEvent
-returns c = rw (c .lapses-after .ensures, c .before .raise .ensures, c .before .before .from-u32 .ensures)
+returns c = rw (c .lapses-after .ensures, c .before .saturating-suc .ensures, c .before .before .from-u32 .ensures)
 
 pub event-card-spec : {M : Type 1} → statement M
 event-card-spec =
-    tie.close (tie.spec from-u32-requires raise-requires lapses-after-requires returns)
+    tie.close (tie.spec from-u32-requires saturating-suc-requires lapses-after-requires returns)

@@ -9,8 +9,8 @@ use Rattle.simulation.proofs.turn.retire_step.Tie as tie
 curve-requires : tie.Need-curve-requires
 curve-requires c κs = search needs
 
-hold-card-requires : tie.Need-hold-card-requires
-hold-card-requires c κs = search needs
+add-forgetting-curve-requires : tie.Need-add-forgetting-curve-requires
+add-forgetting-curve-requires c κs = search needs
 
 pop-requires : tie.Need-pop-requires
 pop-requires c κs = search needs
@@ -24,15 +24,15 @@ same-length-2 c = search needs
 returns : tie.Need-returns
 returns c =
     let at-pop = c .before in
-    let at-hold-card = at-pop .before .before .before .before in
-    let start = at-hold-card .before .before .before .before in
+    let at-add-forgetting-curve = at-pop .before .before .before .before in
+    let start = at-add-forgetting-curve .before .before .before .before in
     record {
       outcome = ap (λ (q : Queue). outcome.Took (q .len) (start .args .draws)) (at-pop .pop .ensures);
-      memorized-are = at-hold-card .hold-card .ensures;
+      memorized-are = at-add-forgetting-curve .add-forgetting-curve .ensures;
       rows-are = ap (λ (q : Queue). q .rows) (at-pop .pop .ensures);
     }
 
 pub retire-step-spec : {M : Type 1} → statement M
 retire-step-spec =
     tie.close
-    (tie.spec curve-requires hold-card-requires pop-requires same-length same-length-2 returns)
+    (tie.spec curve-requires add-forgetting-curve-requires pop-requires same-length same-length-2 returns)
