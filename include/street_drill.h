@@ -82,7 +82,7 @@ void drill_clear(float *intervals, size_t intervals_len);
  * numbers: deck_size, learn_span, learn_limit, review_limit, new_cards_ignore_review_limit (0: no), suspend_after_lapses,
  * learning_step_count, relearning_step_count; a limit of 4294967295 is none. Tables of three rows of four stand row by row.
  * A card is difficulty, stability, last_date, due, interval, desired_retention, and reps, lapses; a day's counts are learned,
- * reviewed, correct, introduced; a day's sums are cost and held.
+ * reviewed, correct, introduced; costs and memorized have a number a day.
  * answer: the refusal's number, 0 where the run ended; its second number; turns taken; the run's cards; the state of the draws. */
 void drill_simulate(const float *parameters, size_t parameters_len, const float (*existing_cards)[6], size_t existing_cards_len,
                     const uint32_t (*existing_counts)[2], size_t existing_counts_len, const uint32_t (*numbers)[8],
@@ -90,7 +90,8 @@ void drill_simulate(const float *parameters, size_t parameters_len, const float 
                     const float (*learning_step_transitions)[12], const float (*relearning_step_transitions)[12],
                     const float (*state_rating_costs)[12], float desired_retention, uint64_t seed, float (*cards)[6],
                     size_t cards_len, uint32_t (*counts)[2], size_t counts_len, uint64_t (*queue)[2], size_t queue_len,
-                    uint32_t (*days)[4], size_t days_len, float *costs, size_t costs_len, float *memorized, size_t memorized_len, uint32_t *due, size_t due_len,
+                    uint32_t (*days)[4], size_t days_len, float *costs, size_t costs_len, float *memorized,
+                    size_t memorized_len, uint32_t *due, size_t due_len,
                     uint32_t (*keys)[2], size_t keys_len, float *intervals, size_t intervals_len, uint64_t (*answer)[5]);
 
 #ifdef __cplusplus

@@ -1,12 +1,13 @@
-use borrow.Author.Needs.{needs}
-use denote.Ref.{now}
 use Rattle.cards.specs.declared.SimulatorConfig.{SimulatorConfig}
 use Rattle.simulation.specs.State.{lent, state}
 use Rattle.simulation.specs.Entry.{inputs}
-use Rattle.simulation.specs.Simulate.{simulated}
 use Rattle.capi.proofs.Telling.{told}
+use borrow.Author.Needs.{needs}
 use Rattle.capi.proofs.run.drill_simulate.Statement.{statement}
 use Rattle.capi.proofs.run.drill_simulate.Tie as tie
+use Rattle.capi.proofs.run.config_of.Reads as config-of-reads
+use Rattle.capi.proofs.run.numbers_of.Reads as numbers-of-reads
+use Rattle.simulation.proofs.simulate.Reads as simulate-reads
 
 config-of-requires : tie.Need-config-of-requires
 config-of-requires c κs = search needs
@@ -41,15 +42,19 @@ same-length-7 c = search needs
 same-length-8 : tie.Need-same-length-8
 same-length-8 c = search needs
 
+same-length-9 : tie.Need-same-length-9
+same-length-9 c = search needs
+
 returns : tie.Need-returns
 returns c =
+    let at-simulate = c .before .before .before .before .before .before .before .before .before .before .before .before .before .before in
+    let at-config-of = at-simulate .before .before .before .before .before .before .before .before .before .before in
+    let start = at-config-of .before .before .before .before .before .before in
+    let a = start .args in
     told
-    (λ (g : SimulatorConfig). simulated
-    (inputs g (now (c .before .before .before .before .before .before .before .before .before .before .before .before .before .before .before .before .before .before .before .before .before .before .before .before .args .parameters)) (c .before .before .before .before .before .before .before .before .before .before .before .before .before .before .before .before .before .before .before .before .before .before .before .before .args .«desired-retention») (c .before .before .before .before .before .before .before .before .before .before .before .before .before .before .before .before .before .before .before .before .before .before .before .before .args .seed) (now (c .before .before .before .before .before .before .before .before .before .before .before .before .before .before .before .before .before .before .before .before .before .before .before .before .args .existing)) (now (c .before .before .before .before .before .before .before .before .before .before .before .before .before .before .before .before .before .before .before .before .before .before .before .before .args .«existing-counts»)))
-    (state (lent (now (c .before .before .before .before .before .before .before .before .before .before .before .before .before .before .before .before .before .before .before .before .before .before .before .before .args .cards)) (now (c .before .before .before .before .before .before .before .before .before .before .before .before .before .before .before .before .before .before .before .before .before .before .before .before .args .counts)) (now (c .before .before .before .before .before .before .before .before .before .before .before .before .before .before .before .before .before .before .before .before .before .before .before .before .args .queue)) (now (c .before .before .before .before .before .before .before .before .before .before .before .before .before .before .before .before .before .before .before .before .before .before .before .before .args .days)) (now (c .before .before .before .before .before .before .before .before .before .before .before .before .before .before .before .before .before .before .before .before .before .before .before .before .args .sums)) (now (c .before .before .before .before .before .before .before .before .before .before .before .before .before .before .before .before .before .before .before .before .before .before .before .before .args .due)) (now (c .before .before .before .before .before .before .before .before .before .before .before .before .before .before .before .before .before .before .before .before .before .before .before .before .args .keys)) (now (c .before .before .before .before .before .before .before .before .before .before .before .before .before .before .before .before .before .before .before .before .before .before .before .before .args .intervals))) 0 (c .before .before .before .before .before .before .before .before .before .before .before .before .before .before .before .before .before .before .before .before .before .before .before .before .args .seed)))
-    (c .before .before .before .before .before .before .before .before .before .before .before .before .before .before .before .before .before .before .before .before .config-of .ensures)
-    (c .numbers-of .ensures)
-    (c .before .before .before .before .before .before .before .before .before .before .before .simulate .ensures .result)
+    (λ (g : SimulatorConfig). inputs g (a .parameters .now) (a .desired-retention) (a .seed) (a .existing .now) (a .existing-counts .now))
+    (state (lent (a .cards .now) (a .counts .now) (a .queue .now) (a .days .now) (a .costs .now) (a .memorized .now) (a .due .now) (a .keys .now) (a .intervals .now)) 0 (a .seed))
+    (at-config-of .config-of .ensures) (c .numbers-of .ensures) (at-simulate .simulate .ensures)
 
 pub drill-simulate-spec : {M : Type 1} → statement M
 drill-simulate-spec =
@@ -66,4 +71,5 @@ drill-simulate-spec =
     same-length-6
     same-length-7
     same-length-8
+    same-length-9
     returns)
