@@ -6,7 +6,7 @@ ghost use Prim.Native.Nat.{_+_, _-_, _/_};
 ghost use lib.ListN.{getD, set};
 ghost use lib.Ieee.{binary32, add};
 ghost use Rattle.days.specs.Counts.{raised, learnedAt, reviewedAt, learnOn, reviewOn, introduceOn, introduceFrom, countEvent};
-ghost use Rattle.model.specs.Kept.{retention};
+ghost use Rattle.model.specs.Model.{retention};
 ghost use Rattle.days.specs.Sums.{Summed, costColumn, heldColumn, costAt, payOn, holdOn, holdFrom};
 ghost use Rattle.days.specs.Due.{raiseAt, addDue, moveDue, noneDue};
 

@@ -8,7 +8,7 @@ use cards::SimulatorConfig;
 use events::Event;
 use events::Memory;
 use model::Curve;
-use model::Fsrs7;
+use model::Fsrs7Runtime;
 use queue::CardPriorityQueue;
 ghost use mathlib.Core.Path.{_≡_};
 ghost use mathlib.Core.Bool.{cond};
@@ -97,7 +97,7 @@ fn event_card(card: Card, new: bool, x: Memory, d: u32, v: f32) -> Card
 fn hold_card(
     sums: &mut [[f32; 2]],
     config: SimulatorConfig,
-    m: Fsrs7,
+    m: Fsrs7Runtime,
     curve: Curve,
     card: Card,
     to: u32,
@@ -164,7 +164,7 @@ fn retire_step(
     sums: &mut [[f32; 2]],
     rows: &mut [[u64; 2]],
     config: SimulatorConfig,
-    m: Fsrs7,
+    m: Fsrs7Runtime,
     card: Card,
     len: u32,
     draws: u64,
@@ -185,7 +185,7 @@ fn write_days(
     days: &mut [[u32; 4]],
     sums: &mut [[f32; 2]],
     config: SimulatorConfig,
-    m: Fsrs7,
+    m: Fsrs7Runtime,
     curve: Curve,
     card: Card,
     new: bool,
@@ -222,7 +222,7 @@ fn write_card(
 // The event of a card on a day; a review's chance is that of the card's curve.
 fn event_of(
     config: SimulatorConfig,
-    m: Fsrs7,
+    m: Fsrs7Runtime,
     curve: Curve,
     card: Card,
     new: bool,
@@ -246,7 +246,7 @@ fn event_step(
     keys: &mut [[u32; 2]],
     intervals: &mut [f32],
     config: SimulatorConfig,
-    m: Fsrs7,
+    m: Fsrs7Runtime,
     c: u32,
     card: Card,
     new: bool,
@@ -294,7 +294,7 @@ pub(crate) fn turn(
     keys: &mut [[u32; 2]],
     intervals: &mut [f32],
     config: SimulatorConfig,
-    m: Fsrs7,
+    m: Fsrs7Runtime,
     len: u32,
     draws: u64,
 ) -> Outcome

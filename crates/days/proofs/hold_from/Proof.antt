@@ -3,7 +3,7 @@ use Prim.Native.Nat.{_-_}
 use lib.ListN.{length}
 use native.Mathlib.Omega.{arith}
 use mathlib.Core.Path.{_≡_, refl, _∙_}
-use Rattle.model.specs.Kept.{retention}
+use Rattle.model.specs.Model.{retention}
 use Rattle.days.specs.Sums.{costColumn, heldColumn, holdFrom}
 use Rattle.days.proofs.Spans.{hold-turn, hold-end}
 use Rattle.days.proofs.hold_from.Statement.{statement}
