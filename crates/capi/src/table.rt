@@ -1,9 +1,8 @@
 // The interval table, in two lists of its keys and intervals.
-use model::Fsrs7;
+use model::Fsrs7Runtime;
 ghost use mathlib.Core.Path.{_≡_};
 ghost use lib.ListN.{length, replicate};
-ghost use Rattle.model.specs.Constants.{nought};
-ghost use Rattle.model.specs.Kept as Kept;
+ghost use Rattle.float32.specs.Numbers.{0ᶠ};
 ghost use Rattle.model.specs.Model as Model;
 ghost use Rattle.intervals.specs.Table.{table};
 ghost use Rattle.intervals.specs.Bucket.{pattern, bucketIndex, stabilityBucket, retentionBucket};
@@ -38,10 +37,10 @@ pub extern "C" fn drill_certifies_rounded_interval(
     interval: f32,
     most: f32,
 ) -> bool
-    ensures { λ r. ⌜ r ≡ certifies (Kept.retention (Kept.curveOf (Kept.newOf (now (w .entry)) .curve) (Model.ofStability stability))) stability retention interval most ⌝ }
+    ensures { λ r. ⌜ r ≡ certifies (λ x. Model.forgettingCurve (Model.curveOf (now (w .entry))) x stability) stability retention interval most ⌝ }
 {
     intervals::certifies_rounded_interval(
-        Fsrs7::new(w).curve(stability),
+        Fsrs7Runtime::new(w).curve(stability),
         stability,
         retention,
         interval,
@@ -59,11 +58,11 @@ pub extern "C" fn drill_scheduled_interval(
     keys: &mut [[u32; 2]],
     intervals: &mut [f32],
 ) -> f32
-    ensures { λ r. ⌜ r ≡ intervalOf (slotOf (Kept.newOf (now (w .entry))) stability retention most (table (now (keys .entry)) (now (intervals .entry)))) ⌝ }
-    ensures { λ _. ⌜ table (now (keys .exit)) (now (intervals .exit)) ≡ entered (table (now (keys .entry)) (now (intervals .entry))) (slotOf (Kept.newOf (now (w .entry))) stability retention most (table (now (keys .entry)) (now (intervals .entry)))) ⌝ }
+    ensures { λ r. ⌜ r ≡ intervalOf (slotOf (Model.curveOf (now (w .entry))) stability retention most (table (now (keys .entry)) (now (intervals .entry)))) ⌝ }
+    ensures { λ _. ⌜ table (now (keys .exit)) (now (intervals .exit)) ≡ entered (table (now (keys .entry)) (now (intervals .entry))) (slotOf (Model.curveOf (now (w .entry))) stability retention most (table (now (keys .entry)) (now (intervals .entry)))) ⌝ }
 {
     let slot = intervals::scheduled_interval(
-        Fsrs7::new(w),
+        Fsrs7Runtime::new(w),
         stability,
         retention,
         most,
@@ -76,7 +75,7 @@ pub extern "C" fn drill_scheduled_interval(
 
 #[no_mangle]
 pub extern "C" fn drill_clear(intervals: &mut [f32])
-    ensures { λ _. ⌜ now (intervals .exit) ≡ replicate (length (now (intervals .entry))) nought ⌝ }
+    ensures { λ _. ⌜ now (intervals .exit) ≡ replicate (length (now (intervals .entry))) 0ᶠ ⌝ }
 {
     intervals::clear(intervals);
 }

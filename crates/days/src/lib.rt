@@ -6,7 +6,7 @@ ghost use Prim.Native.Nat.{_+_, _-_, _/_};
 ghost use lib.ListN.{getD, set};
 ghost use lib.Ieee.{ofBits, binary32, add};
 ghost use Rattle.days.specs.Counts.{saturatingSuc, learnedAt, reviewedAt, addLearn, addReview, addIntroduced, addIntroducedFrom, addEvent};
-ghost use Rattle.model.specs.Kept.{retention};
+ghost use Rattle.model.specs.Model.{retention};
 ghost use Rattle.days.specs.Sums.{costAt, addCost, addMemorized, addForgettingCurveRange};
 ghost use Rattle.days.specs.Due.{addOneAt, addDue, moveDue, noneDue};
 

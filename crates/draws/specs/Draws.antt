@@ -1,11 +1,12 @@
 -- SplitMix64 (Steele, Lea and Flood 2014), and a rating and a recall drawn by one word of it. Definitions only. Assumes nothing.
 use Prim.Native.Nat.{ℕ, suc, _+_, _*_, _/_, _%_, _^_}
-use mathlib.Core.Bool.{Bool, cond}
+use mathlib.Core.Bool.{Bool, false, cond}
 use mathlib.Core.List.{List, [], _∷_}
 use lib.Bits.{bitXor}
 use lib.IntN.{pos}
-use lib.Ieee.{Float, binary32, ofBits, ofInt, lt}
+use lib.Ieee.{Float, binary32, round, ofInt, lt}
 use Rattle.float32.specs.Ops.{_+ᶠ_, _*ᶠ_, _/ᶠ_}
+use Rattle.float32.specs.Numbers.{0ᶠ}
 
 -- the state of the next draw
 unfoldable pub advance : ℕ → ℕ
@@ -32,24 +33,21 @@ splitMix = record { word = λ s. word (mix (advance s)); after = advance }
 
 -- v: the top 24 bits of a word, over 2 ^ 24
 unfoldable pub unit : ℕ → Float
-unit w = ofInt binary32 (pos (w / 2 ^ 8)) /ᶠ ofBits binary32 0x4B800000
+unit w = ofInt binary32 (pos (w / 2 ^ 8)) /ᶠ round binary32 false (2 ^ 24) 1
 
 unfoldable pub sumFrom : Float → List Float → Float
 sumFrom s [] = s
 sumFrom s (x ∷ xs) = sumFrom (s +ᶠ x) xs
 
-abbrev zero : Float
-zero = ofBits binary32 0
-
 -- The first index whose running sum is above the target, or the last of a positive weight if none is (0 if there is none of those either).
 -- i is the index of the first weight left, s the sum before it, and p the last index before i of a positive weight.
 unfoldable pub choose : Float → Float → ℕ → ℕ → List Float → ℕ
 choose target s i p [] = p
-choose target s i p (x ∷ xs) = let rest = choose target (s +ᶠ x) (suc i) (cond (lt zero x) i p) xs in cond (lt target (s +ᶠ x)) i rest
+choose target s i p (x ∷ xs) = let rest = choose target (s +ᶠ x) (suc i) (cond (lt 0ᶠ x) i p) xs in cond (lt target (s +ᶠ x)) i rest
 
 -- the index, from 0, of the weight that a word chooses
 unfoldable pub rating : List Float → ℕ → ℕ
-rating weights w = choose (unit w *ᶠ sumFrom zero weights) zero 0 0 weights
+rating weights w = choose (unit w *ᶠ sumFrom 0ᶠ weights) 0ᶠ 0 0 weights
 
 unfoldable pub recalled : Float → ℕ → Bool
 recalled chance w = lt (unit w) chance

@@ -2,7 +2,8 @@
 ghost use mathlib.Core.Path.{_≡_};
 ghost use Prim.Native.Nat.{_*_, _%_, _^_, _<_};
 ghost use mathlib.Core.Bool.{cond};
-ghost use lib.Ieee.{binary32, ofBits, lt};
+ghost use lib.Ieee.{lt};
+ghost use Rattle.float32.specs.Numbers.{0ᶠ};
 ghost use Rattle.draws.specs.Draws as Draws;
 
 // The generator, by value.
@@ -74,7 +75,7 @@ pub fn unit(word: u32) -> f32
 }
 
 fn total(weights: &[f32]) -> f32
-    ensures { λ r. ⌜ r ≡ Draws.sumFrom (ofBits binary32 0) (now (weights .entry)) ⌝ }
+    ensures { λ r. ⌜ r ≡ Draws.sumFrom 0ᶠ (now (weights .entry)) ⌝ }
 {
     let mut sum = 0.0;
     let mut i = 0;
@@ -87,7 +88,7 @@ fn total(weights: &[f32]) -> f32
 }
 
 fn last_positive(weight: f32, i: usize, before: usize) -> usize
-    ensures { λ r. ⌜ r ≡ cond (lt (ofBits binary32 0) weight) i before ⌝ }
+    ensures { λ r. ⌜ r ≡ cond (lt 0ᶠ weight) i before ⌝ }
 {
     if 0.0 < weight { i } else { before }
 }

@@ -6,11 +6,11 @@ use Prim.Native.Nat.{ℕ, zero, suc, _-_, _≤_, _<_}
 use native.Mathlib.Omega.{arith}
 use borrow.Author.Tests.{le-leb, lt-leb}
 use lib.Dec.{leb}
-use lib.Ieee.{Float, ofBits, binary32}
+use lib.Ieee.{Float}
 use Rattle.draws.specs.Draws.{DrawRule}
 use Rattle.model.specs.Model as Model
-use Rattle.model.specs.Kept as Kept
-use Rattle.model.proofs.Kept as kept-laws
+use Rattle.model.specs.Runtime as Runtime
+use Rattle.model.proofs.Runtime.{init-stability-is, curves-are}
 use Rattle.events.specs.declared.ShortTerm.{ShortTerm}
 use Rattle.events.specs.Scalars.{Scalars, plain, kept}
 use Rattle.events.specs.Events.{shortStep, shortSteps}
@@ -38,14 +38,6 @@ module _ (w : DrawRule) (x : Scalars) (transitions costs : List Float) (limit : 
       one m = unfold shortSteps in rw (lt-leb limit (t .consecutive) h, lt-leb 4 (t .rating) k)
 
 -- THE MODEL KEPT BY VALUE is the model
-pub kept-is : (w : List Float) → kept (Kept.newOf w) ≡ plain w
-unfolding Model.forgettingCurve
-kept-is w =
-    rw (
-      fun-ext (λ (r : ℕ). kept-laws.first-stability w r),
-      fun-ext (λ (r : ℕ). kept-laws.first-difficulty w r),
-      fun-ext (λ (d : Float). fun-ext (λ (r : ℕ). kept-laws.next-difficulty w d r (ofBits binary32 0x3F80_0000))),
-      fun-ext (λ (s : Float). fun-ext (λ (d : Float). fun-ext (λ (r : Float). fun-ext (λ (n : ℕ). kept-laws.stability w s d r n)))),
-      fun-ext (λ (t : Float). fun-ext (λ (s : Float). kept-laws.curve w t (Model.ofStability s))),
-      fun-ext (λ (s : Float). fun-ext (λ (r : Float). fun-ext (λ (l : Float). kept-laws.scheduled w s r l))),
-    )
+pub kept-is : (w : List Float) → kept (Runtime.runtimeOf w) ≡ plain w
+unfolding Runtime.runtimeOf Runtime.difficultyOf Model.initDifficulty Model.nextDifficulty Model.stabilityForSet
+kept-is w = rw (fun-ext (init-stability-is w), curves-are w)

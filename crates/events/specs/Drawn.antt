@@ -3,8 +3,9 @@ use Prim.Native.Nat.{ℕ, zero, suc}
 use mathlib.Core.Bool.{Bool, true, false, _||_, cond}
 use mathlib.Core.List.{List, [], _∷_}
 use lib.Dec.{leb}
-use lib.Ieee.{Float, nan, ofBits, binary32, add}
+use lib.Ieee.{Float, nan, binary32, add}
 use Rattle.float32.specs.Ops.{_+ᶠ_}
+use Rattle.float32.specs.Numbers.{0ᶠ}
 use Rattle.draws.specs.Draws.{DrawRule, recalled}
 use Rattle.turns.specs.Turns.{Kind, learn, review, putOff, retire, CostRule}
 use Rattle.cards.specs.declared.SimulatorConfig.{SimulatorConfig}
@@ -63,10 +64,10 @@ costOf g (learn []) = nan
 costOf g (learn (r ∷ rs)) = paid (rowOf (g .«state_rating_costs») 0) (ofRating (rowOf (g .«state_rating_costs») 0) r) rs
 costOf g (review recalled []) = nan
 costOf g (review true (r ∷ rs)) = ofRating (rowOf (g .«state_rating_costs») 1) r
-costOf g (review false (r ∷ rs)) = ofRating (rowOf (g .«state_rating_costs») 1) r +ᶠ paid (rowOf (g .«state_rating_costs») 2) (ofBits binary32 0) rs
+costOf g (review false (r ∷ rs)) = ofRating (rowOf (g .«state_rating_costs») 1) r +ᶠ paid (rowOf (g .«state_rating_costs») 2) 0ᶠ rs
 costOf g putOff = nan
 costOf g retire = nan
 
 -- a day's cost: the f32 sum of its events' costs in their order, 0 if there is none
 abbrev pub costs : SimulatorConfig → CostRule Drawn Float
-costs g = record { none = ofBits binary32 0; plus = λ x y. add binary32 x y; cost = λ t. costOf g (t .kind) }
+costs g = record { none = 0ᶠ; plus = λ x y. add binary32 x y; cost = λ t. costOf g (t .kind) }

@@ -5,9 +5,10 @@ use mathlib.Core.List.{List}
 use lib.Dec.{eqb, leb, ltb}
 use lib.ListN.{getD}
 use lib.IntN.{pos}
-use lib.Ieee.{Float, nan, ofBits, binary32, ofInt, le}
+use lib.Ieee.{Float, nan, binary32, ofInt, le}
 use Rattle.float32.specs.Float32.{clamp}
 use Rattle.float32.specs.Ops.{_+ᶠ_, _-ᶠ_}
+use Rattle.float32.specs.Numbers.{0ᶠ, 1ᶠ}
 use Rattle.draws.specs.Draws.{DrawRule, rating, recalled}
 use Rattle.model.specs.Constants.{sMin, sMax, dMin, dMax}
 use Rattle.cards.specs.declared.SimulatorConfig.{SimulatorConfig}
@@ -67,7 +68,7 @@ memoryOf t cost recalled = record {
 
 -- refusal 7: a chance that is NaN or not 0 to 1
 abbrev pub chanceOk : Float → Bool
-chanceOk chance = le (ofBits binary32 0) chance && le chance (ofBits binary32 0x3F80_0000)
+chanceOk chance = le 0ᶠ chance && le chance 1ᶠ
 
 -- the chance to recall a card on a day
 unfoldable pub chanceOn : Scalars → Card → ℕ → Float
@@ -122,7 +123,7 @@ module _ (w : DrawRule) (g : SimulatorConfig) (x : Scalars) where
   failedOf k chance state = record {
     stability = x .after-failure (k .stability) (k .difficulty) chance;
     difficulty = x .next-difficulty (k .difficulty) 1;
-    cost = ofBits binary32 0;
+    cost = 0ᶠ;
     rating = 1;
     consecutive = 0;
     draws = state;

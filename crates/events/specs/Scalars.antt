@@ -2,10 +2,11 @@
 -- the parameters. `kept-is` says that the two are the same. Definitions only.
 use Prim.Native.Nat.{ℕ}
 use mathlib.Core.List.{List}
-use lib.Ieee.{Float, ofBits, binary32}
+use lib.Ieee.{Float}
+use Rattle.float32.specs.Numbers.{1ᶠ}
 use Rattle.model.specs.Model as Model
-use Rattle.model.specs.Kept as Kept
-use Rattle.model.specs.declared.model_v7.Fsrs7.{Fsrs7}
+use Rattle.model.specs.Runtime as Runtime
+use Rattle.model.specs.declared.parameters.Fsrs7Runtime.{Fsrs7Runtime}
 
 pub record Scalars : Type 0 where
   -- of a new card, by its first rating
@@ -23,31 +24,28 @@ pub record Scalars : Type 0 where
   -- the interval in whole days for a stability and a retention, up to the longest
   pub interval : Float → Float → Float → Float
 
-abbrev one : Float
-one = ofBits binary32 0x3F80_0000
-
 -- FSRS-7 over its parameters
 abbrev pub plain : List Float → Scalars
 plain w = record {
   init-stability = λ rating. Model.initStability w rating;
   init-difficulty = λ rating. Model.initDifficulty w rating;
-  next-difficulty = λ d rating. Model.nextDifficulty w d rating one;
-  short-term = λ s d rating. Model.stabilityForSet w s d one rating 7;
+  next-difficulty = λ d rating. Model.nextDifficulty w d rating 1ᶠ;
+  short-term = λ s d rating. Model.stabilityForSet w s d 1ᶠ rating 7;
   after-success = λ s d r rating. Model.stabilityForSet w s d r rating 7;
   after-failure = λ s d r. Model.stabilityForSet w s d r 1 7;
-  chance = λ t s. Model.forgettingCurve w t s;
-  interval = λ s r longest. Model.scheduled w s r longest;
+  chance = λ t s. Model.forgettingCurve (Model.curveOf w) t s;
+  interval = λ s r longest. Model.scheduled (Model.curveOf w) s r longest;
 }
 
 -- and from what is kept of them
-abbrev pub kept : Fsrs7 → Scalars
+abbrev pub kept : Fsrs7Runtime → Scalars
 kept m = record {
-  init-stability = λ rating. Kept.initStability m rating;
-  init-difficulty = λ rating. Kept.initDifficulty m rating;
-  next-difficulty = λ d rating. Kept.nextDifficulty m d rating one;
-  short-term = λ s d rating. Kept.stabilityForSet m s d one rating;
-  after-success = λ s d r rating. Kept.stabilityForSet m s d r rating;
-  after-failure = λ s d r. Kept.stabilityForSet m s d r 1;
-  chance = λ t s. Kept.retention (Kept.curveOf (m .curve) (Model.ofStability s)) t;
-  interval = λ s r longest. Kept.scheduled m s r longest;
+  init-stability = λ rating. Runtime.initStability m rating;
+  init-difficulty = λ rating. Model.initDifficultyBy (m .difficulty .w4) (m .difficulty .w5) rating;
+  next-difficulty = λ d rating. Model.nextDifficultyBy (m .difficulty .easy) (m .difficulty .w6) d rating 1ᶠ;
+  short-term = λ s d rating. Model.stabilityBy (m .stability) s d 1ᶠ rating;
+  after-success = λ s d r rating. Model.stabilityBy (m .stability) s d r rating;
+  after-failure = λ s d r. Model.stabilityBy (m .stability) s d r 1;
+  chance = λ t s. Model.forgettingCurve (Runtime.curveOf m) t s;
+  interval = λ s r longest. Model.scheduled (Runtime.curveOf m) s r longest;
 }

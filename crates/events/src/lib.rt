@@ -2,7 +2,7 @@
 use cards::Card;
 use cards::SimulatorConfig;
 use draws::SplitMix64;
-use model::Fsrs7;
+use model::Fsrs7Runtime;
 ghost use mathlib.Core.Path.{_≡_};
 ghost use Prim.Native.Nat.{_+_, _-_, _≤_, _<_, min};
 ghost use mathlib.Core.Bool.{cond};
@@ -88,7 +88,7 @@ fn consecutive_after(n: u32, rating: u32) -> u32
     }
 }
 
-fn short_step(m: Fsrs7, transitions: [f32; 12], costs: [f32; 4], t: ShortTerm) -> ShortTerm
+fn short_step(m: Fsrs7Runtime, transitions: [f32; 12], costs: [f32; 4], t: ShortTerm) -> ShortTerm
     requires { ⌜ t .consecutive < 4294967295 ⌝ }
     ensures { λ r. ⌜ r ≡ shortStep splitMix (kept m) transitions costs t ⌝ }
 {
@@ -107,7 +107,7 @@ fn short_step(m: Fsrs7, transitions: [f32; 12], costs: [f32; 4], t: ShortTerm) -
 }
 
 fn short_steps(
-    m: Fsrs7,
+    m: Fsrs7Runtime,
     transitions: [f32; 12],
     costs: [f32; 4],
     limit: u32,
@@ -134,8 +134,8 @@ fn memory_of(t: ShortTerm, cost: f32, recalled: bool) -> Memory
     ensures { λ r. ⌜ r ≡ memoryOf t cost recalled ⌝ }
 {
     Memory {
-        difficulty: float32::clamp(t.difficulty, Fsrs7::D_MIN, Fsrs7::D_MAX),
-        stability: float32::clamp(t.stability, Fsrs7::S_MIN, Fsrs7::S_MAX),
+        difficulty: float32::clamp(t.difficulty, Fsrs7Runtime::D_MIN, Fsrs7Runtime::D_MAX),
+        stability: float32::clamp(t.stability, Fsrs7Runtime::S_MIN, Fsrs7Runtime::S_MAX),
         cost,
         recalled,
         draws: t.draws,
@@ -152,7 +152,7 @@ fn learning_limit(config: SimulatorConfig, rating: u32) -> u32
     }
 }
 
-fn learning(config: SimulatorConfig, m: Fsrs7, state: u64) -> Memory
+fn learning(config: SimulatorConfig, m: Fsrs7Runtime, state: u64) -> Memory
     ensures { λ r. ⌜ r ≡ learning splitMix config (kept m) state ⌝ }
 {
     let drawn = SplitMix64::new(state).next();
@@ -163,7 +163,11 @@ fn learning(config: SimulatorConfig, m: Fsrs7, state: u64) -> Memory
     let generator = drawn.generator;
     let first = ShortTerm {
         stability: m.init_stability(rating),
-        difficulty: float32::clamp(m.init_difficulty(rating), Fsrs7::D_MIN, Fsrs7::D_MAX),
+        difficulty: float32::clamp(
+            m.init_difficulty(rating),
+            Fsrs7Runtime::D_MIN,
+            Fsrs7Runtime::D_MAX,
+        ),
         cost: of_rating(costs, rating),
         rating,
         consecutive: 0,
@@ -174,7 +178,7 @@ fn learning(config: SimulatorConfig, m: Fsrs7, state: u64) -> Memory
     memory_of(t, t.cost, true)
 }
 
-fn success(config: SimulatorConfig, m: Fsrs7, card: Card, chance: f32, state: u64) -> Memory
+fn success(config: SimulatorConfig, m: Fsrs7Runtime, card: Card, chance: f32, state: u64) -> Memory
     ensures { λ r. ⌜ r ≡ success splitMix config (kept m) card chance state ⌝ }
 {
     let drawn = SplitMix64::new(state).next();
@@ -192,7 +196,7 @@ fn success(config: SimulatorConfig, m: Fsrs7, card: Card, chance: f32, state: u6
     }
 }
 
-fn lapse(config: SimulatorConfig, m: Fsrs7, card: Card, chance: f32, state: u64) -> Memory
+fn lapse(config: SimulatorConfig, m: Fsrs7Runtime, card: Card, chance: f32, state: u64) -> Memory
     ensures { λ r. ⌜ r ≡ lapse splitMix config (kept m) card chance state ⌝ }
 {
     let first = ShortTerm {
@@ -221,7 +225,7 @@ fn chance_ok(chance: f32) -> bool
     if chance >= 0.0 { chance <= 1.0 } else { false }
 }
 
-fn reviewing(config: SimulatorConfig, m: Fsrs7, card: Card, chance: f32, state: u64) -> Event
+fn reviewing(config: SimulatorConfig, m: Fsrs7Runtime, card: Card, chance: f32, state: u64) -> Event
     ensures { λ r. ⌜ r ≡ reviewing splitMix config (kept m) card chance state ⌝ }
 {
     if chance_ok(chance) {
@@ -238,7 +242,7 @@ fn reviewing(config: SimulatorConfig, m: Fsrs7, card: Card, chance: f32, state: 
 // A learning of a new card, or a review at a chance to recall, from a state of the draws.
 pub fn event_at(
     config: SimulatorConfig,
-    m: Fsrs7,
+    m: Fsrs7Runtime,
     card: Card,
     new: bool,
     chance: f32,

@@ -1,6 +1,7 @@
 -- What the proofs of several functions use.
 pub mod Cmp
 pub mod Limits
+pub mod Numbers
 pub mod NonNegative
 pub mod Casts
 pub mod Simple

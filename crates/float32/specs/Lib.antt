@@ -1,4 +1,5 @@
 pub mod Float32
 pub mod Ops
+pub mod Numbers
 pub mod Encoding
 pub mod Sticky

@@ -22,7 +22,7 @@ use native.Mathlib.Omega.{arith}
 use lib.Ieee.{Float, nan, lt, ofBits, ofFields}
 use lib.ListN.{length, length-replicate, getD-replicate}
 use Rattle.float32.specs.Float32.{clamp}
-use Rattle.model.specs.Constants.{nought, one}
+use Rattle.float32.specs.Numbers.{0ᶠ, 1ᶠ}
 use Rattle.intervals.specs.declared.Entry.{Entry}
 use Rattle.intervals.specs.declared.Entry.the-variants.{Found, Free, Full}
 use Rattle.intervals.specs.Table.{Table, places, isFree, sameKey, freeAt, keyAt, valueAt, lookupIn, enterIn, clearIn, heldTo, countTo, heldIn, countIn, answerOf}
@@ -221,30 +221,30 @@ count-more t t' p (suc m) h f₀ f₁ a =
 
 -- ---- an emptied table
 
-zero-free : isFree nought ≡ true
+zero-free : isFree 0ᶠ ≡ true
 unfolding lt ofBits ofFields
 zero-free = refl
 
-one-used : isFree one ≡ false
+one-used : isFree 1ᶠ ≡ false
 unfolding lt ofBits ofFields
 one-used = refl
 
 -- what is clamped between 1 and a maximum that is not below 1 does not mark a free place
-clamp-by : (x hi : Float) (a b : Bool) → lt x one ≡ a → lt hi x ≡ b → isFree hi ≡ false → isFree (cond a one (cond b hi x)) ≡ false
+clamp-by : (x hi : Float) (a b : Bool) → lt x 1ᶠ ≡ a → lt hi x ≡ b → isFree hi ≡ false → isFree (cond a 1ᶠ (cond b hi x)) ≡ false
 clamp-by x hi true b e f h = one-used
 clamp-by x hi false true e f h = h
 clamp-by x hi false false e f h = e
 
-pub clamp-used : (x hi : Float) → isFree hi ≡ false → isFree (clamp x one hi) ≡ false
+pub clamp-used : (x hi : Float) → isFree hi ≡ false → isFree (clamp x 1ᶠ hi) ≡ false
 unfolding clamp
-clamp-used x hi h = clamp-by x hi (lt x one) (lt hi x) refl refl h
+clamp-used x hi h = clamp-by x hi (lt x 1ᶠ) (lt hi x) refl refl h
 
 module _ (t : Table) where
   clear-free : (p : ℕ) → p < places t → freeAt (clearIn t) p ≡ true
-  clear-free p h = ap isFree (getD-replicate (length (t .intervals)) p nought nan (omega arith)) ∙ zero-free
+  clear-free p h = ap isFree (getD-replicate (length (t .intervals)) p 0ᶠ nan (omega arith)) ∙ zero-free
 
   pub clear-places : places (clearIn t) ≡ places t
-  clear-places = rw (length-replicate (length (t .intervals)) nought)
+  clear-places = rw (length-replicate (length (t .intervals)) 0ᶠ)
 
   pub clear-sound : Sound (clearIn t)
   clear-sound = record { found = λ s r p w. absurd (true-false (clear-free p (rw clear-places at (w .within))) (w .used)) }

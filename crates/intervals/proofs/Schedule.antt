@@ -13,13 +13,11 @@ use denote.Enum.Declared.{tagOf}
 use lib.Ieee.{Float}
 use Rattle.float32.specs.Float32.{max, min}
 use Rattle.float32.specs.Ops.{_+ᶠ_, _-ᶠ_}
-use Rattle.model.specs.Constants.{nought, half}
-use Rattle.model.specs.Kept as Kept
+use Rattle.float32.specs.Numbers.{0ᶠ}
+use Rattle.model.specs.Constants.{half}
+use Rattle.model.specs.Model.{Curves, ofStability, scheduled}
 use Rattle.model.specs.Model as Model
-use Rattle.model.specs.Model.{ofStability}
-use Rattle.model.proofs.Kept.{curve, scheduled}
-use Rattle.model.specs.declared.model_v7.Curve.{Curve}
-use Rattle.model.specs.declared.model_v7.Fsrs7.{Fsrs7}
+use Rattle.model.specs.declared.forgetting_curve.Curve.{Curve}
 use Rattle.intervals.specs.declared.Entry.{Entry}
 use Rattle.intervals.specs.declared.Entry.the-variants as entry
 use Rattle.intervals.specs.declared.Slot.{Slot}
@@ -139,8 +137,8 @@ not-entered t (slot.Enter p s r v) a = absurd (⊎-elim (λ e. omega arith) (λ 
 not-entered t slot.Full a = refl
 
 -- ---- what the code finds, one test after the other
-module _ (curve : Float → Float) (retention interval lower : Float) (a : Bool) (el : lower ≡ curve (max (interval -ᶠ half +ᶠ margin) nought)) (ea : a ≡ isNoLess lower retention) where
-  first-test : {b : Bool} → a ≡ b → isNoLess (curve (max (interval -ᶠ half +ᶠ margin) nought)) retention ≡ b
+module _ (curve : Float → Float) (retention interval lower : Float) (a : Bool) (el : lower ≡ curve (max (interval -ᶠ half +ᶠ margin) 0ᶠ)) (ea : a ≡ isNoLess lower retention) where
+  first-test : {b : Bool} → a ≡ b → isNoLess (curve (max (interval -ᶠ half +ᶠ margin) 0ᶠ)) retention ≡ b
   first-test y = ap (λ (v : Float). isNoLess v retention) (sym el) ∙ sym ea ∙ y
 
   pub range-both : (upper : Float) (b : Bool) → a ≡ true → upper ≡ curve (interval +ᶠ half -ᶠ margin) → b ≡ isBelow upper retention → b ≡ certifiesRange curve retention interval
@@ -151,26 +149,26 @@ module _ (curve : Float → Float) (retention interval lower : Float) (a : Bool)
   unfolding certifiesRange
   range-fails y = rw (first-test y)
 
-module _ (model : Fsrs7) (stability retention most : Float) (t : Table) (s r : ℕ) (es : s ≡ stabilityBucket stability) (er : r ≡ retentionBucket retention) where
-  pub slot-full : lookupIn t s r ≡ entry.Full → slot.Full ≡ slotOf model stability retention most t
+module _ (curves : Curves) (stability retention most : Float) (t : Table) (s r : ℕ) (es : s ≡ stabilityBucket stability) (er : r ≡ retentionBucket retention) where
+  pub slot-full : lookupIn t s r ≡ entry.Full → slot.Full ≡ slotOf curves stability retention most t
   unfolding slotOf
   slot-full e = rw (← es, ← er) (sym (full-is t s r _ _ e))
 
-  pub slot-new : {p : ℕ} {fresh : Float} → lookupIn t s r ≡ entry.Free p → fresh ≡ Kept.scheduled model stability retention most
-      → slot.Enter p s r fresh ≡ slotOf model stability retention most t
+  pub slot-new : {p : ℕ} {fresh : Float} → lookupIn t s r ≡ entry.Free p → fresh ≡ scheduled curves stability retention most
+      → slot.Enter p s r fresh ≡ slotOf curves stability retention most t
   unfolding slotOf
   slot-new e ef = rw (← es, ← er, ef) (sym (new-is t s r _ _ e))
 
-  module _ {p : ℕ} {v : Float} (e : lookupIn t s r ≡ entry.Found p v) (curve : Curve) (c : Bool) (ec : curve ≡ Kept.curveOf (model .curve) (ofStability stability))
-      (et : c ≡ certifies (Kept.retention curve) stability retention v most) where
-    test : {b : Bool} → c ≡ b → certifies (Kept.retention (Kept.curveOf (model .curve) (ofStability stability))) stability retention v most ≡ b
+  module _ {p : ℕ} {v : Float} (e : lookupIn t s r ≡ entry.Found p v) (curve : Curve) (c : Bool) (ec : curve ≡ curves (ofStability stability))
+      (et : c ≡ certifies (Model.retention curve) stability retention v most) where
+    test : {b : Bool} → c ≡ b → certifies (Model.retention (curves (ofStability stability))) stability retention v most ≡ b
     test y = rw (← ec) (sym et ∙ y)
 
-    pub slot-held : c ≡ true → slot.Keep v ≡ slotOf model stability retention most t
+    pub slot-held : c ≡ true → slot.Keep v ≡ slotOf curves stability retention most t
     unfolding slotOf
     slot-held y = rw (← es, ← er) (sym (held-is t s r _ _ (test y) e))
 
-    pub slot-anew : {fresh : Float} → c ≡ false → fresh ≡ Kept.scheduled model stability retention most → slot.Enter p s r fresh ≡ slotOf model stability retention most t
+    pub slot-anew : {fresh : Float} → c ≡ false → fresh ≡ scheduled curves stability retention most → slot.Enter p s r fresh ≡ slotOf curves stability retention most t
     unfolding slotOf
     slot-anew y ef = rw (← es, ← er, ef) (sym (anew-is t s r _ _ (test y) e))
 
@@ -180,32 +178,7 @@ not-found (entry.Found p v) a b = absurd (⊎-elim (λ e. omega arith) (λ e. om
 not-found (entry.Free p) a b = absurd (⊎-elim (λ e. omega arith) (λ e. omega arith) b)
 not-found entry.Full a b = refl
 
--- ---- the kept model of a list of parameters gives what the model's definitions give
-module _ (f g : Float → Float) (same : (x : Float) → f x ≡ g x) (stability retention interval most : Float) where
-  certifies-same : certifies f stability retention interval most ≡ certifies g stability retention interval most
-  unfolding certifies certifiesOne certifiesRange
-  certifies-same = rw (same (min (oneAndHalf -ᶠ margin) most), same (max (interval -ᶠ half +ᶠ margin) nought), same (interval +ᶠ half -ᶠ margin))
-
-slot-same : (c d : Float → Bool) → ((v : Float) → c v ≡ d v) → (fresh : Float) (t : Table) (s r : ℕ) → slotIn c fresh t s r ≡ slotIn d fresh t s r
-unfolding slotIn
-slot-same c d same fresh t s r = go (lookupIn t s r)
-  where
-    go : (f : Entry) → slotBy f c fresh s r ≡ slotBy f d fresh s r
-    go (entry.Found p v) = rw (same v)
-    go (entry.Free p) = refl
-    go entry.Full = refl
-
-pub slot-model : (w : List Float) (stability retention most : Float) (t : Table)
-    → slotOf (Kept.newOf w) stability retention most t
-    ≡ slotIn (λ held. certifies (λ x. Model.forgettingCurve w x stability) stability retention held most) (Model.scheduled w stability retention most) t (stabilityBucket stability)
-    (retentionBucket retention)
-unfolding slotOf Model.forgettingCurve
-slot-model w stability retention most t =
-    rw (scheduled w stability retention most)
-    (slot-same _ _ (λ held. certifies-same _ _ (λ x. curve w x (ofStability stability)) stability retention held most) (Model.scheduled w stability retention most) t (stabilityBucket stability)
-    (retentionBucket retention))
-
 -- the fresh interval never marks a free place
-pub scheduled-used : (model : Fsrs7) (stability retention most : Float) → isFree most ≡ false → isFree (Kept.scheduled model stability retention most) ≡ false
-unfolding Kept.scheduled
-scheduled-used model stability retention most h = clamp-used _ most h
+pub scheduled-used : (curves : Curves) (stability retention most : Float) → isFree most ≡ false → isFree (scheduled curves stability retention most) ≡ false
+unfolding scheduled
+scheduled-used curves stability retention most h = clamp-used _ most h

@@ -1,7 +1,9 @@
 -- The two buckets of a key, as the bit patterns of `bucket_index`. Assumes nothing.
 use Prim.Native.Nat.{ℕ, suc, _-_, _^_}
 use lib.IntN.{ℤ, pos, negsuc}
-use lib.Ieee.{Float, binary32, ofBits, neg, toSigned}
+use mathlib.Core.Bool.{false}
+use lib.Ieee as Ieee
+use lib.Ieee.{Float, binary32, neg, toSigned}
 use Rattle.float32.specs.Float32.{round, clamp, max}
 use Rattle.elementary.specs.Ln.{lnOf}
 use Rattle.float32.specs.Ops.{_/ᶠ_}
@@ -12,12 +14,12 @@ unfoldable pub pattern : ℤ → ℕ
 pattern (pos n) = n
 pattern (negsuc n) = 2 ^ 32 - suc n
 
--- the ends of an i32 as floats: −2 ^ 31 and, as 2 ^ 31 − 1 is rounded, 2 ^ 31
-abbrev pub lowest : Float
-lowest = neg (ofBits binary32 0x4f00_0000)
-
+-- the ends of an i32 as floats: 2 ^ 31, as 2 ^ 31 − 1 is rounded, and −2 ^ 31
 abbrev pub highest : Float
-highest = ofBits binary32 0x4f00_0000
+highest = Ieee.round binary32 false (2 ^ 31) 1
+
+abbrev pub lowest : Float
+lowest = neg highest
 
 -- how often the step goes into the value, rounded half away from zero and kept within an i32; 0 for a NaN
 unfoldable pub bucketIndex : Float → Float → ℤ
@@ -25,10 +27,10 @@ bucketIndex value step = toSigned 31 (clamp (round (value /ᶠ step)) lowest hig
 
 -- the steps: 0.001 of the logarithm of a stability, 0.0005 of a desired retention
 abbrev pub logStep : Float
-logStep = ofBits binary32 0x3a83_126f
+logStep = Ieee.round binary32 false 1 1000
 
 abbrev pub retentionStep : Float
-retentionStep = ofBits binary32 0x3a03_126f
+retentionStep = Ieee.round binary32 false 5 10000
 
 -- the two buckets of a key; a stability is taken as at least S_MIN
 unfoldable pub stabilityBucket : Float → ℕ

@@ -2,13 +2,12 @@
 -- so many days at the card's stability, and a fresh interval. Assumes nothing.
 use mathlib.Core.Bool.{Bool, true, false, cond, _&&_}
 use Prim.Native.Nat.{ℕ}
-use lib.Ieee.{Float, nan, binary32, ofBits, lt, le}
+use lib.Ieee.{Float, nan, binary32, round, lt, le}
 use Rattle.float32.specs.Float32.{isFinite, max, min}
 use Rattle.float32.specs.Ops.{_+ᶠ_, _-ᶠ_}
-use Rattle.model.specs.Constants.{nought, half, one}
-use Rattle.model.specs.Kept as Kept
-use Rattle.model.specs.Model.{ofStability}
-use Rattle.model.specs.declared.model_v7.Fsrs7.{Fsrs7}
+use Rattle.float32.specs.Numbers.{0ᶠ, 1ᶠ}
+use Rattle.model.specs.Constants.{half}
+use Rattle.model.specs.Model as Model
 use Rattle.intervals.specs.Bucket.{stabilityBucket, retentionBucket}
 use Rattle.intervals.specs.declared.Entry.{Entry}
 use Rattle.intervals.specs.declared.Entry.the-variants as entry
@@ -16,12 +15,13 @@ use Rattle.intervals.specs.declared.Slot.{Slot}
 use Rattle.intervals.specs.declared.Slot.the-variants as slot
 use Rattle.intervals.specs.Table.{Table, lookupIn, enterIn}
 
+-- 1.5, where the rounding range of one day ends
 abbrev pub oneAndHalf : Float
-oneAndHalf = ofBits binary32 0x3fc0_0000
+oneAndHalf = round binary32 false 15 10
 
 -- 0.05, how far inside its rounding range an interval is tested
 abbrev pub margin : Float
-margin = ofBits binary32 0x3d4c_cccd
+margin = round binary32 false 5 100
 
 -- a chance of recall that is a number, and below the retention, or not below it
 abbrev pub isBelow : Float → Float → Bool
@@ -37,7 +37,7 @@ certifiesOne curve retention most = isBelow (curve (min (oneAndHalf -ᶠ margin)
 -- a longer one: the chance falls below the retention within the rounding range
 unfoldable pub certifiesRange : (Float → Float) → Float → Float → Bool
 certifiesRange curve retention interval =
-    isNoLess (curve (max (interval -ᶠ half +ᶠ margin) nought)) retention && isBelow (curve (interval +ᶠ half -ᶠ margin)) retention
+    isNoLess (curve (max (interval -ᶠ half +ᶠ margin) 0ᶠ)) retention && isBelow (curve (interval +ᶠ half -ᶠ margin)) retention
 
 abbrev pub allFinite : Float → Float → Float → Float → Bool
 allFinite stability retention interval most = isFinite stability && isFinite retention && isFinite interval && isFinite most
@@ -46,7 +46,7 @@ allFinite stability retention interval most = isFinite stability && isFinite ret
 unfoldable pub certifies : (Float → Float) → Float → Float → Float → Float → Bool
 certifies curve stability retention interval most =
     allFinite stability retention interval most
-    && cond (le interval one) (certifiesOne curve retention most) (cond (le most interval) false (certifiesRange curve retention interval))
+    && cond (le interval 1ᶠ) (certifiesOne curve retention most) (cond (le most interval) false (certifiesRange curve retention interval))
 
 abbrev pub pickSlot : Bool → Slot → Slot → Slot
 pickSlot true a b = a
@@ -77,11 +77,11 @@ entered t (slot.Keep v) = t
 entered t (slot.Enter p s r v) = enterIn t p s r v
 entered t slot.Full = t
 
--- `scheduled_interval` with the model: its curve at the stability certifies, and its scheduled interval is the fresh one
-unfoldable pub slotOf : Fsrs7 → Float → Float → Float → Table → Slot
-slotOf model stability retention most t =
-    slotIn (λ held. certifies (Kept.retention (Kept.curveOf (model .curve) (ofStability stability))) stability retention held most)
-    (Kept.scheduled model stability retention most)
+-- `scheduled_interval` with a model's curves: the one of the stability certifies, and the interval that they schedule is the fresh one
+unfoldable pub slotOf : Model.Curves → Float → Float → Float → Table → Slot
+slotOf curves stability retention most t =
+    slotIn (λ held. certifies (λ x. Model.forgettingCurve curves x stability) stability retention held most)
+    (Model.scheduled curves stability retention most)
     t
     (stabilityBucket stability)
     (retentionBucket retention)

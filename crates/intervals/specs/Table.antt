@@ -9,7 +9,7 @@ use Prim.Native.Nat.{ℕ, zero, suc, _+_, _*_, _/_, _%_, min}
 use lib.Dec.{eqb}
 use lib.Ieee.{Float, nan, lt}
 use lib.ListN.{length, getD, set, replicate}
-use Rattle.model.specs.Constants.{nought, one}
+use Rattle.float32.specs.Numbers.{0ᶠ, 1ᶠ}
 use Rattle.intervals.specs.declared.Entry.{Entry}
 use Rattle.intervals.specs.declared.Entry.the-variants.{Found, Free, Full}
 
@@ -27,7 +27,7 @@ places t = min (length (t .keys)) (length (t .intervals))
 
 -- an interval below 1 marks a free place
 abbrev pub isFree : Float → Bool
-isFree v = lt v one
+isFree v = lt v 1ᶠ
 
 unfoldable pub sameKey : ℕ → ℕ → ℕ → ℕ → Bool
 sameKey a b s r = eqb a s && eqb b r
@@ -70,7 +70,7 @@ enterIn t p s r v = table (set (t .keys) p (s ∷ r ∷ [])) (set (t .intervals)
 
 -- every place free; the keys of free places mean nothing, and stay
 abbrev pub clearIn : Table → Table
-clearIn t = table (t .keys) (replicate (length (t .intervals)) nought)
+clearIn t = table (t .keys) (replicate (length (t .intervals)) 0ᶠ)
 
 -- the interval held under a key in the first m places, and how many keys are held there
 unfoldable pub heldTo : Table → ℕ → ℕ → ℕ → Option Float

@@ -3,7 +3,7 @@
 // names, place by place and round the end, until the key or a free place is met.
 
 use model::Curve;
-use model::Fsrs7;
+use model::Fsrs7Runtime;
 ghost use mathlib.Core.Path.{_≡_};
 ghost use mathlib.Core.List.{[], _∷_};
 ghost use Prim.Native.Nat.{_<_, min};
@@ -11,8 +11,9 @@ ghost use lib.ListN.{length, set, replicate};
 ghost use Rattle.intervals.specs.Table.{table, homeOf, nextOf, sameKey, lookupIn, enterIn};
 ghost use Rattle.intervals.specs.Bucket.{pattern, bucketIndex, stabilityBucket, retentionBucket};
 ghost use Rattle.intervals.specs.Schedule.{isBelow, isNoLess, certifiesOne, certifiesRange, allFinite, certifies, slotOf, isFull, intervalOf, entered};
-ghost use Rattle.model.specs.Constants.{nought};
-ghost use Rattle.model.specs.Kept as Kept;
+ghost use Rattle.float32.specs.Numbers.{0ᶠ};
+ghost use Rattle.model.specs.Model as Model;
+ghost use Rattle.model.specs.Runtime as Runtime;
 
 // The steps of the buckets, and how far inside its rounding range an interval is tested.
 const LOG_S_STEP: f32 = 0.001;
@@ -62,7 +63,7 @@ pub fn stability_bucket(stability: f32) -> u32
     ensures { λ r. ⌜ r ≡ stabilityBucket stability ⌝ }
 {
     bucket_index(
-        elementary::ln_f32(float32::max(stability, Fsrs7::S_MIN)),
+        elementary::ln_f32(float32::max(stability, Fsrs7Runtime::S_MIN)),
         LOG_S_STEP,
     )
 }
@@ -149,7 +150,7 @@ fn no_less(chance: f32, retention: f32) -> bool
 }
 
 fn certifies_one(curve: Curve, retention: f32, most: f32) -> bool
-    ensures { λ r. ⌜ r ≡ certifiesOne (Kept.retention curve) retention most ⌝ }
+    ensures { λ r. ⌜ r ≡ certifiesOne (Model.retention curve) retention most ⌝ }
 {
     below(
         curve.retention(float32::min(1.5 - ROUNDING_MARGIN, most)),
@@ -158,7 +159,7 @@ fn certifies_one(curve: Curve, retention: f32, most: f32) -> bool
 }
 
 fn certifies_range(curve: Curve, retention: f32, interval: f32) -> bool
-    ensures { λ r. ⌜ r ≡ certifiesRange (Kept.retention curve) retention interval ⌝ }
+    ensures { λ r. ⌜ r ≡ certifiesRange (Model.retention curve) retention interval ⌝ }
 {
     let lower = curve.retention(float32::max(interval - 0.5 + ROUNDING_MARGIN, 0.0));
     if no_less(lower, retention) {
@@ -189,7 +190,7 @@ pub fn certifies_rounded_interval(
     interval: f32,
     most: f32,
 ) -> bool
-    ensures { λ r. ⌜ r ≡ certifies (Kept.retention curve) stability retention interval most ⌝ }
+    ensures { λ r. ⌜ r ≡ certifies (Model.retention curve) stability retention interval most ⌝ }
 {
     if all_finite(stability, retention, interval, most) {
         if interval <= 1.0 {
@@ -206,14 +207,14 @@ pub fn certifies_rounded_interval(
 
 // The slot of a card for its next interval: the held one if it is certified, else a new one under the same key.
 pub fn scheduled_interval(
-    model: Fsrs7,
+    model: Fsrs7Runtime,
     stability: f32,
     retention: f32,
     most: f32,
     keys: &[[u32; 2]],
     intervals: &[f32],
 ) -> Slot
-    ensures { λ x. ⌜ x ≡ slotOf model stability retention most (table (now (keys .entry)) (now (intervals .entry))) ⌝ }
+    ensures { λ x. ⌜ x ≡ slotOf (Runtime.curveOf model) stability retention most (table (now (keys .entry)) (now (intervals .entry))) ⌝ }
 {
     let s = stability_bucket(stability);
     let r = retention_bucket(retention);
@@ -288,7 +289,7 @@ pub fn enter_slot(keys: &mut [[u32; 2]], intervals: &mut [f32], slot: Slot)
 
 // Frees every place. The keys' list is not lent: a free place's key means nothing.
 pub fn clear(intervals: &mut [f32])
-    ensures { λ _. ⌜ now (intervals .exit) ≡ replicate (length (now (intervals .entry))) nought ⌝ }
+    ensures { λ _. ⌜ now (intervals .exit) ≡ replicate (length (now (intervals .entry))) 0ᶠ ⌝ }
 {
     let mut i = 0;
     while i < intervals.len() {

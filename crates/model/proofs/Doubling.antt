@@ -13,8 +13,10 @@ use lib.Ieee.Back.{round-whole}
 use lib.Ieee.Positive.{positive, positive-of-value, mul-at, mul-mono, le-trans-positive, between}
 use Rattle.float32.specs.Float32 as Float32
 use Rattle.float32.specs.Ops.{_*ᶠ_}
+use Rattle.float32.specs.Numbers.{1ᶠ}
+use Rattle.float32.proofs.Numbers.{one-is}
 use Rattle.float32.proofs.Limits.{le-refl, max-ge}
-use Rattle.model.specs.Constants.{sMax, one, two}
+use Rattle.model.specs.Constants.{sMax, two}
 use Rattle.model.specs.Model.{doubled}
 
 -- a whole number as a float
@@ -25,11 +27,11 @@ whole-positive : (m : ℕ) → 0 < m → m ≤ 2 ^ 24 → T (positive (whole m))
 whole-positive m p h = positive-of-value (whole m) m 1 (round-whole binary32 false m h) p
 
 top-positive : T (positive sMax)
-unfolding ofBits ofFields
+unfolding round
 top-positive = tt
 
 two-value : HasValue two false 2 1
-unfolding ofBits ofFields
+unfolding round
 two-value = (refl, refl)
 
 two-positive : T (positive two)
@@ -57,12 +59,12 @@ double-ge m h p k l t =
     number (fin s a e) q = unfold isNan in refl
 
 top-stops : lt sMax sMax ≡ false
-unfolding ofBits ofFields lt
+unfolding round lt
 top-stops = refl
 
 -- 65,536 is past S_MAX
 past-top : T (not (le (whole 65536) sMax))
-unfolding ofBits ofFields round le lt eq
+unfolding round le lt eq
 past-top = tt
 
 too-far : (h : Float) → T (le (whole 65536) h) → lt h sMax ≡ true → ⊥
@@ -93,11 +95,7 @@ bound m zero q l = absurd (no l)
     no : 0 < 0 → ⊥
     no l = omega arith
 
-one-is : one ≡ whole 1
-unfolding ofBits ofFields round
-one-is = refl
-
-one-number : isNan one ≡ false
+one-number : isNan 1ᶠ ≡ false
 unfolding ofBits ofFields isNan
 one-number = refl
 
@@ -141,9 +139,9 @@ module _ (f : Float → Float) (r : Float) where
       go false q g = q
       go true q g = g q
 
-  pub doubled-enough : (h : Float) → T (le one h) → on (doubled 16 f r h) ≡ false
+  pub doubled-enough : (h : Float) → T (le 1ᶠ h) → on (doubled 16 f r h) ≡ false
   doubled-enough h l = enough 16 1 h (lit< tt) refl (inl (subst (λ (z : Float). T (le z h)) one-is l))
 
   -- in the bisection, whose upper end starts at 1 or more
-  pub bisection-reaches : (top : Float) → on (doubled 16 f r (Float32.max top one)) ≡ false
-  bisection-reaches top = doubled-enough (Float32.max top one) (max-ge top one one-number)
+  pub bisection-reaches : (top : Float) → on (doubled 16 f r (Float32.max top 1ᶠ)) ≡ false
+  bisection-reaches top = doubled-enough (Float32.max top 1ᶠ) (max-ge top 1ᶠ one-number)

@@ -7,22 +7,29 @@ use mathlib.Core.List.{List}
 use Prim.Native.Nat.{ℕ, zero, suc}
 use lib.Dec.{T, ltb}
 use lib.IntN.{pos, negsuc}
-use lib.Ieee.{Float, nan, inf, fin, binary32, ofBits, ofFields, lt, le, eq, isNan}
+use lib.Ieee.{Float, nan, inf, fin, binary32, ofBits, ofFields, round, lt, le, eq, isNan}
 use Rattle.float32.specs.Float32 as Float32
 use Rattle.float32.specs.Ops.{_+ᶠ_, _-ᶠ_, _*ᶠ_}
+use Rattle.float32.specs.Numbers.{0ᶠ, 1ᶠ}
 use Rattle.float32.proofs.Limits.{Between, clamp-between, le-left, max-first, min-first}
 use Rattle.float32.proofs.NonNegative.{nonNegative, number, add-clear, mul-clear, max-clear, min-clear}
 use Rattle.float32.proofs.Whole.{round-number}
 use Rattle.elementary.specs.Exp.{expOf}
 use Rattle.elementary.specs.Ln.{lnOf}
 use Rattle.elementary.proofs.Number.{exp-number}
-use Rattle.model.specs.Constants.{sMin, sMax, drMax, minT, nought, half, one, two}
-use Rattle.model.specs.Model.{toRating, afterFailing, stabilityBy, stabilityForSet, doubled, halved, bisected, toRetention, forgettingCurveForState, newtonStep, newton, accepted, finished, solved, solvedFor, withinLimits, nextIntervalForState, nextInterval, scheduled, ofStability}
+use Rattle.model.specs.declared.parameters.StabilityParameters.{StabilityParameters}
+use Rattle.model.specs.declared.forgetting_curve.Curve.{Curve}
+use Rattle.model.specs.Constants.{sMin, sMax, drMax, minT, half, two}
+use Rattle.model.specs.Model.{toRating, pls, sinc, stabilityBy, retention, Curves, ofStability, doubled, halved, toRetention, bisected, topOf, newtonStep, newton, nearEnough, solved, withinLimits, nextIntervalForState, nextInterval, scheduled}
 
 -- ---- both arms of a test are numbers
 arms : (b : Bool) (x y : Float) → (b ≡ true → isNan x ≡ false) → isNan y ≡ false → isNan (cond b x y) ≡ false
 arms true x y p q = p refl
 arms false x y p q = q
+
+and-left : (a b : Bool) → (a && b) ≡ true → a ≡ true
+and-left true b h = refl
+and-left false b h = absurd (true≢false (sym h))
 
 finite-number : (x : Float) → Float32.isFinite x ≡ true → isNan x ≡ false
 unfolding Float32.isFinite isNan
@@ -32,34 +39,34 @@ finite-number (fin s m e) h = refl
 
 -- ---- limits
 stability-limits : T (le sMin sMax)
-unfolding ofBits ofFields le lt eq
+unfolding ofBits ofFields round le lt eq
 stability-limits = tt
 
-time-limits : T (le nought sMax)
-unfolding ofBits ofFields le lt eq
+time-limits : T (le 0ᶠ sMax)
+unfolding ofBits ofFields round le lt eq
 time-limits = tt
 
-clamped : (x : Float) → isNan x ≡ false → isNan (Float32.clamp x nought sMax) ≡ false
-clamped x h = le-left (Float32.clamp x nought sMax) sMax (clamp-between x nought sMax h time-limits .most)
+clamped : (x : Float) → isNan x ≡ false → isNan (Float32.clamp x 0ᶠ sMax) ≡ false
+clamped x h = le-left (Float32.clamp x 0ᶠ sMax) sMax (clamp-between x 0ᶠ sMax h time-limits .most)
 
-nought-clear : T (nonNegative nought)
+zero-clear : T (nonNegative 0ᶠ)
 unfolding ofBits ofFields
-nought-clear = tt
+zero-clear = tt
 
 top-clear : T (nonNegative sMax)
-unfolding ofBits ofFields
+unfolding round
 top-clear = tt
 
 -- ---- bisection
 double-clear : (x : Float) → T (nonNegative x) → T (nonNegative (x *ᶠ two))
-unfolding ofBits ofFields
+unfolding round
 double-clear x h = mul-clear binary32 x 0 (pos 1) h
 
 half-clear : (x : Float) → T (nonNegative x) → T (nonNegative (x *ᶠ half))
-unfolding ofBits ofFields
+unfolding round
 half-clear x h = mul-clear binary32 x 0 (negsuc 0) h
 
-start-clear : (x : Float) → T (nonNegative (Float32.max x one))
+start-clear : (x : Float) → T (nonNegative (Float32.max x 1ᶠ))
 unfolding ofBits ofFields
 start-clear x = max-clear x 0 (pos 0)
 
@@ -83,49 +90,44 @@ halved-number (suc n) f r x y h k =
     let b = lt r (f m) in
     halved-number n f r (cond b m x) (cond b y m) (pick-clear b m x middle h) (pick-clear b y m k middle)
 
-bisected-number : (f : Float → Float) (top r : Float) → isNan (bisected f top r) ≡ false
+bisected-number : (c : Curve) (top r : Float) → isNan (bisected c top r) ≡ false
 unfolding bisected
-bisected-number f top r₀ =
+bisected-number c top r₀ =
+    let f = retention c in
     let r = toRetention r₀ in
-    arms (le drMax r) nought (halved 50 f r nought (doubled 16 f r (Float32.max top one))) (λ e. number nought nought-clear)
-    (halved-number 50 f r nought (doubled 16 f r (Float32.max top one)) nought-clear (doubled-clear 16 f r (Float32.max top one) (start-clear top)))
+    arms (le drMax r) 0ᶠ (halved 50 f r 0ᶠ (doubled 16 f r (Float32.max top 1ᶠ))) (λ e. number 0ᶠ zero-clear)
+    (halved-number 50 f r 0ᶠ (doubled 16 f r (Float32.max top 1ᶠ)) zero-clear (doubled-clear 16 f r (Float32.max top 1ᶠ) (start-clear top)))
 
 -- ---- the solver
-accepted-number : (f : Float → Float) (top r x : Float) → isNan x ≡ false → isNan (accepted f top r x) ≡ false
-unfolding accepted
-accepted-number f top r x h = arms (Float32.isFinite (f x) && le (Float32.abs (f x -ᶠ r)) (ofBits binary32 0x3A83126F)) x (bisected f top r) (λ e. h) (bisected-number f top r)
-
-finished-number : (f : Float → Float) (top r u : Float) → isNan (finished f top r u) ≡ false
-unfolding finished
-finished-number f top r u =
-    arms (Float32.isFinite u) (accepted f top r (Float32.clamp (expOf u) nought sMax)) (bisected f top r)
-    (λ e. accepted-number f top r (Float32.clamp (expOf u) nought sMax) (clamped (expOf u) (exp-number u (finite-number u e))))
-    (bisected-number f top r)
-
-solved-number : (f g : Float → Float) (top r : Float) → isNan (solved f g top r) ≡ false
+solved-number : (c : Curve) (top r : Float) → isNan (solved c top r) ≡ false
 unfolding solved
-solved-number f g top r = finished-number f top r (newton 7 g (lnOf (Float32.max top minT)))
+solved-number c top r =
+    let u = newton 7 (newtonStep c r) (lnOf (Float32.max top minT)) in
+    let interval = Float32.clamp (expOf u) 0ᶠ sMax in
+    arms (Float32.isFinite u && nearEnough c r interval) interval (bisected c top r)
+    (λ e. clamped (expOf u) (exp-number u (finite-number u (and-left (Float32.isFinite u) (nearEnough c r interval) e)))) (bisected-number c top r)
 
-pub interval-number : (w : List Float) (s r : Float) → isNan (nextInterval w s r) ≡ false
-unfolding nextInterval nextIntervalForState solvedFor
-interval-number w s r₀ =
-    let r = toRetention r₀ in
-    arms (le drMax r) nought (solvedFor w (withinLimits (ofStability s)) r) (λ e. number nought nought-clear)
-    (solved-number (λ t. forgettingCurveForState w t (withinLimits (ofStability s))) (λ u. newtonStep w (withinLimits (ofStability s)) r u) _ r)
+pub interval-number : (curves : Curves) (s r : Float) → isNan (nextInterval curves s r) ≡ false
+unfolding nextInterval nextIntervalForState
+interval-number curves s desired =
+    let r = toRetention desired in
+    let x = withinLimits (ofStability s) in
+    arms (le drMax r) 0ᶠ (solved (curves x) (topOf x) r) (λ e. number 0ᶠ zero-clear) (solved-number (curves x) (topOf x) r)
 
-pub scheduled-between : (w : List Float) (s r maxIvl : Float) → T (le one maxIvl) → Between one maxIvl (scheduled w s r maxIvl)
+pub scheduled-between : (curves : Curves) (s r maxIvl : Float) → T (le 1ᶠ maxIvl) → Between 1ᶠ maxIvl (scheduled curves s r maxIvl)
 unfolding scheduled
-scheduled-between w s r maxIvl h = clamp-between (Float32.round (nextInterval w s r)) one maxIvl (round-number (nextInterval w s r) (interval-number w s r)) h
+scheduled-between curves s r maxIvl h =
+    clamp-between (Float32.round (nextInterval curves s r)) 1ᶠ maxIvl (round-number (nextInterval curves s r) (interval-number curves s r)) h
 
 -- ---- stability
-failing-number : (a b c s r : Float) → isNan s ≡ false → isNan (afterFailing a b c s r) ≡ false
-unfolding afterFailing
-failing-number a b c s r h = min-first s _ h
+pls-number : (p : StabilityParameters) (s r : Float) → isNan s ≡ false → isNan (pls p s r) ≡ false
+unfolding pls
+pls-number p s r h = min-first s _ h
 
-by-between : (rating : ℕ) (s failed grown : Float) → isNan failed ≡ false → Between sMin sMax (stabilityBy rating s failed grown)
+pub stability-between : (p : StabilityParameters) (s d r : Float) (rating : ℕ) → isNan s ≡ false → Between sMin sMax (stabilityBy p s d r rating)
 unfolding stabilityBy
-by-between rating s failed grown h = clamp-between _ sMin sMax (arms (ltb 1 rating) (Float32.max failed (s *ᶠ grown)) failed (λ e. max-first failed (s *ᶠ grown) h) h) stability-limits
-
-pub stability-between : (w : List Float) (s d r : Float) (rating start : ℕ) → isNan s ≡ false → Between sMin sMax (stabilityForSet w s d r rating start)
-unfolding stabilityForSet
-stability-between w s d r rating start h = by-between (toRating rating) s (afterFailing _ _ _ s r) _ (failing-number _ _ _ s r h)
+stability-between p s d r rating h =
+    let n = toRating rating in
+    clamp-between _ sMin sMax
+    (arms (ltb 1 n) (Float32.max (pls p s r) (s *ᶠ sinc p s d r n)) (pls p s r) (λ e. max-first (pls p s r) (s *ᶠ sinc p s d r n) (pls-number p s r h)) (pls-number p s r h))
+    stability-limits

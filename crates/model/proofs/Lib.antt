@@ -1,5 +1,5 @@
 -- The laws of the model, and what its proofs share.
 pub mod Laws
-pub mod Kept
+pub mod Runtime
 pub mod Steps
 pub mod Doubling

@@ -6,7 +6,8 @@ use native.Mathlib.Omega.{arith}
 use lib.Ieee.{Float, lt}
 use Rattle.float32.specs.Float32 as Float32
 use Rattle.float32.specs.Ops.{_+ᶠ_, _*ᶠ_}
-use Rattle.model.specs.Constants.{sMax, half, two, nought}
+use Rattle.float32.specs.Numbers.{0ᶠ}
+use Rattle.model.specs.Constants.{sMax, half, two}
 use Rattle.model.specs.Model.{newton, doubled, halved}
 
 less-one : (n : ℕ) → n ≡ suc n - 1
@@ -81,7 +82,7 @@ module _ (f : Float → Float) where
         no p = omega arith
     halved-on (suc n) x y p = ap (λ (k : ℕ). halved k f r (cond (lt r (f (middle x y))) (middle x y) x) (cond (lt r (f (middle x y))) y (middle x y))) (less-one n)
 
-    pub halved-end : (n : ℕ) (x y : Float) → n ≤ 0 → halved n f r x y ≡ Float32.clamp (middle x y) nought sMax
+    pub halved-end : (n : ℕ) (x y : Float) → n ≤ 0 → halved n f r x y ≡ Float32.clamp (middle x y) 0ᶠ sMax
     unfolding halved
     halved-end zero x y p = refl
     halved-end (suc n) x y p = absurd (no p)

@@ -1,57 +1,124 @@
--- The model's limits, and the numbers that its formulas name. Definitions only. Assumes nothing.
-use lib.Ieee.{Float, binary32, ofBits}
+-- The model's limits and the numbers of its formulas: each is the f32 nearest to the decimal beside it. Definitions only. Assumes nothing.
+-- Its limits       sMin, sMax (a stability's, in days); dMin, dMax (a difficulty's); drMin, drMax (a desired retention's)
+-- Times            minT
+-- Difficulty       initShare, currentShare (mean reversion); againShift
+-- Stability        growthShift
+-- The curve        decayMin, decayMax, powerShift, factorMost, inner, edge, weightMin
+-- The solver       slopeMost, stepMost, tolerance
+-- Whole numbers, and a half
+use mathlib.Core.Bool.{false}
+use lib.Ieee.{Float, binary32, round, neg}
+use Rattle.float32.specs.Ops.{_-ᶠ_}
+use Rattle.float32.specs.Numbers.{1ᶠ}
 
--- S_MIN 0.0001 and S_MAX 36500, days
+-- ---- limits
+
+-- 0.0001
 abbrev pub sMin : Float
-sMin = ofBits binary32 0x38D1B717
+sMin = round binary32 false 1 10000
 
+-- 36500
 abbrev pub sMax : Float
-sMax = ofBits binary32 0x470E9400
+sMax = round binary32 false 36500 1
 
--- D_MIN and D_MAX
+-- 1 and 10
 abbrev pub dMin : Float
-dMin = ofBits binary32 0x3F800000
+dMin = 1ᶠ
 
 abbrev pub dMax : Float
-dMax = ofBits binary32 0x41200000
+dMax = round binary32 false 10 1
 
--- the least and the largest retention that is solved for, 0.0001 and 0.9999
+-- 0.0001 and 0.9999
 abbrev pub drMin : Float
-drMin = ofBits binary32 0x38D1B717
+drMin = round binary32 false 1 10000
 
 abbrev pub drMax : Float
-drMax = ofBits binary32 0x3F7FF972
+drMax = round binary32 false 9999 10000
 
 -- one second, in days
 abbrev pub minT : Float
-minT = ofBits binary32 0x37422E45
+minT = round binary32 false 1 86400
 
-abbrev pub nought : Float
-nought = ofBits binary32 0
+-- ---- difficulty
+
+-- 0.01 and 0.99
+abbrev pub initShare : Float
+initShare = round binary32 false 1 100
+
+abbrev pub currentShare : Float
+currentShare = round binary32 false 99 100
+
+-- 0.1
+abbrev pub againShift : Float
+againShift = round binary32 false 1 10
+
+-- ---- stability
+
+-- 1.5
+abbrev pub growthShift : Float
+growthShift = round binary32 false 15 10
+
+-- ---- the curve
+
+-- 0.01 and 0.95
+abbrev pub decayMin : Float
+decayMin = round binary32 false 1 100
+
+abbrev pub decayMax : Float
+decayMax = round binary32 false 95 100
+
+-- 0.3
+abbrev pub powerShift : Float
+powerShift = round binary32 false 3 10
+
+-- 60
+abbrev pub factorMost : Float
+factorMost = round binary32 false 60 1
+
+-- 1 - 2e-5 and 1e-5
+abbrev pub inner : Float
+inner = 1ᶠ -ᶠ round binary32 false 2 100000
+
+abbrev pub edge : Float
+edge = round binary32 false 1 100000
+
+-- 1e-9
+abbrev pub weightMin : Float
+weightMin = round binary32 false 1 1000000000
+
+-- ---- the solver
+
+-- -1e-12
+abbrev pub slopeMost : Float
+slopeMost = neg (round binary32 false 1 1000000000000)
+
+-- 4
+abbrev pub stepMost : Float
+stepMost = round binary32 false 4 1
+
+-- 1e-3
+abbrev pub tolerance : Float
+tolerance = round binary32 false 1 1000
+
+-- ---- whole numbers, and a half
 
 abbrev pub half : Float
-half = ofBits binary32 0x3F000000
-
-abbrev pub one : Float
-one = ofBits binary32 0x3F800000
+half = round binary32 false 1 2
 
 abbrev pub two : Float
-two = ofBits binary32 0x40000000
+two = round binary32 false 2 1
 
 abbrev pub three : Float
-three = ofBits binary32 0x40400000
-
-abbrev pub four : Float
-four = ofBits binary32 0x40800000
+three = round binary32 false 3 1
 
 abbrev pub five : Float
-five = ofBits binary32 0x40A00000
+five = round binary32 false 5 1
 
 abbrev pub nine : Float
-nine = ofBits binary32 0x41100000
+nine = round binary32 false 9 1
 
 abbrev pub ten : Float
-ten = ofBits binary32 0x41200000
+ten = round binary32 false 10 1
 
 abbrev pub eleven : Float
-eleven = ofBits binary32 0x41300000
+eleven = round binary32 false 11 1

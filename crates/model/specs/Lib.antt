@@ -1,4 +1,4 @@
 pub mod Constants
 pub mod Model
-pub mod Kept
+pub mod Runtime
 pub mod Defaults

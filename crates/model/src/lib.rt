@@ -1,7 +1,11 @@
-// The FSRS-7 memory model, and the tables of the default configuration.
+// The FSRS-7 memory model, and the tables of the default configuration. What the parameters alone decide is computed once
+// (`Fsrs7Runtime::new`), what a memory state decides with them once a state (`Curve`).
 pub mod defaults;
-mod model_v7;
+mod forgetting_curve;
+mod memory;
+mod parameters;
+mod solver;
 
-pub use model_v7::Curve;
-pub use model_v7::Fsrs7;
-pub use model_v7::MemoryState;
+pub use forgetting_curve::Curve;
+pub use forgetting_curve::MemoryState;
+pub use parameters::Fsrs7Runtime;

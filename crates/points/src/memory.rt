@@ -2,7 +2,7 @@
 use crate::report::end;
 use crate::report::float;
 use float32::from_bits;
-use model::Fsrs7;
+use model::Fsrs7Runtime;
 use model::MemoryState;
 
 const W: [f32; 34] = [
@@ -42,13 +42,13 @@ const W: [f32; 34] = [
     0.308,
 ];
 
-fn init_difficulty(m: Fsrs7, rating: u32) {
+fn init_difficulty(m: Fsrs7Runtime, rating: u32) {
     io::write_all(1, b"init_difficulty");
     float(m.init_difficulty(rating));
     end();
 }
 
-fn next_difficulty(m: Fsrs7, d: f32) {
+fn next_difficulty(m: Fsrs7Runtime, d: f32) {
     io::write_all(1, b"next_difficulty");
     float(m.next_difficulty(d, 1, 1.0));
     float(m.next_difficulty(d, 2, 1.0));
@@ -57,7 +57,7 @@ fn next_difficulty(m: Fsrs7, d: f32) {
     end();
 }
 
-fn stability(m: Fsrs7, s: f32, d: f32) {
+fn stability(m: Fsrs7Runtime, s: f32, d: f32) {
     io::write_all(1, b"stability");
     float(m.stability_after_success(s, 0.9, d, 2));
     float(m.stability_after_success(s, 0.5, d, 3));
@@ -67,7 +67,7 @@ fn stability(m: Fsrs7, s: f32, d: f32) {
     end();
 }
 
-fn stabilities(m: Fsrs7, s: f32) {
+fn stabilities(m: Fsrs7Runtime, s: f32) {
     stability(m, s, from_bits(0x3f80_0000));
     stability(m, s, from_bits(0x4053_3333));
     stability(m, s, from_bits(0x40a0_0000));
@@ -75,7 +75,7 @@ fn stabilities(m: Fsrs7, s: f32) {
     stability(m, s, from_bits(0x4120_0000));
 }
 
-fn curve(m: Fsrs7, s: f32) {
+fn curve(m: Fsrs7Runtime, s: f32) {
     io::write_all(1, b"curve");
     let c = m.curve(s);
     float(c.retention(-1.0));
@@ -93,7 +93,7 @@ fn curve(m: Fsrs7, s: f32) {
     );
 }
 
-fn curve_for_state(m: Fsrs7, state: MemoryState) {
+fn curve_for_state(m: Fsrs7Runtime, state: MemoryState) {
     io::write_all(1, b"curve_for_state");
     float(m.forgetting_curve_for_state(1.0, state));
     float(m.forgetting_curve_for_state(36500.0, state));
@@ -105,7 +105,7 @@ fn curve_for_state(m: Fsrs7, state: MemoryState) {
     end();
 }
 
-fn interval(m: Fsrs7, s: f32, r: f32) {
+fn interval(m: Fsrs7Runtime, s: f32, r: f32) {
     io::write_all(1, b"interval");
     float(m.next_interval(s, r));
     float(m.next_interval_bisection(
@@ -120,7 +120,7 @@ fn interval(m: Fsrs7, s: f32, r: f32) {
     end();
 }
 
-fn intervals(m: Fsrs7, s: f32) {
+fn intervals(m: Fsrs7Runtime, s: f32) {
     interval(m, s, from_bits(0x3f66_6666));
     interval(m, s, from_bits(0x3f7f_f972));
     interval(m, s, from_bits(0x3f33_3333));
@@ -129,7 +129,7 @@ fn intervals(m: Fsrs7, s: f32) {
 }
 
 pub fn run() {
-    let m = Fsrs7::new(&W);
+    let m = Fsrs7Runtime::new(&W);
     init_difficulty(m, 1);
     init_difficulty(m, 2);
     init_difficulty(m, 3);
@@ -144,7 +144,7 @@ pub fn run() {
     all_intervals(m);
 }
 
-fn all_stabilities(m: Fsrs7) {
+fn all_stabilities(m: Fsrs7Runtime) {
     stabilities(m, from_bits(0x38d1_b717));
     stabilities(m, from_bits(0x3c23_d70a));
     stabilities(m, from_bits(0x3f00_0000));
@@ -157,7 +157,7 @@ fn all_stabilities(m: Fsrs7) {
     stabilities(m, from_bits(0xbf80_0000));
 }
 
-fn all_curves(m: Fsrs7) {
+fn all_curves(m: Fsrs7Runtime) {
     curve(m, from_bits(0x38d1_b717));
     curve(m, from_bits(0x3c23_d70a));
     curve(m, from_bits(0x3f00_0000));
@@ -170,7 +170,7 @@ fn all_curves(m: Fsrs7) {
     curve(m, from_bits(0xbf80_0000));
 }
 
-fn all_intervals(m: Fsrs7) {
+fn all_intervals(m: Fsrs7Runtime) {
     intervals(m, from_bits(0x38d1_b717));
     intervals(m, from_bits(0x3c23_d70a));
     intervals(m, from_bits(0x3f00_0000));

@@ -3,7 +3,7 @@ use crate::record::Record;
 use draws::SplitMix64;
 use float32::from_bits;
 use float32::to_bits;
-use model::Fsrs7;
+use model::Fsrs7Runtime;
 use model::MemoryState;
 
 fn yes(x: bool) -> u32 {
@@ -72,18 +72,18 @@ fn state_of(s: u32, d: u32, fast: u32) -> MemoryState {
     }
 }
 
-fn derivative(m: Fsrs7, state: MemoryState, t: f32) -> f32 {
+fn derivative(m: Fsrs7Runtime, state: MemoryState, t: f32) -> f32 {
     let slope = m.curve_for_state(state).retention_and_derivative(t);
     slope.derivative
 }
 
-fn solver_curve(m: Fsrs7, state: MemoryState, t: f32) -> f32 {
+fn solver_curve(m: Fsrs7Runtime, state: MemoryState, t: f32) -> f32 {
     let slope = m.curve_for_state(state).retention_and_derivative(t);
     slope.retention
 }
 
 pub fn of_memory(w: &[f32], r: Record) -> u32 {
-    let m = Fsrs7::new(w);
+    let m = Fsrs7Runtime::new(w);
     let x = from_bits(r.a);
     let y = from_bits(r.b);
     let z = from_bits(r.c);

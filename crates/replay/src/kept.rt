@@ -1,6 +1,6 @@
 // Calls on the queue and the interval table that the program keeps.
 use crate::record::Record;
-use model::Fsrs7;
+use model::Fsrs7Runtime;
 use queue::CardPriorityQueue;
 
 // 50: push card a with the key of day b, newness c and difficulty d; 51: the front gets that key; 52: pop.
@@ -43,7 +43,7 @@ pub fn scheduled(w: &[f32], keys: &mut [[u32; 2]], intervals: &mut [f32], r: Rec
         return 0;
     }
     let slot = intervals::scheduled_interval(
-        Fsrs7::new(w),
+        Fsrs7Runtime::new(w),
         float32::from_bits(r.a),
         float32::from_bits(r.b),
         float32::from_bits(r.c),

@@ -13,8 +13,8 @@ use Rattle.float32.proofs.Cmp as cmp
 use Rattle.turns.specs.Run.{stops}
 use Rattle.turns.proofs.Columns.{SetUp}
 use Rattle.draws.specs.Draws.{DrawRule, splitMix}
-use Rattle.model.specs.Kept as Kept
-use Rattle.model.specs.Model.{scheduled}
+use Rattle.model.specs.Runtime as Runtime
+use Rattle.model.specs.Model.{Curves, curveOf, scheduled}
 use Rattle.model.proofs.Laws.{scheduled-between}
 use Rattle.cards.specs.declared.SimulatorConfig.{SimulatorConfig}
 use Rattle.cards.specs.Config.{rowOf, threeOf, weightsOk, transitionsOk, costsOk, intervalOk, configOk}
@@ -57,7 +57,7 @@ most-positive : T (positive (ofBits binary32 0x470E_9400))
 unfolding ofBits ofFields
 most-positive = tt
 
-pub scheduled-fair : (w : List Float) (s r longest : Float) → intervalOk longest ≡ true → IntervalInRange (scheduled w s r longest)
+pub scheduled-fair : (w : Curves) (s r longest : Float) → intervalOk longest ≡ true → IntervalInRange (scheduled w s r longest)
 unfolding intervalOk
 scheduled-fair w s r longest e =
     let one : Float = ofBits binary32 0x3F80_0000 in
@@ -95,7 +95,7 @@ pub record Suits {C : Type 0} (R : Rules C) (i : Inputs) : Type 0 where
 
 -- so WHATEVER IS DRAWN
 pub suits : (w : DrawRule) (i : Inputs) (s : State Float) → Accepted i s → Suits (rulesWith w (i .config) (plain (i .parameters))) i
-suits w i s ok = record { span-is = refl; slots = table-slots (i .config) (plain (i .parameters)) (λ x y. scheduled-fair (i .parameters) x y (i .config .«max_ivl») (interval-ok (i .config) (ok .config-ok))) }
+suits w i s ok = record { span-is = refl; slots = table-slots (i .config) (plain (i .parameters)) (λ x y. scheduled-fair (curveOf (i .parameters)) x y (i .config .«max_ivl») (interval-ok (i .config) (ok .config-ok))) }
 
 module _ {C : Type 0} (R : Rules C) (i : Inputs) (s : State C) (ok : Accepted i s) (fit : Suits R i) where
   fine : RunBounds (R .span) (cardsOf R i s)
@@ -141,7 +141,7 @@ module _ (i : Inputs) (s : State Float) where
   }
 
   module _ (e : checked i s ≡ check.Passed) {r : Answer} {l′ : Lent Float}
-      (d : IsResult (resultFrom (rulesOf (i .config) (kept (Kept.newOf (i .parameters)))) (startOf (rulesFor i) i s)) r l′) where
+      (d : IsResult (resultFrom (rulesOf (i .config) (kept (Runtime.runtimeOf (i .parameters)))) (startOf (rulesFor i) i s)) r l′) where
     plainly : IsResult (resultFrom (rulesFor i) (startOf (rulesFor i) i s)) r l′
     plainly = subst (λ (x : Scalars). IsResult (resultFrom (rulesOf (i .config) x) (startOf (rulesFor i) i s)) r l′) (kept-is (i .parameters)) d
 

@@ -5,10 +5,10 @@ use lib.Ieee.{Float}
 use Rattle.draws.specs.Draws.{DrawRule}
 use Rattle.cards.specs.declared.SimulatorConfig.{SimulatorConfig}
 use Rattle.cards.specs.declared.Card.{Card}
-use Rattle.model.specs.declared.model_v7.Fsrs7.{Fsrs7}
-use Rattle.model.specs.declared.model_v7.Curve.{Curve}
+use Rattle.model.specs.declared.parameters.Fsrs7Runtime.{Fsrs7Runtime}
+use Rattle.model.specs.declared.forgetting_curve.Curve.{Curve}
 use Rattle.model.specs.Model as Plain
-use Rattle.model.specs.Kept as Kept
+use Rattle.model.specs.Runtime as Runtime
 use Rattle.events.specs.declared.Event.{Event}
 use Rattle.events.specs.Scalars.{Scalars}
 use Rattle.events.specs.Events.{eventOf}
@@ -39,5 +39,5 @@ modelOf g x = record {
 }
 
 -- a card's forgetting curve, which a review asks for its chance and the held sums ask for each day
-abbrev pub curveFor : Fsrs7 → Card → Curve
-curveFor m k = Kept.curveOf (m .curve) (Plain.ofStability (k .stability))
+abbrev pub curveFor : Fsrs7Runtime → Card → Curve
+curveFor m k = Runtime.curveOf m (Plain.ofStability (k .stability))

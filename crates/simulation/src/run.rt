@@ -5,11 +5,11 @@ use super::Progress;
 use super::RunEnd;
 use super::Stop;
 use cards::SimulatorConfig;
-use model::Fsrs7;
+use model::Fsrs7Runtime;
 ghost use mathlib.Core.Path.{_≡_};
 ghost use Prim.Native.Nat.{suc, _*_, _≤_};
 ghost use lib.Ieee.{ofBits, binary32};
-ghost use Rattle.model.specs.Kept as Kept;
+ghost use Rattle.model.specs.Runtime as Runtime;
 ghost use Rattle.events.specs.Scalars.{kept};
 ghost use Rattle.simulation.specs.State.{lent, state, mostCards, mostDays};
 ghost use Rattle.simulation.specs.Rules.{rulesOf};
@@ -41,7 +41,7 @@ fn run_turns(
     keys: &mut [[u32; 2]],
     intervals: &mut [f32],
     config: SimulatorConfig,
-    m: Fsrs7,
+    m: Fsrs7Runtime,
     len: u32,
     seed: u64,
     bound: u32,
@@ -132,7 +132,7 @@ pub(crate) fn simulate_inner(
         (inputs config (now parameters) retention seed (now existing) (now «existing_counts»))
         (state (lent (now cards) (now counts) (now rows) (now days) (now costs) (now memorized) (now due) (now keys) (now intervals)) 0 seed) ≡ check.Passed ⌝ }
     ensures { λ r. ⌜ IsResult
-        (resultFrom (rulesOf config (kept (Kept.newOf (now (parameters .entry)))))
+        (resultFrom (rulesOf config (kept (Runtime.runtimeOf (now (parameters .entry)))))
         (setUp (ofBits binary32 0)
         (inputs config (now (parameters .entry)) retention seed (now (existing .entry)) (now («existing_counts» .entry)))
         (state (lent (now (cards .entry)) (now (counts .entry)) (now (rows .entry)) (now (days .entry)) (now (costs .entry)) (now (memorized .entry)) (now (due .entry)) (now (keys .entry)) (now (intervals .entry))) 0 seed)))
@@ -153,7 +153,7 @@ pub(crate) fn simulate_inner(
         config,
         retention,
     );
-    let m = Fsrs7::new(parameters);
+    let m = Fsrs7Runtime::new(parameters);
     let bound = bound_of(len, config.learn_span);
     let reach = run_turns(
         cards,

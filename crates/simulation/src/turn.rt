@@ -8,7 +8,7 @@ use cards::SimulatorConfig;
 use events::Event;
 use events::Memory;
 use model::Curve;
-use model::Fsrs7;
+use model::Fsrs7Runtime;
 use queue::CardPriorityQueue;
 ghost use mathlib.Core.Path.{_≡_};
 ghost use mathlib.Core.Bool.{cond};
@@ -96,7 +96,7 @@ fn event_card(card: Card, new: bool, x: Memory, d: u32, v: f32) -> Card
 fn add_forgetting_curve(
     memorized: &mut [f32],
     config: SimulatorConfig,
-    m: Fsrs7,
+    m: Fsrs7Runtime,
     curve: Curve,
     card: Card,
     to: u32,
@@ -163,7 +163,7 @@ fn retire_step(
     memorized: &mut [f32],
     rows: &mut [[u64; 2]],
     config: SimulatorConfig,
-    m: Fsrs7,
+    m: Fsrs7Runtime,
     card: Card,
     len: u32,
     draws: u64,
@@ -185,7 +185,7 @@ fn write_days(
     costs: &mut [f32],
     memorized: &mut [f32],
     config: SimulatorConfig,
-    m: Fsrs7,
+    m: Fsrs7Runtime,
     curve: Curve,
     card: Card,
     new: bool,
@@ -222,7 +222,7 @@ fn write_card(
 // The event of a card on a day; a review's chance is that of the card's curve.
 fn event_of(
     config: SimulatorConfig,
-    m: Fsrs7,
+    m: Fsrs7Runtime,
     curve: Curve,
     card: Card,
     new: bool,
@@ -247,7 +247,7 @@ fn event_step(
     keys: &mut [[u32; 2]],
     intervals: &mut [f32],
     config: SimulatorConfig,
-    m: Fsrs7,
+    m: Fsrs7Runtime,
     c: u32,
     card: Card,
     new: bool,
@@ -296,7 +296,7 @@ pub(crate) fn turn(
     keys: &mut [[u32; 2]],
     intervals: &mut [f32],
     config: SimulatorConfig,
-    m: Fsrs7,
+    m: Fsrs7Runtime,
     len: u32,
     draws: u64,
 ) -> Outcome

@@ -3,7 +3,7 @@ use Prim.Native.Nat.{_-_}
 use lib.ListN.{length}
 use native.Mathlib.Omega.{arith}
 use mathlib.Core.Path.{_≡_, refl}
-use Rattle.model.specs.Kept.{retention}
+use Rattle.model.specs.Model.{retention}
 use Rattle.days.specs.Sums.{addForgettingCurveRange}
 use Rattle.days.proofs.Spans.{range-turn, range-end}
 use Rattle.days.proofs.add_forgetting_curve_range.Statement.{statement}

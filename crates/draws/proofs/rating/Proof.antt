@@ -4,14 +4,14 @@ use Prim.Native.Nat.{_-_, _≤_}
 use native.Mathlib.Omega.{arith}
 use borrow.Author.Needs.{needs}
 use lib.ListN.{length, drop}
-use lib.Ieee.{binary32, ofBits}
+use Rattle.float32.specs.Numbers.{0ᶠ}
 use Rattle.draws.specs.Draws.{choose, rating}
 use Rattle.draws.proofs.Choice.{choose-here, choose-next, choose-end}
 use Rattle.draws.proofs.rating.Statement.{statement}
 use Rattle.draws.proofs.rating.Tie as tie
 
 abbrev Inv-loop : tie.InvT-loop
-Inv-loop weights word target sum₀ positive₀ i₀ sum positive i = (i ≤ length weights) × (choose target (ofBits binary32 0) 0 0 weights ≡ choose target sum i positive (drop i weights))
+Inv-loop weights word target sum₀ positive₀ i₀ sum positive i = (i ≤ length weights) × (choose target 0ᶠ 0 0 weights ≡ choose target sum i positive (drop i weights))
 
 abbrev μ-loop : tie.MeasureT-loop
 μ-loop weights word target sum₀ positive₀ i₀ sum positive i = length weights - i

@@ -4,14 +4,14 @@ use Prim.Native.Nat.{_-_, _≤_}
 use native.Mathlib.Omega.{arith}
 use borrow.Author.Needs.{needs}
 use lib.ListN.{length, drop}
-use lib.Ieee.{binary32, ofBits}
+use Rattle.float32.specs.Numbers.{0ᶠ}
 use Rattle.draws.proofs.Choice.{sum-next, sum-end}
 use Rattle.draws.specs.Draws.{sumFrom}
 use Rattle.draws.proofs.total.Statement.{statement}
 use Rattle.draws.proofs.total.Tie as tie
 
 abbrev Inv-loop : tie.InvT-loop
-Inv-loop weights sum₀ i₀ sum i = (i ≤ length weights) × (sumFrom (ofBits binary32 0) weights ≡ sumFrom sum (drop i weights))
+Inv-loop weights sum₀ i₀ sum i = (i ≤ length weights) × (sumFrom 0ᶠ weights ≡ sumFrom sum (drop i weights))
 
 abbrev μ-loop : tie.MeasureT-loop
 μ-loop weights sum₀ i₀ sum i = length weights - i

@@ -3,7 +3,7 @@ use Prim.Native.Nat.{ℕ, _/_, _^_, _≤_}
 use native.Mathlib.Omega.{arith}
 use lib.Dec.{T, le→leb}
 use lib.IntN.{pos}
-use lib.Ieee.{binary32, inFloat}
+use lib.Ieee.{binary32, inFloat, ofBits, ofFields, round}
 use mathlib.Core.Path.{refl}
 use Rattle.draws.specs.Draws.{unit}
 use Rattle.draws.proofs.unit.Statement.{statement}
@@ -17,7 +17,7 @@ int-to-float-result : tie.Need-int-to-float-result
 int-to-float-result c = holds (c .before .args .word / 256) (omega arith)
 
 returns : tie.Need-returns
-unfolding unit
+unfolding unit ofBits ofFields round
 returns c = refl
 
 pub unit-spec : {M : Type 1} → statement M

@@ -1,5 +1,5 @@
--- `events::learning` meets its contract.
 use native.Mathlib.Omega.{arith}
+use lib.Ieee.{ofBits, ofFields, round}
 use Rattle.events.specs.Events.{learning}
 use borrow.Author.Needs.{needs}
 use Rattle.events.proofs.learning.Statement.{statement}
@@ -40,7 +40,7 @@ memory-of-requires : tie.Need-memory-of-requires
 memory-of-requires c κs = search needs
 
 returns : tie.Need-returns
-unfolding learning
+unfolding learning ofBits ofFields round
 returns c =
     let at-of-rating = c .before .before .before .before in
     let at-clamp = at-of-rating .before in

@@ -1,4 +1,4 @@
--- `events::memory_of` meets its contract.
+use lib.Ieee.{ofBits, ofFields, round}
 use Rattle.events.specs.Events.{memoryOf}
 use borrow.Author.Needs.{needs}
 use Rattle.events.proofs.memory_of.Statement.{statement}
@@ -11,7 +11,7 @@ clamp-requires-2 : tie.Need-clamp-requires-2
 clamp-requires-2 c κs = search needs
 
 returns : tie.Need-returns
-unfolding memoryOf
+unfolding memoryOf ofBits ofFields round
 returns c = rw (c .before .clamp .ensures, c .clamp2 .ensures)
 
 pub memory-of-spec : {M : Type 1} → statement M

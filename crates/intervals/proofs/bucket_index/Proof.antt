@@ -1,5 +1,6 @@
 use Rattle.intervals.proofs.Patterns.{itself, bucket-in}
 use Rattle.intervals.specs.Bucket.{bucketIndex}
+use lib.Ieee.{ofBits, ofFields, round}
 use borrow.Author.Needs.{needs}
 use Rattle.intervals.proofs.bucket_index.Statement.{statement}
 use Rattle.intervals.proofs.bucket_index.Tie as tie
@@ -17,7 +18,7 @@ pattern-requires : tie.Need-pattern-requires
 pattern-requires c κs = search needs
 
 returns : tie.Need-returns
-unfolding bucketIndex
+unfolding bucketIndex ofBits ofFields round
 returns c =
     let at-round = c .before .before .before in
     let start = at-round .before in

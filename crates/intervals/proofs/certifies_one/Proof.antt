@@ -1,3 +1,4 @@
+use lib.Ieee.{ofBits, ofFields, round}
 use Rattle.intervals.specs.Schedule.{certifiesOne}
 use borrow.Author.Needs.{needs}
 use Rattle.intervals.proofs.certifies_one.Statement.{statement}
@@ -13,7 +14,7 @@ below-requires : tie.Need-below-requires
 below-requires c κs = search needs
 
 returns : tie.Need-returns
-unfolding certifiesOne
+unfolding certifiesOne ofBits ofFields round
 returns c = rw (c .below .ensures, c .before .retention .ensures, c .before .before .min .ensures)
 
 pub certifies-one-spec : {M : Type 1} → statement M

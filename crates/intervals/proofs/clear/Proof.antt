@@ -6,13 +6,13 @@ use Prim.Native.Nat.{_≤_, _-_}
 use native.Mathlib.Omega.{arith}
 use lib.Ieee.{Float}
 use lib.ListN.{length, drop, set, replicate, length-set}
-use Rattle.model.specs.Constants.{nought}
+use Rattle.float32.specs.Numbers.{0ᶠ}
 use Rattle.intervals.proofs.Fill.{fill-more, fill-all}
 use Rattle.intervals.proofs.clear.Statement.{statement}
 use Rattle.intervals.proofs.clear.Tie as tie
 
 abbrev Inv-loop : tie.InvT-loop
-Inv-loop intervals₀ i₀ intervals i = (i ≤ length intervals₀) × (intervals ≡ replicate i nought ++ drop i intervals₀) × (length intervals ≡ length intervals₀)
+Inv-loop intervals₀ i₀ intervals i = (i ≤ length intervals₀) × (intervals ≡ replicate i 0ᶠ ++ drop i intervals₀) × (length intervals ≡ length intervals₀)
 
 abbrev μ-loop : tie.MeasureT-loop
 μ-loop intervals₀ i₀ intervals i = length intervals₀ - i
@@ -35,8 +35,8 @@ loop-less c = omega arith
 loop-again : tie.Need-loop-again Inv-loop μ-loop
 loop-again c = (
   omega arith,
-  ap (λ (l : List Float). set l (c .before .loop .i) nought) (c .before .loop .inv .1)
-      ∙ fill-more (c .before .loop .i) nought (c .before .before .args .intervals .now) (omega arith),
+  ap (λ (l : List Float). set l (c .before .loop .i) 0ᶠ) (c .before .loop .inv .1)
+      ∙ fill-more (c .before .loop .i) 0ᶠ (c .before .before .args .intervals .now) (omega arith),
   simp length-set (c .before .loop .inv .2),
 )
 
@@ -46,7 +46,7 @@ same-length c = c .before .loop .inv .2
 returns : tie.Need-returns Inv-loop μ-loop
 returns c =
     c .before .loop .inv .1
-    ∙ fill-all (c .before .loop .i) nought (c .before .before .args .intervals .now) (omega arith)
+    ∙ fill-all (c .before .loop .i) 0ᶠ (c .before .before .args .intervals .now) (omega arith)
 
 pub clear-spec : {M : Type 1} → statement M
 clear-spec =

@@ -1,5 +1,6 @@
 use mathlib.Core.Path.{sym, _∙_}
 use Rattle.intervals.specs.Table.{table}
+use Rattle.model.specs.Runtime.{curveOf}
 use Rattle.intervals.proofs.Schedule.{slot-full, slot-new, slot-held, slot-anew, not-found}
 use borrow.Author.Needs.{needs}
 use Rattle.intervals.proofs.scheduled_interval.Statement.{statement}
@@ -25,7 +26,7 @@ returns c =
     let at-retention-bucket = c .before .before .before in
     let at-stability-bucket = at-retention-bucket .before in
     let start = at-stability-bucket .before .before in
-    slot-full (start .args .model) (start .args .stability) (start .args .retention) (start .args .most)
+    slot-full (curveOf (start .args .model)) (start .args .stability) (start .args .retention) (start .args .most)
     (table (start .args .keys .now) (start .args .intervals .now)) (at-stability-bucket .stability-bucket .result)
     (at-retention-bucket .retention-bucket .result) (at-stability-bucket .stability-bucket .ensures) (at-retention-bucket .retention-bucket .ensures)
     (sym (c .before .before .lookup .ensures) ∙ not-found (c .before .before .lookup .result) (c .before .match .keys2) (c .match2 .keys2))
@@ -39,7 +40,7 @@ returns-2 c =
     let at-retention-bucket = at-lookup .before in
     let at-stability-bucket = at-retention-bucket .before in
     let start = at-stability-bucket .before .before in
-    slot-new (start .args .model) (start .args .stability) (start .args .retention) (start .args .most)
+    slot-new (curveOf (start .args .model)) (start .args .stability) (start .args .retention) (start .args .most)
     (table (start .args .keys .now) (start .args .intervals .now)) (at-stability-bucket .stability-bucket .result)
     (at-retention-bucket .retention-bucket .result) (at-stability-bucket .stability-bucket .ensures) (at-retention-bucket .retention-bucket .ensures)
     (sym (at-lookup .lookup .ensures) ∙ c .before .before .entry2 .given .1) (c .scheduled .ensures)
@@ -60,7 +61,7 @@ returns-3 c =
     let at-retention-bucket = at-lookup .before in
     let at-stability-bucket = at-retention-bucket .before in
     let start = at-stability-bucket .before .before in
-    slot-held (start .args .model) (start .args .stability) (start .args .retention) (start .args .most)
+    slot-held (curveOf (start .args .model)) (start .args .stability) (start .args .retention) (start .args .most)
     (table (start .args .keys .now) (start .args .intervals .now)) (at-stability-bucket .stability-bucket .result)
     (at-retention-bucket .retention-bucket .result) (at-stability-bucket .stability-bucket .ensures) (at-retention-bucket .retention-bucket .ensures)
     (sym (at-lookup .lookup .ensures) ∙ at-entry .entry .given .1) (c .before .before .curve .result) (c .before .certifies-rounded-interval .result)
@@ -74,7 +75,7 @@ returns-4 c =
     let at-retention-bucket = at-lookup .before in
     let at-stability-bucket = at-retention-bucket .before in
     let start = at-stability-bucket .before .before in
-    slot-anew (start .args .model) (start .args .stability) (start .args .retention) (start .args .most)
+    slot-anew (curveOf (start .args .model)) (start .args .stability) (start .args .retention) (start .args .most)
     (table (start .args .keys .now) (start .args .intervals .now)) (at-stability-bucket .stability-bucket .result)
     (at-retention-bucket .retention-bucket .result) (at-stability-bucket .stability-bucket .ensures) (at-retention-bucket .retention-bucket .ensures)
     (sym (at-lookup .lookup .ensures) ∙ at-entry .entry .given .1) (at-curve .curve .result) (c .before .before .certifies-rounded-interval .result)

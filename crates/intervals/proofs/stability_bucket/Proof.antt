@@ -1,3 +1,4 @@
+use lib.Ieee.{ofBits, ofFields, round}
 use Rattle.intervals.specs.Bucket.{stabilityBucket}
 use borrow.Author.Needs.{needs}
 use Rattle.intervals.proofs.stability_bucket.Statement.{statement}
@@ -13,7 +14,7 @@ bucket-index-requires : tie.Need-bucket-index-requires
 bucket-index-requires c κs = search needs
 
 returns : tie.Need-returns
-unfolding stabilityBucket
+unfolding stabilityBucket ofBits ofFields round
 returns c = rw (c .bucket-index .ensures, c .before .ln-f32 .ensures .0, c .before .before .max .ensures)
 
 pub stability-bucket-spec : {M : Type 1} → statement M

@@ -1,5 +1,5 @@
--- `capi::memory::drill_forgetting_curve_and_derivative` meets its contract. Assumes nothing.
 use borrow.Author.Needs.{needs}
+use Rattle.model.proofs.Runtime.{curve-is}
 use Rattle.capi.proofs.memory.drill_forgetting_curve_and_derivative.Statement.{statement}
 use Rattle.capi.proofs.memory.drill_forgetting_curve_and_derivative.Tie as tie
 
@@ -18,8 +18,8 @@ retention-and-derivative-requires c κs = search needs
 returns : tie.Need-returns
 returns c =
     let at-new = c .before .before .before in (
-      rw (c .retention-and-derivative .ensures .0, c .before .curve-for-state .ensures, c .before .before .state-of .ensures, at-new .new .ensures),
-      rw (c .retention-and-derivative .ensures .1, c .before .curve-for-state .ensures, c .before .before .state-of .ensures, at-new .new .ensures),
+      rw (c .retention-and-derivative .ensures .0, c .before .curve-for-state .ensures, c .before .before .state-of .ensures, at-new .new .ensures, curve-is),
+      rw (c .retention-and-derivative .ensures .1, c .before .curve-for-state .ensures, c .before .before .state-of .ensures, at-new .new .ensures, curve-is),
     )
 
 pub drill-forgetting-curve-and-derivative-spec : {M : Type 1} → statement M

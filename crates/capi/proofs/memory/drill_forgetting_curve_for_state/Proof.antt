@@ -1,8 +1,7 @@
--- `capi::memory::drill_forgetting_curve_for_state` meets its contract. Assumes nothing.
 use borrow.Author.Needs.{needs}
 use Rattle.capi.proofs.memory.drill_forgetting_curve_for_state.Statement.{statement}
 use Rattle.capi.proofs.memory.drill_forgetting_curve_for_state.Tie as tie
-use Rattle.model.proofs.Kept as Laws
+use Rattle.model.proofs.Runtime.{curve-is}
 
 new-requires : tie.Need-new-requires
 new-requires c κs = search needs
@@ -14,7 +13,7 @@ forgetting-curve-for-state-requires : tie.Need-forgetting-curve-for-state-requir
 forgetting-curve-for-state-requires c κs = search needs
 
 returns : tie.Need-returns
-returns c = rw (c .forgetting-curve-for-state .ensures, c .before .state-of .ensures, c .before .before .new .ensures) (Laws.curve _ _ _)
+returns c = rw (c .forgetting-curve-for-state .ensures, c .before .state-of .ensures, c .before .before .new .ensures, curve-is)
 
 pub drill-forgetting-curve-for-state-spec : {M : Type 1} → statement M
 drill-forgetting-curve-for-state-spec =

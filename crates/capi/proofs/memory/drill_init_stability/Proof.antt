@@ -1,8 +1,7 @@
--- `capi::memory::drill_init_stability` meets its contract. Assumes nothing.
 use borrow.Author.Needs.{needs}
 use Rattle.capi.proofs.memory.drill_init_stability.Statement.{statement}
 use Rattle.capi.proofs.memory.drill_init_stability.Tie as tie
-use Rattle.model.proofs.Kept as Laws
+use Rattle.model.proofs.Runtime.{init-stability-is}
 
 new-requires : tie.Need-new-requires
 new-requires c κs = search needs
@@ -11,7 +10,7 @@ init-stability-requires : tie.Need-init-stability-requires
 init-stability-requires c κs = search needs
 
 returns : tie.Need-returns
-returns c = rw (c .init-stability .ensures, c .before .new .ensures) (Laws.first-stability _ _)
+returns c = rw (c .init-stability .ensures, c .before .new .ensures) (init-stability-is _ _)
 
 pub drill-init-stability-spec : {M : Type 1} → statement M
 drill-init-stability-spec = tie.close (tie.spec new-requires init-stability-requires returns)

@@ -1,8 +1,8 @@
--- `capi::memory::drill_next_difficulty` meets its contract. Assumes nothing.
 use borrow.Author.Needs.{needs}
 use Rattle.capi.proofs.memory.drill_next_difficulty.Statement.{statement}
 use Rattle.capi.proofs.memory.drill_next_difficulty.Tie as tie
-use Rattle.model.proofs.Kept as Laws
+use Rattle.model.specs.Model.{nextDifficulty}
+use Rattle.model.specs.Runtime.{runtimeOf, difficultyOf}
 
 new-requires : tie.Need-new-requires
 new-requires c κs = search needs
@@ -11,7 +11,8 @@ next-difficulty-requires : tie.Need-next-difficulty-requires
 next-difficulty-requires c κs = search needs
 
 returns : tie.Need-returns
-returns c = rw (c .next-difficulty .ensures, c .before .new .ensures) (Laws.next-difficulty _ _ _ _)
+unfolding nextDifficulty runtimeOf difficultyOf
+returns c = rw (c .next-difficulty .ensures, c .before .new .ensures)
 
 pub drill-next-difficulty-spec : {M : Type 1} → statement M
 drill-next-difficulty-spec = tie.close (tie.spec new-requires next-difficulty-requires returns)

@@ -1,8 +1,7 @@
--- `capi::memory::drill_scheduled` meets its contract. Assumes nothing.
 use borrow.Author.Needs.{needs}
 use Rattle.capi.proofs.memory.drill_scheduled.Statement.{statement}
 use Rattle.capi.proofs.memory.drill_scheduled.Tie as tie
-use Rattle.model.proofs.Kept as Laws
+use Rattle.model.proofs.Runtime.{curves-are}
 
 new-requires : tie.Need-new-requires
 new-requires c κs = search needs
@@ -11,7 +10,7 @@ scheduled-requires : tie.Need-scheduled-requires
 scheduled-requires c κs = search needs
 
 returns : tie.Need-returns
-returns c = rw (c .scheduled .ensures, c .before .new .ensures) (Laws.scheduled _ _ _ _)
+returns c = rw (c .scheduled .ensures, c .before .new .ensures, curves-are)
 
 pub drill-scheduled-spec : {M : Type 1} → statement M
 drill-scheduled-spec = tie.close (tie.spec new-requires scheduled-requires returns)

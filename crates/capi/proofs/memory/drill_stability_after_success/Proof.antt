@@ -1,8 +1,8 @@
--- `capi::memory::drill_stability_after_success` meets its contract. Assumes nothing.
 use borrow.Author.Needs.{needs}
 use Rattle.capi.proofs.memory.drill_stability_after_success.Statement.{statement}
 use Rattle.capi.proofs.memory.drill_stability_after_success.Tie as tie
-use Rattle.model.proofs.Kept as Laws
+use Rattle.model.specs.Model.{stabilityForSet}
+use Rattle.model.specs.Runtime.{runtimeOf}
 
 new-requires : tie.Need-new-requires
 new-requires c κs = search needs
@@ -11,7 +11,8 @@ stability-after-success-requires : tie.Need-stability-after-success-requires
 stability-after-success-requires c κs = search needs
 
 returns : tie.Need-returns
-returns c = rw (c .stability-after-success .ensures, c .before .new .ensures) (Laws.stability _ _ _ _ _)
+unfolding stabilityForSet runtimeOf
+returns c = rw (c .stability-after-success .ensures, c .before .new .ensures)
 
 pub drill-stability-after-success-spec : {M : Type 1} → statement M
 drill-stability-after-success-spec =

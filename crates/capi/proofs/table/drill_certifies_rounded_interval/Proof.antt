@@ -1,4 +1,5 @@
 -- `capi::table::drill_certifies_rounded_interval` meets its contract. Assumes nothing.
+use Rattle.model.proofs.Runtime.{curve-is}
 use borrow.Author.Needs.{needs}
 use Rattle.capi.proofs.table.drill_certifies_rounded_interval.Statement.{statement}
 use Rattle.capi.proofs.table.drill_certifies_rounded_interval.Tie as tie
@@ -13,7 +14,7 @@ certifies-rounded-interval-requires : tie.Need-certifies-rounded-interval-requir
 certifies-rounded-interval-requires c κs = search needs
 
 returns : tie.Need-returns
-returns c = rw (c .certifies-rounded-interval .ensures, c .before .curve .ensures, c .before .before .new .ensures)
+returns c = rw (c .certifies-rounded-interval .ensures, c .before .curve .ensures, c .before .before .new .ensures, curve-is)
 
 pub drill-certifies-rounded-interval-spec : {M : Type 1} → statement M
 drill-certifies-rounded-interval-spec =

@@ -1,4 +1,5 @@
 -- `capi::table::drill_scheduled_interval` meets its contract. Assumes nothing.
+use Rattle.model.proofs.Runtime.{curves-are}
 use borrow.Author.Needs.{needs}
 use Rattle.capi.proofs.table.drill_scheduled_interval.Statement.{statement}
 use Rattle.capi.proofs.table.drill_scheduled_interval.Tie as tie
@@ -26,8 +27,8 @@ returns c =
     let at-enter-slot = c .before .before .before .before in
     let at-scheduled-interval = at-enter-slot .before .before .before in
     let at-new = at-scheduled-interval .before .before .before in (
-      rw (c .interval-in .ensures, at-scheduled-interval .scheduled-interval .ensures, at-new .new .ensures),
-      rw (at-enter-slot .enter-slot .ensures, at-scheduled-interval .scheduled-interval .ensures, at-new .new .ensures),
+      rw (c .interval-in .ensures, at-scheduled-interval .scheduled-interval .ensures, at-new .new .ensures, curves-are),
+      rw (at-enter-slot .enter-slot .ensures, at-scheduled-interval .scheduled-interval .ensures, at-new .new .ensures, curves-are),
     )
 
 pub drill-scheduled-interval-spec : {M : Type 1} → statement M

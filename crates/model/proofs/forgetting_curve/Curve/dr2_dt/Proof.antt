@@ -1,0 +1,17 @@
+use borrow.Author.Needs.{needs}
+use Rattle.model.specs.Model.{dr2}
+use Rattle.model.proofs.forgetting_curve.Curve.dr2_dt.Statement.{statement}
+use Rattle.model.proofs.forgetting_curve.Curve.dr2_dt.Tie as tie
+
+base-requires : tie.Need-base-requires
+base-requires c κs = search needs
+
+powf-from-one-requires : tie.Need-powf-from-one-requires
+powf-from-one-requires c κs = search needs
+
+returns : tie.Need-returns
+unfolding dr2
+returns c = rw (c .before .before .before .before .powf-from-one .ensures, c .before .before .before .before .before .before .base .ensures)
+
+pub dr2-dt-spec : {M : Type 1} → statement M
+dr2-dt-spec = tie.close (tie.spec base-requires powf-from-one-requires returns)

@@ -1,0 +1,210 @@
+// The forgetting curve of a memory state: two powers of the time, weighted.
+use crate::parameters::CurveParameters;
+use crate::parameters::Fsrs7Runtime;
+use elementary::exp_f32;
+use elementary::powf_from_one;
+use float32::clamp;
+use float32::max;
+use float32::min;
+use float32::mul_add;
+ghost use mathlib.Core.Path.{_≡_};
+ghost use Prim.Native.Nat.{_*_};
+ghost use Rattle.model.specs.Model as Model;
+ghost use Rattle.model.specs.Runtime as Runtime;
+
+pub struct MemoryState {
+    pub stability: f32,
+    pub difficulty: f32,
+    pub stability_fast: f32,
+}
+
+pub struct Curve {
+    pub stability: f32,
+    pub fast: f32,
+    pub decay1: f32,
+    pub factor1: f32,
+    pub decay2: f32,
+    pub factor2: f32,
+    pub timescale: f32,
+    pub rate2: f32,
+    pub weight1: f32,
+    pub weight2: f32,
+    pub total: f32,
+}
+
+// The solver's retention at a time, and its derivative.
+pub struct Slope {
+    pub retention: f32,
+    pub derivative: f32,
+}
+
+pub(crate) fn decay_of(x: f32) -> f32
+    ensures { λ r. ⌜ r ≡ Model.decayOf x ⌝ }
+{
+    -clamp(x, 0.01, 0.95)
+}
+
+fn decay1(p: CurveParameters, fast: f32) -> f32
+    ensures { λ r. ⌜ r ≡ Runtime.decay1 p fast ⌝ }
+{
+    decay_of(p.w23 * powf_from_one(fast, p.power))
+}
+
+fn factor1(p: CurveParameters, decay: f32) -> f32
+    ensures { λ r. ⌜ r ≡ Runtime.factor1 p decay ⌝ }
+{
+    exp_f32(min(p.log / decay, 60.0)) - 1.0
+}
+
+fn d_timescale(p: CurveParameters, d: f32) -> f32
+    ensures { λ r. ⌜ r ≡ Runtime.dTimescale p d ⌝ }
+{
+    exp_f32((d - 5.0) * p.pace)
+}
+
+fn weight1(p: CurveParameters, fast: f32) -> f32
+    ensures { λ r. ⌜ r ≡ Runtime.weight1 p fast ⌝ }
+{
+    p.w27 * powf_from_one(fast, p.decline)
+}
+
+fn weight2(p: CurveParameters, s: f32, d: f32) -> f32
+    ensures { λ r. ⌜ r ≡ Runtime.weight2 p s d ⌝ }
+{
+    p.w28 * powf_from_one(s, p.w30) * exp_f32((d - 5.0) * p.weight)
+}
+
+// The curve at stabilities and a difficulty within their limits.
+fn curve_at(p: CurveParameters, s: f32, d: f32, fast: f32) -> Curve
+    ensures { λ r. ⌜ r ≡ Runtime.curveAt p s d fast ⌝ }
+{
+    let decay1 = decay1(p, fast);
+    let factor1 = factor1(p, decay1);
+    let timescale = d_timescale(p, d);
+    let weight1 = weight1(p, fast);
+    let weight2 = weight2(p, s, d);
+    Curve {
+        stability: s,
+        fast,
+        decay1,
+        factor1,
+        decay2: p.decay,
+        factor2: p.factor,
+        timescale,
+        rate2: p.factor * timescale,
+        weight1,
+        weight2,
+        total: weight1 + weight2,
+    }
+}
+
+// What stands under a power.
+fn base(factor: f32, t: f32, s: f32) -> f32
+    ensures { λ r. ⌜ r ≡ Model.base factor t s ⌝ }
+{
+    1.0 + factor * (t / s)
+}
+
+fn squeezed(r: f32) -> f32
+    ensures { λ x. ⌜ x ≡ Model.squeezed r ⌝ }
+{
+    mul_add(r, 0.99998, 0.00001)
+}
+
+impl Curve {
+    fn weighted(self, t: f32) -> f32
+        ensures { λ r. ⌜ r ≡ Model.weighted self t ⌝ }
+    {
+        self.weight1 * powf_from_one(base(self.factor1, t, self.fast), self.decay1)
+            + self.weight2 * powf_from_one(base(self.rate2, t, self.stability), self.decay2)
+    }
+
+    // The chance of recall after t days.
+    pub fn retention(self, t: f32) -> f32
+        ensures { λ r. ⌜ r ≡ Model.retention self t ⌝ }
+    {
+        squeezed(self.weighted(max(t, 0.0)) / self.total)
+    }
+
+    fn dr1_dt(self, t: f32) -> f32
+        ensures { λ r. ⌜ r ≡ Model.dr1 self t ⌝ }
+    {
+        self.decay1
+            * powf_from_one(base(self.factor1, t, self.fast), self.decay1 - 1.0)
+            * self.factor1
+            / self.fast
+    }
+
+    fn dr2_dt(self, t: f32) -> f32
+        ensures { λ r. ⌜ r ≡ Model.dr2 self t ⌝ }
+    {
+        self.decay2
+            * powf_from_one(base(self.rate2, t, self.stability), self.decay2 - 1.0)
+            * self.factor2
+            * self.timescale
+            / self.stability
+    }
+
+    // The solver's sum of the weights.
+    fn weight_sum(self) -> f32
+        ensures { λ r. ⌜ r ≡ Model.weightSum self ⌝ }
+    {
+        max(self.total, 0.000000001)
+    }
+
+    // The solver's chance of recall after t days, and its derivative.
+    pub fn retention_and_derivative(self, t: f32) -> Slope
+        ensures { λ r. ⌜ (r .retention ≡ Model.solverRetention self t) × (r .derivative ≡ Model.derivative self t) ⌝ }
+    {
+        let t = max(t, 0.0);
+        let weight_sum = self.weight_sum();
+        let slope = self.weight1 * self.dr1_dt(t) + self.weight2 * self.dr2_dt(t);
+        Slope {
+            retention: squeezed(self.weighted(t) / weight_sum),
+            derivative: slope / weight_sum * 0.99998,
+        }
+    }
+}
+
+pub(crate) fn of_stability(s: f32) -> MemoryState
+    ensures { λ r. ⌜ r ≡ Model.ofStability s ⌝ }
+{
+    MemoryState {
+        stability: s,
+        difficulty: 5.0,
+        stability_fast: s,
+    }
+}
+
+impl Fsrs7Runtime {
+    // The curve of a memory state.
+    pub fn curve_for_state(self, state: MemoryState) -> Curve
+        ensures { λ r. ⌜ r ≡ Runtime.curveOf self state ⌝ }
+    {
+        curve_at(
+            self.curve,
+            max(state.stability, Fsrs7Runtime::S_MIN),
+            clamp(state.difficulty, Fsrs7Runtime::D_MIN, Fsrs7Runtime::D_MAX),
+            max(state.stability_fast, Fsrs7Runtime::S_MIN),
+        )
+    }
+
+    // The curve of one stability: difficulty 5, and the fast stability the same.
+    pub fn curve(self, stability: f32) -> Curve
+        ensures { λ r. ⌜ r ≡ Runtime.curveOf self (Model.ofStability stability) ⌝ }
+    {
+        self.curve_for_state(of_stability(stability))
+    }
+
+    pub fn forgetting_curve_for_state(self, t: f32, state: MemoryState) -> f32
+        ensures { λ r. ⌜ r ≡ Model.retention (Runtime.curveOf self state) t ⌝ }
+    {
+        self.curve_for_state(state).retention(t)
+    }
+
+    pub fn forgetting_curve(self, t: f32, stability: f32) -> f32
+        ensures { λ r. ⌜ r ≡ Model.forgettingCurve (Runtime.curveOf self) t stability ⌝ }
+    {
+        self.curve(stability).retention(t)
+    }
+}
