@@ -1,4 +1,4 @@
 pub mod Logic
 pub mod Lent
-pub mod Claims
+pub mod Contract
 pub mod Demands

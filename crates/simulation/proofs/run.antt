@@ -2,3 +2,6 @@ pub mod Loop
 pub mod Table
 pub mod LongerTable
 pub mod Answer
+pub mod Suits
+pub mod DemandThree
+pub mod Answers

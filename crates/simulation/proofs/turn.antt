@@ -4,3 +4,4 @@ pub mod Invariant
 pub mod Events
 pub mod Lawful
 pub mod Calls
+pub mod Stops

@@ -4,6 +4,7 @@ pub mod Model
 pub mod Rules
 pub mod Turn
 pub mod Refusals
+pub mod RunRefusals
 pub mod Entry
 pub mod SetUp
 pub mod Simulate

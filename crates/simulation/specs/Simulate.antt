@@ -1,6 +1,7 @@
 -- THE RUN, from its inputs and the lent lists to its answer and the lists that it leaves. Definitions only.
 use Prim.Native.Nat.{ℕ, suc, _*_}
 use mathlib.Core.List.{[]}
+use mathlib.Core.Option.{Option, none, some}
 use mathlib.Core.Path.{_≡_}
 use lib.ListN.{length}
 use lib.Ieee.{Float}
@@ -21,9 +22,9 @@ use Rattle.simulation.specs.Turn.{next}
 use Rattle.simulation.specs.Entry.{Inputs, checked}
 use Rattle.simulation.specs.SetUp.{setUp}
 
--- an answer, and the state that is left
+-- an answer, and the state that is left; a run that its bound cuts off has no answer, and the contract of a call (`IsResult`) says that it has one
 pub record Result (C : Type 0) : Type 0 where
-  pub answer : Answer
+  pub answer : Option Answer
   pub state : State C
 
 abbrev pub progress : ℕ → ℕ → ℕ → Progress
@@ -33,12 +34,16 @@ abbrev pub answerOf : Stop → Progress → Answer
 answerOf stop.Ended p = answer.Finished p
 answerOf (stop.Refused r) p = answer.Refused r p
 
+abbrev pub answerIf : Option Stop → Progress → Option Answer
+answerIf none p = none
+answerIf (some x) p = some (answerOf x p)
+
 -- the rules of a run's inputs: FSRS-7 by their parameters, and SplitMix64
 abbrev pub rulesFor : Inputs → Rules Float
 rulesFor i = rulesOf (i .config) (plain (i .parameters))
 
 module _ {C : Type 0} (R : Rules C) where
-  -- one turn more than is ever taken (`ends`)
+  -- one turn more than is ever taken (`ends-within`)
   abbrev pub bound : State C → ℕ
   bound s = suc (s .queue .len * suc (R .span))
 
@@ -49,12 +54,12 @@ module _ {C : Type 0} (R : Rules C) where
   unfoldable pub resultFrom : State C → Result C
   resultFrom s =
       let r = runFrom s in
-      record { answer = answerOf (stopOf (next R) stop.Ended (bound s) s) (progress (length (r .turns)) (s .queue .len) (r .state .draws)); state = r .state }
+      record { answer = answerIf (stopOf (next R) (bound s) s) (progress (length (r .turns)) (s .queue .len) (r .state .draws)); state = r .state }
 
   -- an entry refusal leaves the lists as they are
   abbrev pub afterCheck : Inputs → Check → State C → Result C
   afterCheck i check.Passed s = resultFrom (setUp (R .costs .none) i s)
-  afterCheck i (check.Failed r) s = record { answer = answer.Refused r (progress 0 0 (i .seed)); state = s }
+  afterCheck i (check.Failed r) s = record { answer = some (answer.Refused r (progress 0 0 (i .seed))); state = s }
 
   -- a run by any rules, from inputs and lent lists
   unfoldable pub simulatedBy : Inputs → State C → Result C
@@ -66,5 +71,5 @@ simulated i = simulatedBy (rulesFor i) i
 
 -- an answer and lists are those of a result
 pub record IsResult {C : Type 0} (x : Result C) (r : Answer) (l : Lent C) : Type 0 where
-  pub answer : r ≡ x .answer
+  pub answer : x .answer ≡ some r
   pub lists : l ≡ listsOf (x .state)

@@ -2,6 +2,7 @@
 use Prim.Native.Nat.{ℕ}
 use mathlib.Core.Bool.{Bool, true, false}
 use mathlib.Core.List.{List, []}
+use mathlib.Core.Option.{some}
 use mathlib.Core.Path.{_≡_}
 use lib.ListN.{length}
 use lib.Ieee.{Float}
@@ -24,6 +25,8 @@ use Rattle.simulation.specs.declared.Refusal.the-variants as refusal
 use Rattle.simulation.specs.declared.Outcome.the-variants as outcome
 use Rattle.simulation.specs.State.{State, Lent, listsOf, keyOf}
 use Rattle.simulation.specs.Rules.{Rules}
+use Rattle.simulation.specs.declared.Answer.{Answer}
+use Rattle.simulation.specs.Simulate.{progress, answerOf, bound, runFrom}
 use Rattle.simulation.specs.Turn.{cardAfterPutOff, addForgettingCurve, next}
 
 -- the stop of a turn that was not taken
@@ -75,12 +78,18 @@ pub record CardWritten (c : ℕ) (k : Card) (len : ℕ) (cards : List (List Floa
   pub counts-are : counts′ ≡ writeCounts counts c k
   pub queue-is : queue rows′ len ≡ frontChanged (queue rows len) (keyOf k)
 
--- what the loop over turns leaves, from a state and for at most n turns
+-- what the loop over turns leaves, from a state and for at most n turns; how it stops is told where it is not cut off
 pub record RunTurns {C : Type 0} (R : Rules C) (s : State C) (n : ℕ) (r : RunEnd) (l : Lent C) : Type 0 where
-  pub stop-is : r .stop ≡ stopOf (next R) stop.Ended n s
+  pub stop-is : (x : Stop) → stopOf (next R) n s ≡ some x → r .stop ≡ x
   pub turns : r .turns ≡ length ((run (next R) n [] s) .turns)
   pub draws : r .draws ≡ (run (next R) n [] s) .state .draws
   pub lists : l ≡ listsOf ((run (next R) n [] s) .state)
+
+-- and what a call that the entry accepts leaves, from the state as set up
+pub record InnerContract {C : Type 0} (R : Rules C) (s : State C) (r : Answer) (l : Lent C) : Type 0 where
+  pub answer : (x : Stop) → stopOf (next R) (bound R s) s ≡ some x
+      → r ≡ answerOf x (progress (length ((runFrom R s) .turns)) (s .queue .len) ((runFrom R s) .state .draws))
+  pub lists : l ≡ listsOf ((runFrom R s) .state)
 
 -- ---- set-up
 pub record CardAdded (k : Card) (len : ℕ) (cards : List (List Float)) (counts rows : List (List ℕ)) (r : ℕ) (cards′ : List (List Float)) (counts′ rows′ : List (List ℕ)) : Type 0 where

@@ -13,11 +13,11 @@ ghost use Rattle.model.specs.Runtime as Runtime;
 ghost use Rattle.events.specs.Scalars.{kept};
 ghost use Rattle.simulation.specs.State.{lent, state, mostCards, mostDays};
 ghost use Rattle.simulation.specs.Rules.{rulesOf};
-ghost use Rattle.simulation.specs.Steps.{stopIn, RunTurns};
+ghost use Rattle.simulation.specs.Steps.{stopIn, RunTurns, InnerContract};
 ghost use Rattle.simulation.specs.declared.Check.the-variants as check;
 ghost use Rattle.simulation.specs.Entry.{inputs, checked};
 ghost use Rattle.simulation.specs.SetUp.{setUp};
-ghost use Rattle.simulation.specs.Simulate.{progress, answerOf, resultFrom, IsResult};
+ghost use Rattle.simulation.specs.Simulate.{progress, answerOf};
 
 // The stop of a turn that was not taken.
 fn stop_in(o: Outcome) -> Stop
@@ -131,11 +131,11 @@ pub(crate) fn simulate_inner(
     requires { ⌜ checked
         (inputs config (now parameters) retention seed (now existing) (now «existing_counts»))
         (state (lent (now cards) (now counts) (now rows) (now days) (now costs) (now memorized) (now due) (now keys) (now intervals)) 0 seed) ≡ check.Passed ⌝ }
-    ensures { λ r. ⌜ IsResult
-        (resultFrom (rulesOf config (kept (Runtime.runtimeOf (now (parameters .entry)))))
+    ensures { λ r. ⌜ InnerContract
+        (rulesOf config (kept (Runtime.runtimeOf (now (parameters .entry)))))
         (setUp (ofBits binary32 0)
         (inputs config (now (parameters .entry)) retention seed (now (existing .entry)) (now («existing_counts» .entry)))
-        (state (lent (now (cards .entry)) (now (counts .entry)) (now (rows .entry)) (now (days .entry)) (now (costs .entry)) (now (memorized .entry)) (now (due .entry)) (now (keys .entry)) (now (intervals .entry))) 0 seed)))
+        (state (lent (now (cards .entry)) (now (counts .entry)) (now (rows .entry)) (now (days .entry)) (now (costs .entry)) (now (memorized .entry)) (now (due .entry)) (now (keys .entry)) (now (intervals .entry))) 0 seed))
         r
         (lent (now (cards .exit)) (now (counts .exit)) (now (rows .exit)) (now (days .exit)) (now (costs .exit)) (now (memorized .exit)) (now (due .exit)) (now (keys .exit)) (now (intervals .exit))) ⌝ }
 {

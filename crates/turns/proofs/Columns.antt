@@ -35,11 +35,11 @@ module _ {E S C : Type 0} (k : Columns S C) (b : CostRule E C) where
     pub pays : (d : ℕ) → d < span → k .cost s′ d ≡ cond (isEvent (t .kind) && eqb (t .day) d) (b .plus (k .cost s d) (b .cost t)) (k .cost s d)
 
 -- as a run is set up
-pub record SetUp {E S C : Type 0} (k : Columns S C) (b : CostRule E C) (span known : ℕ) (s : S) : Type 0 where
+pub record SetUp {E S C : Type 0} (k : Columns S C) (b : CostRule E C) (span introduced₀ : ℕ) (s : S) : Type 0 where
   pub learned-none : (d : ℕ) → d < span → k .learned s d ≡ 0
   pub reviewed-none : (d : ℕ) → d < span → k .reviewed s d ≡ 0
   pub correct-none : (d : ℕ) → d < span → k .correct s d ≡ 0
-  pub introduced-known : (d : ℕ) → d < span → k .introduced s d ≡ known
+  pub introduced-is : (d : ℕ) → d < span → k .introduced s d ≡ introduced₀
   pub cost-none : (d : ℕ) → d < span → k .cost s d ≡ b .none
 
 review-kinds : {E : Type 0} (x : Kind E) → bit (isReview x) ≡ bit (isCorrect x) + bit (isLapse x)
@@ -61,22 +61,23 @@ correct-event (review r e) q = refl
 correct-event putOff q = q
 correct-event retire q = q
 
-module _ {E S C : Type 0} (v : View S) (k : Columns S C) (b : CostRule E C) (cards span known : ℕ) where
+module _ {E S C : Type 0} (v : View S) (k : Columns S C) (b : CostRule E C) (cards span introduced₀ : ℕ) where
   abbrev pub Keeps : Steps (Turn E) S
   Keeps ts s t s′ = Moves v cards span s t s′ × Writes k b span s t s′
 
   -- the day's cost as the run keeps it is the sum over the day's events
-  pub cost-row : {s₀ : S} {ts : List (Turn E)} {s : S} → SetUp k b span known s₀ → Chain Keeps s₀ ts s → (d : ℕ) → d < span → k .cost s d ≡ costOn b d ts
+  pub cost-row : {s₀ : S} {ts : List (Turn E)} {s : S} → SetUp k b span introduced₀ s₀ → Chain Keeps s₀ ts s → (d : ℕ) → d < span → k .cost s d ≡ costOn b d ts
   cost-row z start d h = z .cost-none d h
   cost-row z (more {ts = ts} {s = s} {t = t} {s′ = s′} r x) d h = x .1 .pays d h ∙ ap (λ (c : C). cond (isEvent (t .kind) && eqb (t .day) d) (b .plus c (b .cost t)) c) (cost-row z r d h)
 
-  pub rows : {s₀ : S} {ts : List (Turn E)} {s : S} → SetUp k b span known s₀ → Chain Keeps s₀ ts s
-      → Rows span known (sumTo cards (k .lapses s₀)) (sumTo cards (k .lapses s)) (k .learned s) (k .reviewed s) (k .correct s) (k .introduced s) ts
+  pub rows : {s₀ : S} {ts : List (Turn E)} {s : S} → SetUp k b span introduced₀ s₀ → Chain Keeps s₀ ts s
+      → Rows span introduced₀ (sumTo cards (k .lapses s₀)) (sumTo cards (k .lapses s)) b (k .learned s) (k .reviewed s) (k .correct s) (k .introduced s) (k .cost s) ts
   rows {s₀ = s₀} {ts = ts} {s = s} z r = record {
     learned-is = learned;
     reviewed-is = reviewed;
     correct-is = correct;
-    introduced-is = λ d h. introduced d h ∙ ap (λ (x : ℕ). known + x) (sym (sum-same (suc d) (k .learned s) (λ i. learnedOn i ts) (λ i l. learned i (omega arith)) ∙ count-below (λ t. isLearn (t .kind)) (λ t. t .day) (suc d) ts));
+    introduced-is = λ d h. introduced d h ∙ ap (λ (x : ℕ). introduced₀ + x) (sym (sum-same (suc d) (k .learned s) (λ i. learnedOn i ts) (λ i l. learned i (omega arith)) ∙ count-below (λ t. isLearn (t .kind)) (λ t. t .day) (suc d) ts));
+    cost-is = cost-row z r;
     lapses-are = omega (
       arith,
       lapses,
@@ -97,8 +98,8 @@ module _ {E S C : Type 0} (v : View S) (k : Columns S C) (b : CostRule E C) (car
       correct : (d : ℕ) → d < span → k .correct s d ≡ correctOn d ts
       correct d h = omega (arith, z .correct-none d h, tally (λ s. k .correct s d) (λ t. isCorrect (t .kind) && eqb (t .day) d) (λ ts s t s′ x. x .1 .corrects d h) r)
 
-      introduced : (d : ℕ) → d < span → k .introduced s d ≡ known + count (λ t. isLearn (t .kind) && ltb (t .day) (suc d)) ts
-      introduced d h = omega (arith, z .introduced-known d h, tally (λ s. k .introduced s d) (λ t. isLearn (t .kind) && ltb (t .day) (suc d)) (λ ts s t s′ x. x .1 .introduces d h) r)
+      introduced : (d : ℕ) → d < span → k .introduced s d ≡ introduced₀ + count (λ t. isLearn (t .kind) && ltb (t .day) (suc d)) ts
+      introduced d h = omega (arith, z .introduced-is d h, tally (λ s. k .introduced s d) (λ t. isLearn (t .kind) && ltb (t .day) (suc d)) (λ ts s t s′ x. x .1 .introduces d h) r)
 
       lapses : sumTo cards (k .lapses s) ≡ sumTo cards (k .lapses s₀) + count (λ t. isLapse (t .kind)) ts
       lapses = tally (λ s. sumTo cards (k .lapses s)) (λ t. isLapse (t .kind)) (λ ts s t s′ x. omega (arith, sum-at cards (t .card) (k .lapses s) (k .lapses s′) (x .0 .is-card) (x .1 .other-lapses), x .1 .lapse)) r

@@ -7,8 +7,8 @@ use mathlib.Core.Path.{_≡_, sym, ap, _∙_}
 use native.Mathlib.Omega.{arith}
 use Rattle.turns.specs.Turns.{Turn, Each, isReview, learnedOn, CostRule, Limits, Demand, Kind, learn, review, putOff, retire, costOn, Rows}
 use Rattle.turns.specs.Sums.{sumTo}
-use Rattle.turns.proofs.Chain.{Chain, chain-map, chain-each}
-use Rattle.turns.proofs.Moves.{View, Moves, MoveSteps, few-turns, Does}
+use Rattle.turns.proofs.Chain.{Chain, chain-map, chain-each, chain-all}
+use Rattle.turns.proofs.Moves.{View, Moves, MoveSteps, few-turns, event-in-span, Does}
 use Rattle.turns.proofs.Once.{one-event-a-day}
 use Rattle.turns.proofs.Order.{Least, Orderly, days-never-fall, reviews-come-first}
 use Rattle.turns.proofs.Within.{Within, days-ok, each-paid, Allowed}
@@ -27,6 +27,7 @@ module _ {E S C : Type 0} (v : View S) (cards span : ℕ) (b : CostRule E C) (l 
         reviews-first = f;
         once = λ c d. one-event-a-day v c d m;
         paid = each-paid b l ts w;
+        in-span = chain-all (λ ts s t s′ x q. event-in-span v x q) m;
         days-rise = days-never-fall v r;
         few = few-turns v cards span m;
       }
@@ -45,19 +46,19 @@ module _ {E S C : Type 0} (v : View S) (k : Columns S C) (b : CostRule E C) (l :
     pub writes : Writes k b span s t s′
     pub tests : Tests k l (t .kind) (t .day) s
 
-module _ {E S C : Type 0} (v : View S) (k : Columns S C) (b : CostRule E C) (l : Limits C) (cards span known : ℕ) {s₀ : S} (z : SetUp k b span known s₀) where
-  keeps : {ts : List (Turn E)} {s : S} → Chain (Step v k b l cards span) s₀ ts s → Chain (Keeps v k b cards span known) s₀ ts s
+module _ {E S C : Type 0} (v : View S) (k : Columns S C) (b : CostRule E C) (l : Limits C) (cards span introduced₀ : ℕ) {s₀ : S} (z : SetUp k b span introduced₀ s₀) where
+  keeps : {ts : List (Turn E)} {s : S} → Chain (Step v k b l cards span) s₀ ts s → Chain (Keeps v k b cards span introduced₀) s₀ ts s
   keeps = chain-map (λ ts s t s′ x. (x .moves, x .writes))
 
   -- the rows are the counts, so the tests are the rules
   within-step : (ts : List (Turn E)) (s : S) (t : Turn E) (s′ : S) → Chain (Step v k b l cards span) s₀ ts s → Step v k b l cards span ts s t s′ → Within b l t ts
   within-step ts s t s′ r x = go (t .kind) (x .tests) (x .moves .does)
     where
-      w : Rows span known (sumTo cards (k .lapses s₀)) (sumTo cards (k .lapses s)) (k .learned s) (k .reviewed s) (k .correct s) (k .introduced s) ts
-      w = rows v k b cards span known z (keeps r)
+      w : Rows span introduced₀ (sumTo cards (k .lapses s₀)) (sumTo cards (k .lapses s)) b (k .learned s) (k .reviewed s) (k .correct s) (k .introduced s) (k .cost s) ts
+      w = rows v k b cards span introduced₀ z (keeps r)
 
       paid : t .day < span → l .over (t .day) (k .cost s (t .day)) ≡ false → l .over (t .day) (costOn b (t .day) ts) ≡ false
-      paid h q = ap (l .over (t .day)) (sym (cost-row v k b cards span known z (keeps r) (t .day) h)) ∙ q
+      paid h q = ap (l .over (t .day)) (sym (cost-row v k b cards span introduced₀ z (keeps r) (t .day) h)) ∙ q
 
       go : (κ : Kind E) → Tests k l κ (t .day) s → Does v span κ (t .card) (t .day) s s′ → Allowed b l κ (t .day) ts
       go (learn e) y m =
@@ -70,5 +71,5 @@ module _ {E S C : Type 0} (v : View S) (k : Columns S C) (b : CostRule E C) (l :
   run-demand r = demand v cards span b l (chain-map (λ ts s t s′ x. record { moves = x .moves; least = x .least }) r) (chain-each within-step r)
 
   pub run-rows : {ts : List (Turn E)} {s : S} → Chain (Step v k b l cards span) s₀ ts s
-      → Rows span known (sumTo cards (k .lapses s₀)) (sumTo cards (k .lapses s)) (k .learned s) (k .reviewed s) (k .correct s) (k .introduced s) ts
-  run-rows r = rows v k b cards span known z (keeps r)
+      → Rows span introduced₀ (sumTo cards (k .lapses s₀)) (sumTo cards (k .lapses s)) b (k .learned s) (k .reviewed s) (k .correct s) (k .introduced s) (k .cost s) ts
+  run-rows r = rows v k b cards span introduced₀ z (keeps r)

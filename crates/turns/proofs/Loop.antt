@@ -3,6 +3,7 @@
 use Prim.Native.Nat.{ℕ, zero, suc, _+_, _-_, _≤_, _<_}
 use native.Mathlib.Omega.{arith}
 use mathlib.Core.List.{List, [], _∷_}
+use mathlib.Core.Option.{some}
 use mathlib.Core.Path.{_≡_, refl, sym, ap, _∙_}
 use native.Mathlib.Nat.{zero-add, suc-add, add-suc}
 use lib.ListN.{length}
@@ -111,21 +112,21 @@ module _ {A S X : Type 0} (B : S → S → Type 0) (P : X → Type 0) where
             rw (run-stops next n ts s y e₁, run-stops next n us s′ x f′) (record { turns = e; states = b; stop = f′ })
 
 -- HOW A RUN STOPS
-module _ {A S X : Type 0} (next : S → Next A S X) (x₀ : X) where
-  pub stop-takes : (n : ℕ) (s : S) (t : A) (s′ : S) → next s ≡ takes t s′ → stopOf next x₀ (suc n) s ≡ stopOf next x₀ n s′
+module _ {A S X : Type 0} (next : S → Next A S X) where
+  pub stop-takes : (n : ℕ) (s : S) (t : A) (s′ : S) → next s ≡ takes t s′ → stopOf next (suc n) s ≡ stopOf next n s′
   stop-takes n s t s′ e = rw (e, stopOf)
 
-  pub stop-stops : (n : ℕ) (s : S) (x : X) → next s ≡ stops x → stopOf next x₀ (suc n) s ≡ x
+  pub stop-stops : (n : ℕ) (s : S) (x : X) → next s ≡ stops x → stopOf next (suc n) s ≡ some x
   stop-stops n s x e = rw (e, stopOf)
 
   -- a run that has come to a stop within its bound stops so
-  pub stop-is : (n : ℕ) (ts : List A) (s : S) (x : X) → next ((run next n ts s) .state) ≡ stops x → length ((run next n ts s) .turns) < length ts + n → stopOf next x₀ n s ≡ x
+  pub stop-is : (n : ℕ) (ts : List A) (s : S) (x : X) → next ((run next n ts s) .state) ≡ stops x → length ((run next n ts s) .turns) < length ts + n → stopOf next n s ≡ some x
   stop-is zero ts s x e h = absurd (omega arith)
   stop-is (suc n) ts s x e h = go (next s) refl e h (λ t s′ q l. stop-is n (t ∷ ts) s′ x q l)
     where
       go : (y : Next A S X) → next s ≡ y → next ((run next (suc n) ts s) .state) ≡ stops x → length ((run next (suc n) ts s) .turns) < length ts + suc n
-          → ((t : A) (s′ : S) → next ((run next n (t ∷ ts) s′) .state) ≡ stops x → length ((run next n (t ∷ ts) s′) .turns) < suc (length ts) + n → stopOf next x₀ n s′ ≡ x)
-          → stopOf next x₀ (suc n) s ≡ x
+          → ((t : A) (s′ : S) → next ((run next n (t ∷ ts) s′) .state) ≡ stops x → length ((run next n (t ∷ ts) s′) .turns) < suc (length ts) + n → stopOf next n s′ ≡ some x)
+          → stopOf next (suc n) s ≡ some x
       go (takes t s′) e₁ q l ih =
           let r = run-takes next n ts s t s′ e₁ in
           let l′ : length ((run next n (t ∷ ts) s′) .turns) < suc (length ts) + n = let z : length ((run next n (t ∷ ts) s′) .turns) < length ts + suc n = rw r at l in omega arith in
@@ -133,4 +134,4 @@ module _ {A S X : Type 0} (next : S → Next A S X) (x₀ : X) where
       go (stops y) e₁ q l ih =
           let same : stops y ≡ stops x = sym e₁ ∙ (rw (run-stops next n ts s y e₁) at q) in
           let yx : y ≡ x = cc in
-          stop-stops n s y e₁ ∙ yx
+          stop-stops n s y e₁ ∙ ap some yx

@@ -112,13 +112,15 @@ pub record Demand {E C : Type 0} (cards span : ℕ) (b : CostRule E C) (l : Limi
   pub reviews-first : Each (λ t before. isReview (t .kind) ≡ true → learnedOn (t .day) before ≡ 0) ts
   pub once : (c d : ℕ) → handledOn c d ts ≤ 1
   pub paid : Each (λ t before. isEvent (t .kind) ≡ true → l .over (t .day) (costOn b (t .day) before) ≡ false) ts
+  pub in-span : All (λ t. isEvent (t .kind) ≡ true → t .day < span) ts
   pub days-rise : Each (λ t before. All (λ u. u .day ≤ t .day) before) ts
   pub few : length ts ≤ cards * suc span
 
--- and of the rows that the run writes, by day: `known` cards had a last date at set-up, and all cards' lapses were `lapses₀` at set-up and are `lapses` now
-pub record Rows {E : Type 0} (span known lapses₀ lapses : ℕ) (learned reviewed correct introduced : ℕ → ℕ) (ts : List (Turn E)) : Type 0 where
+-- and of the rows that the run writes, by day: `introduced₀` cards had a last date at set-up, and all cards' lapses were `lapses₀` at set-up and are `lapses` now
+pub record Rows {E C : Type 0} (span introduced₀ lapses₀ lapses : ℕ) (b : CostRule E C) (learned reviewed correct introduced : ℕ → ℕ) (cost : ℕ → C) (ts : List (Turn E)) : Type 0 where
   pub learned-is : (d : ℕ) → d < span → learned d ≡ learnedOn d ts
   pub reviewed-is : (d : ℕ) → d < span → reviewed d ≡ reviewedOn d ts
   pub correct-is : (d : ℕ) → d < span → correct d ≡ correctOn d ts
-  pub introduced-is : (d : ℕ) → d < span → introduced d ≡ known + sumTo (suc d) learned
+  pub introduced-is : (d : ℕ) → d < span → introduced d ≡ introduced₀ + sumTo (suc d) learned
+  pub cost-is : (d : ℕ) → d < span → cost d ≡ costOn b d ts
   pub lapses-are : sumTo span reviewed + lapses₀ ≡ sumTo span correct + lapses

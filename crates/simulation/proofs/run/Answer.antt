@@ -7,10 +7,10 @@ use Rattle.simulation.specs.declared.Check.the-variants as check
 use Rattle.simulation.specs.declared.RunEnd.{RunEnd}
 use Rattle.simulation.specs.State.{State, Lent}
 use Rattle.simulation.specs.Rules.{Rules}
-use Rattle.simulation.specs.Steps.{RunTurns}
+use Rattle.simulation.specs.Steps.{RunTurns, InnerContract}
 use Rattle.simulation.specs.Entry.{Inputs, checked}
 use Rattle.simulation.specs.SetUp.{setUp}
-use Rattle.simulation.specs.Simulate.{IsResult, progress, answerOf, bound, runFrom, resultFrom}
+use Rattle.simulation.specs.Simulate.{progress, answerOf, bound, runFrom}
 use Rattle.simulation.proofs.entry.Accepted.{accepted}
 use Rattle.simulation.proofs.set_up.Invariant.{set-up-few}
 
@@ -23,16 +23,14 @@ module _ {C : Type 0} (R : Rules C) (i : Inputs) (s : State C) {s₁ : State C} 
       let l : s₁ .queue .len ≡ setUp (R .costs .none) i s .queue .len = ap (λ (z : State C). z .queue .len) up in
       (omega (arith, few, l, ok .deck-most), ok .span-most)
 
-  pub done-is : {b : ℕ} {x : RunEnd} {l′ : Lent C}
-      → b ≡ bound R s₁
-      → RunTurns R s₁ b x l′
-      → IsResult (resultFrom R (setUp (R .costs .none) i s)) (answerOf (x .stop) (progress (x .turns) (s₁ .queue .len) (x .draws))) l′
-  unfolding resultFrom runFrom
-  done-is {b = b} {x = x} {l′ = l′} eb r =
-      subst (λ (z : State C). IsResult (resultFrom R z) (answerOf (x .stop) (progress (x .turns) (s₁ .queue .len) (x .draws))) l′) up (go (subst (λ (z : ℕ). RunTurns R s₁ z x l′) eb r))
+  pub inner-is : {b : ℕ} {x : RunEnd} {l′ : Lent C} → b ≡ bound R s₁ → RunTurns R s₁ b x l′
+      → InnerContract R (setUp (R .costs .none) i s) (answerOf (x .stop) (progress (x .turns) (s₁ .queue .len) (x .draws))) l′
+  unfolding runFrom
+  inner-is {b = b} {x = x} {l′ = l′} eb r =
+      subst (λ (z : State C). InnerContract R z (answerOf (x .stop) (progress (x .turns) (s₁ .queue .len) (x .draws))) l′) up (go (subst (λ (z : ℕ). RunTurns R s₁ z x l′) eb r))
     where
-      go : RunTurns R s₁ (bound R s₁) x l′ → IsResult (resultFrom R s₁) (answerOf (x .stop) (progress (x .turns) (s₁ .queue .len) (x .draws))) l′
-      go r₁ = record { answer = rw (r₁ .stop-is, r₁ .turns, r₁ .draws); lists = r₁ .lists }
+      go : RunTurns R s₁ (bound R s₁) x l′ → InnerContract R s₁ (answerOf (x .stop) (progress (x .turns) (s₁ .queue .len) (x .draws))) l′
+      go r₁ = record { answer = λ y e. rw (r₁ .stop-is y e, r₁ .turns, r₁ .draws); lists = r₁ .lists }
 
 pub bound-fits : (len span : ℕ) → len ≤ 65536 → span ≤ 36500 → len * (span + 1) ≤ 2392129536
 bound-fits len span h l = let k : span + 1 ≤ 36501 = omega arith in mul-le-mul h k

@@ -1,7 +1,7 @@
 -- A run that ends Ok is followed, turn by turn, by one that differs in its interval table alone, where that is as long or longer.
 use mathlib.Core.Path.{_≡_, refl}
 use mathlib.Core.Bool.{Bool, true, false, false≢true}
-use mathlib.Core.List.{[]}
+use mathlib.Core.List.{List, []}
 use Prim.Native.Nat.{ℕ}
 use lib.Dec.{eqb}
 use Rattle.turns.specs.Turns.{Turn, putOff}
@@ -34,6 +34,23 @@ use Rattle.simulation.specs.Turn.{refuses, turnAs, afterRetire, afterPut
 use Rattle.simulation.proofs.turn.Slots.{Slots}
 use Rattle.simulation.proofs.Logic.{not-one}
 use Rattle.simulation.proofs.turn.Calls.{event-taken}
+use mathlib.Core.Path.{sym, ap, _∙_}
+use Prim.Native.Nat.{suc, _*_, _≤_}
+use native.Mathlib.Omega.{arith}
+use lib.ListN.{length}
+use borrow.Author.Tests.{eq-eqb}
+use Rattle.intervals.specs.Table.{places, clearIn}
+use Rattle.intervals.proofs.Laws.{twin-clear}
+use Rattle.simulation.specs.declared.Check.the-variants as check
+use Rattle.simulation.specs.Entry.{Inputs, listsOk, checked}
+use Rattle.simulation.specs.SetUp.{emptyDeck, setUp}
+use mathlib.Core.Option.{some}
+use Rattle.simulation.specs.declared.Answer.the-variants as answer
+use Rattle.simulation.specs.Simulate.{progress, bound, runFrom, resultFrom, simulatedBy}
+use Rattle.simulation.specs.Demands.{startOf, cardsOf, endOf, turnsOf, LongerTable, SameRun}
+use Rattle.simulation.proofs.entry.Accepted.{accepted}
+use Rattle.simulation.proofs.run.Suits.{Suits}
+use Rattle.simulation.proofs.run.DemandThree.{stops-so}
 
 -- the same state but for the table, which holds the same and is as long or longer
 pub record Alike {C : Type 0} (s s′ : State C) : Type 0 where
@@ -110,3 +127,60 @@ module _ {C : Type 0} (R : Rules C) (laws : Slots (R .model)) where
   -- THE LONGER TABLE: the same turns, and states that differ in the table alone
   pub run-longer : (n : ℕ) (s s′ : State C) → Alike s s′ → next R ((run (next R) n [] s) .state) ≡ stops stop.Ended → Same Alike (next R) (run (next R) n [] s) (run (next R) n [] s′) stop.Ended
   run-longer n s s′ a e = run-follows Alike IsEnd (next R) follows n [] [] refl s s′ a stop.Ended refl e
+
+-- ---- of a call
+same-answer : {a a′ b b′ c c′ : ℕ} → a ≡ a′ → b ≡ b′ → c ≡ c′ → some (answer.Finished (progress a b c)) ≡ some (answer.Finished (progress a′ b′ c′))
+same-answer p q r = rw (p, q, r)
+
+module _ {C : Type 0} (R : Rules C) (i : Inputs) (s s′ : State C) (fit : Suits R i) (e : checked i s ≡ check.Passed) (longer : LongerTable s s′) where
+  set-up-same : (t : Table) → startOf R i (withTable t s) ≡ withTable (clearIn t) (startOf R i s)
+  unfolding setUp emptyDeck
+  set-up-same t = refl
+
+  set-up-table : startOf R i s .table ≡ clearIn (s .table)
+  unfolding setUp
+  set-up-table = refl
+
+  -- the second call passes the entry too
+  passes-too : checked i s′ ≡ check.Passed
+  unfolding checked listsOk
+  passes-too =
+      rw (longer .rest)
+      (rw (eq-eqb (length (s′ .table .keys)) (length (s′ .table .intervals)) (longer .even))
+      (rw (eq-eqb (length (s .table .keys)) (length (s .table .intervals)) (accepted i s e .table-even)) at e))
+
+  places-le : places (s .table) ≤ places (s′ .table)
+  places-le = omega (arith, longer .longer, longer .even, accepted i s e .table-even)
+
+  alike : Alike (startOf R i s) (startOf R i s′)
+  alike =
+      let up : startOf R i s′ ≡ withTable (clearIn (s′ .table)) (startOf R i s) = ap (startOf R i) (longer .rest) ∙ set-up-same (s′ .table) in
+      let tb : startOf R i s′ .table ≡ clearIn (s′ .table) = ap (λ (z : State C). z .table) up in
+      record {
+        same = up ∙ ap (λ (t : Table). withTable t (startOf R i s)) (sym tb);
+        twin = rw (set-up-table, tb) (twin-clear (s .table) (s′ .table) places-le);
+      }
+
+  same-length : cardsOf R i s′ ≡ cardsOf R i s
+  same-length = ap (λ (z : State C). z .queue .len) (alike .same)
+
+  -- the same bound, the same turns, states that differ in the table alone, and the same end
+  same-end : next R (endOf R i s) ≡ stops stop.Ended → Same Alike (next R) (runFrom R (startOf R i s)) (runFrom R (startOf R i s′)) stop.Ended
+  unfolding runFrom
+  same-end q =
+      let b : bound R (startOf R i s′) ≡ bound R (startOf R i s) = ap (λ (z : ℕ). suc (z * suc (R .span))) same-length in
+      rw b (run-longer R (fit .slots) (bound R (startOf R i s)) (startOf R i s) (startOf R i s′) alike q)
+
+  pub longer-table : next R (endOf R i s) ≡ stops stop.Ended → SameRun R i s s′
+  unfolding simulatedBy resultFrom
+  longer-table q =
+      let r = same-end q in
+      let one = stops-so R i s (accepted i s e) fit stop.Ended q in
+      let two = stops-so R i s′ (accepted i s′ passes-too) fit stop.Ended (r .stop) in
+      let draws : endOf R i s′ .draws ≡ endOf R i s .draws = ap (λ (z : State C). z .draws) (r .states .same) in
+      record {
+        answers = rw (e, passes-too) (rw (one, two) (same-answer (ap (λ (z : List (Turn Drawn)). length z) (sym (r .turns))) same-length draws));
+        turns-are = sym (r .turns);
+        lists-are = r .states .same;
+        intervals-are = λ x y. sym (r .states .twin .held x y);
+      }

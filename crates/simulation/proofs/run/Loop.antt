@@ -1,6 +1,7 @@
 -- The loop over turns follows the definition: after k turns the lists are the state of `run k`, and what is left of the run stops as the whole.
 use mathlib.Core.Path.{_≡_, refl, sym, ap, _∙_, subst}
 use mathlib.Core.List.{[], _∷_}
+use mathlib.Core.Option.{none, some}
 use Prim.Native.Nat.{ℕ, suc, _+_, _-_, _≤_, _<_}
 use native.Mathlib.Omega.{arith}
 use types.Run.{OneOf}
@@ -36,6 +37,12 @@ took-tag (outcome.Stopped x) n r t e = stop-took x n r e
 took-both : (a b n r : ℕ) → outcome.Took n r ≡ outcome.Took a b → (n ≡ a) × (r ≡ b)
 took-both a b n r e = (cc, cc)
 
+same-stop : (x y : Stop) → some x ≡ some y → x ≡ y
+same-stop x y e = cc
+
+no-stop : (x : Stop) → none ≡ some x → ⊥
+no-stop x e = not-one cc
+
 module _ {C : Type 0} (R : Rules C) (s₀ : State C) (bound : ℕ) where
   abbrev after : ℕ → RunState (Turn Drawn) (State C)
   after k = run (next R) k [] s₀
@@ -45,7 +52,7 @@ module _ {C : Type 0} (R : Rules C) (s₀ : State C) (bound : ℕ) where
     pub at : s ≡ (after k) .state
     pub many : length ((after k) .turns) ≡ k
     pub within : k ≤ bound
-    pub left : stopOf (next R) stop.Ended (bound - k) s ≡ stopOf (next R) stop.Ended bound s₀
+    pub left : stopOf (next R) (bound - k) s ≡ stopOf (next R) bound s₀
 
   module _ {st : State C} {k : ℕ} (i : Going st k) {o : Outcome}
       {l′ : Lent C}
@@ -67,7 +74,7 @@ module _ {C : Type 0} (R : Rules C) (s₀ : State C) (bound : ℕ) where
               at = now ∙ sym (ap (λ (z : RunState (Turn Drawn) (State C)). z .state) one);
               many = ap (λ (z : RunState (Turn Drawn) (State C)). length (z .turns)) one ∙ omega (arith, i .many);
               within = omega arith;
-              left = ap (λ (z : State C). stopOf (next R) stop.Ended (bound - (k + 1)) z) now ∙ sym (stop-takes (next R) stop.Ended (bound - (k + 1)) st t s′ q) ∙ sym (ap (λ (z : ℕ). stopOf (next R) stop.Ended z st) one-left) ∙ i .left;
+              left = ap (λ (z : State C). stopOf (next R) (bound - (k + 1)) z) now ∙ sym (stop-takes (next R) (bound - (k + 1)) st t s′ q) ∙ sym (ap (λ (z : ℕ). stopOf (next R) z st) one-left) ∙ i .left;
             }
 
     pub going-stops : OneOf (1 ∷ []) (tagOf outcome-type.the-type o) → (z : Stop) → z ≡ stopIn o
@@ -81,9 +88,9 @@ module _ {C : Type 0} (R : Rules C) (s₀ : State C) (bound : ℕ) where
             let q′ : next R ((after k) .state) ≡ stops x = rw (← i .at) q in
             let one : after bound ≡ after k = run-enough (next R) k bound [] s₀ x (i .within) q′ in
             let s : st ≡ (after bound) .state = i .at ∙ sym (ap (λ (z : RunState (Turn Drawn) (State C)). z .state) one) in
-            let y : stopOf (next R) stop.Ended bound s₀ ≡ x = sym (i .left) ∙ ap (λ (z : ℕ). stopOf (next R) stop.Ended z st) one-left ∙ stop-stops (next R) stop.Ended (bound - (k + 1)) st x q in
+            let y : stopOf (next R) bound s₀ ≡ some x = sym (i .left) ∙ ap (λ (z : ℕ). stopOf (next R) z st) one-left ∙ stop-stops (next R) (bound - (k + 1)) st x q in
             record {
-              stop-is = ez ∙ ap stopIn (h .outcome) ∙ sym y;
+              stop-is = λ w ew. ez ∙ ap stopIn (h .outcome) ∙ same-stop x w (sym y ∙ ew);
               turns = sym (ap (λ (z : RunState (Turn Drawn) (State C)). length (z .turns)) one ∙ i .many);
               draws = ap (λ (z : State C). z .draws) s;
               lists = h .lists ∙ ap listsOf s;
@@ -93,11 +100,11 @@ module _ {C : Type 0} (R : Rules C) (s₀ : State C) (bound : ℕ) where
       → RunTurns R s₀ bound (record { stop = stop.Ended; turns = k; draws = draws }) x
   going-spent {x} {n} {draws} {k} i l =
       let e : k ≡ bound = omega (arith, i .within) in
-      let none : bound - k ≡ 0 = omega arith in
+      let zero-left : bound - k ≡ 0 = omega arith in
       let st : State C = state x n draws in
       let s : st ≡ (after bound) .state = i .at ∙ ap (λ (z : ℕ). (after z) .state) e in
       record {
-        stop-is = sym (ap (λ (z : ℕ). stopOf (next R) stop.Ended z st) none) ∙ i .left;
+        stop-is = λ w ew. absurd (no-stop w (ap (λ (z : ℕ). stopOf (next R) z st) (sym zero-left) ∙ i .left ∙ ew));
         turns = sym (i .many) ∙ ap (λ (z : ℕ). length ((after z) .turns)) e;
         draws = ap (λ (z : State C). z .draws) s;
         lists = ap listsOf s;
@@ -106,7 +113,7 @@ module _ {C : Type 0} (R : Rules C) (s₀ : State C) (bound : ℕ) where
 pub going-start : {C : Type 0} (R : Rules C) (bound : ℕ) (s : State C) → Going R s bound s 0
 going-start R bound s =
     let e : bound - 0 ≡ bound = omega arith in
-    record { at = refl; many = refl; within = omega arith; left = ap (λ (z : ℕ). stopOf (next R) stop.Ended z s) e }
+    record { at = refl; many = refl; within = omega arith; left = ap (λ (z : ℕ). stopOf (next R) z s) e }
 
 -- the lists keep their lengths
 pub record SameLengths {C : Type 0} (l l′ : Lent C) : Type 0 where

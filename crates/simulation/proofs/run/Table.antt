@@ -1,7 +1,7 @@
 -- The interval table of a run is sound after every turn, so refusal 8 means what the table's law says.
 use mathlib.Core.Path.{_≡_, refl}
 use mathlib.Core.Bool.{Bool, true, false}
-use mathlib.Core.List.{List, _∷_}
+use mathlib.Core.List.{List, [], _∷_}
 use Prim.Native.Nat.{ℕ, zero, suc}
 use lib.Dec.{eqb}
 use Rattle.turns.specs.Turns.{Turn, putOff}
@@ -22,13 +22,17 @@ use Rattle.queue.specs.Queue.{front}
 use Rattle.intervals.specs.declared.Slot.{Slot}
 use Rattle.intervals.specs.declared.Slot.the-variants as slot
 use Rattle.intervals.specs.Schedule.{entered}
-use Rattle.intervals.proofs.Laws.{Sound}
+use Rattle.intervals.proofs.Laws.{Sound, clear-sound}
 use Rattle.events.specs.Drawn.{Drawn}
 use Rattle.simulation.specs.declared.Refusal.the-variants as refusal
 use Rattle.simulation.specs.declared.Stop.{Stop}
 use Rattle.simulation.specs.declared.Stop.the-variants as stop
 use Rattle.simulation.specs.State.{State, cardIn}
 use Rattle.simulation.specs.Rules.{Rules}
+use Rattle.simulation.specs.Entry.{Inputs}
+use Rattle.simulation.specs.SetUp.{setUp}
+use Rattle.simulation.specs.Simulate.{bound, runFrom}
+use Rattle.simulation.specs.Demands.{startOf, endOf}
 use Rattle.simulation.specs.Turn.{refuses, turnAs, afterPutOff, afterRetire, afterEvent, eventWithSlot, eventWithDraw, eventOn, orElse, act, turnOfCard, next}
 use Rattle.simulation.proofs.turn.Slots.{Slots}
 
@@ -92,3 +96,8 @@ module _ {C : Type 0} (R : Rules C) (laws : Slots (R .model)) where
           → Sound ((run (next R) (suc n) ts s) .state .table)
       go (takes t s′) e h ih = rw (run-takes (next R) n ts s t s′ e) (ih t s′ (rw e at h))
       go (stops x) e h ih = rw (run-stops (next R) n ts s x e) ok
+
+-- the table that a run comes to, from its emptied one
+pub end-sound : {C : Type 0} (R : Rules C) → Slots (R .model) → (i : Inputs) (s : State C) → Sound (endOf R i s .table)
+unfolding runFrom setUp
+end-sound R laws i s = run-sound R laws (bound R (startOf R i s)) [] (startOf R i s) (clear-sound (s .table))

@@ -287,7 +287,7 @@ module _ {C : Type 0} (b : CostRule Drawn C) (i : Inputs) (s : State C) (ok : Ac
     learned-none = λ d h. ap (λ (l : List ℕ). getD l 0 0) (row-at d h);
     reviewed-none = λ d h. ap (λ (l : List ℕ). getD l 1 0) (row-at d h);
     correct-none = λ d h. ap (λ (l : List ℕ). getD l 2 0) (row-at d h);
-    introduced-known = λ d h. ap (λ (l : List ℕ). getD l 3 0) (row-at d h);
+    introduced-is = λ d h. ap (λ (l : List ℕ). getD l 3 0) (row-at d h);
     cost-none = λ d h. costs-at d h;
   }
 

@@ -2,7 +2,7 @@
 use mathlib.Core.Path.{sym, _∙_}
 use Rattle.simulation.specs.State.{lent, state}
 use Rattle.simulation.specs.Entry.{inputs}
-use Rattle.simulation.proofs.Claims.{same-check, refused-is, accepted-is}
+use Rattle.simulation.proofs.Contract.{same-check, refused-is, accepted-is}
 use borrow.Author.Needs.{needs}
 use Rattle.simulation.proofs.simulate.Statement.{statement}
 use Rattle.simulation.proofs.simulate.Tie as tie

@@ -60,7 +60,7 @@ put-off-done span c k d len draws cards rows due new b cards′ rows′ due′ e
     record { refused = λ y. absurd (true≢false (sym y ∙ x)); done = λ y. (refl, p) }
 
 module _ {C : Type 0} (R : Rules C) (r : State C) (c : ℕ) (k : Card) (new : Bool) (d : ℕ) (y : Memory) where
-  event-full : (t : Slot) → isFull t ≡ true → eventWithSlot R r c k new d y t ≡ refuses (refusal.TableFull c)
+  pub event-full : (t : Slot) → isFull t ≡ true → eventWithSlot R r c k new d y t ≡ refuses (refusal.TableFull c)
   event-full (slot.Keep v) e = absurd (false≢true e)
   event-full (slot.Enter p a b v) e = absurd (false≢true e)
   event-full slot.Full e = refl

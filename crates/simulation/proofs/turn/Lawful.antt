@@ -159,9 +159,9 @@ module _ {C : Type 0} (R : Rules C) (cards : ℕ) (fine : RunBounds (R .span) ca
     pub turns-demand : Demand cards (R .span) (R .costs) (R .limits) ((run (next R) n [] s₀) .turns)
     turns-demand = run-demand view (columns (R .costs .none)) (R .costs) (R .limits) cards (R .span) introducedBefore z run-steps
 
-    pub turns-rows : Rows (R .span) introducedBefore (sumTo cards (columns (R .costs .none) .lapses s₀)) (sumTo cards (columns (R .costs .none) .lapses ((run (next R) n [] s₀) .state)))
-        (columns (R .costs .none) .learned ((run (next R) n [] s₀) .state)) (columns (R .costs .none) .reviewed ((run (next R) n [] s₀) .state)) (columns (R .costs .none) .correct ((run (next R) n [] s₀) .state)) (columns (R .costs .none) .introduced ((run (next R) n [] s₀) .state))
-        ((run (next R) n [] s₀) .turns)
+    pub turns-rows : (let k = columns (R .costs .none) in let r = run (next R) n [] s₀ in
+        Rows (R .span) introducedBefore (sumTo cards (k .lapses s₀)) (sumTo cards (k .lapses (r .state)))
+        (R .costs) (k .learned (r .state)) (k .reviewed (r .state)) (k .correct (r .state)) (k .introduced (r .state)) (k .cost (r .state)) (r .turns))
     turns-rows = run-rows view (columns (R .costs .none)) (R .costs) (R .limits) cards (R .span) introducedBefore z run-steps
 
   -- the bound on turns never shows

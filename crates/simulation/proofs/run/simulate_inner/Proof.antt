@@ -6,7 +6,7 @@ use Rattle.simulation.specs.State.{lent, state}
 use Rattle.simulation.specs.Rules.{rulesOf}
 use Rattle.simulation.specs.Entry.{inputs}
 use Rattle.simulation.proofs.entry.Accepted.{accepted}
-use Rattle.simulation.proofs.run.Answer.{few-cards, done-is}
+use Rattle.simulation.proofs.run.Answer.{few-cards, inner-is}
 use borrow.Author.Needs.{needs}
 use Rattle.simulation.proofs.run.simulate_inner.Statement.{statement}
 use Rattle.simulation.proofs.run.simulate_inner.Tie as tie
@@ -97,7 +97,7 @@ returns c =
     let start = at-set-up .before .before .before .before .before .before .before .before .before .before .before .before .before .before in
     let a = start .args in
     rw (c .answer-of .ensures, ← at-new .new .ensures)
-    (done-is (rulesOf (a .config) (kept (at-new .new .result)))
+    (inner-is (rulesOf (a .config) (kept (at-new .new .result)))
     (inputs (a .config) (a .parameters .now) (a .retention) (a .seed) (a .existing .now) (a .existing-counts .now))
     (state (lent (a .cards .now) (a .counts .now) (a .rows .now) (a .days .now) (a .costs .now) (a .memorized .now) (a .due .now) (a .keys .now) (a .intervals .now)) 0 (a .seed))
     (at-set-up .set-up .ensures (a .parameters .now) (a .seed) (a .keys .now))

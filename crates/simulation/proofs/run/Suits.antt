@@ -1,4 +1,4 @@
--- Demand 3 of the run: what the laws of turns say of a call that the entry accepts.
+-- What demand 3 asks of a run's rules (`Suits`), and that the rules of an accepted call have it, whatever is drawn (`suits`): a scheduled interval is 1 to 36,500.
 use mathlib.Core.Path.{_≡_, refl, subst, ap}
 use mathlib.Core.Bool.{Bool, true, not, _&&_}
 use mathlib.Core.List.{List}
@@ -35,7 +35,7 @@ use Rattle.simulation.specs.Turn.{next}
 use Rattle.simulation.specs.Entry.{Inputs, inputs, listsOk, checked}
 use Rattle.simulation.specs.SetUp.{introducedBefore}
 use Rattle.simulation.specs.Simulate.{IsResult, progress, rulesFor, bound, runFrom, resultFrom, simulatedBy, simulated}
-use Rattle.simulation.specs.Demands.{EndedOk, startOf, cardsOf, turnsOf, DemandThree, RunContract}
+use Rattle.simulation.specs.Demands.{startOf, cardsOf, endOf, turnsOf, RowsOf}
 use Rattle.simulation.specs.Invariant.{RunBounds, StateInvariant}
 use Rattle.simulation.proofs.turn.Slots.{Slots, table-slots}
 use Rattle.simulation.proofs.turn.Views.{columns}
@@ -96,62 +96,3 @@ pub record Suits {C : Type 0} (R : Rules C) (i : Inputs) : Type 0 where
 -- so WHATEVER IS DRAWN
 pub suits : (w : DrawRule) (i : Inputs) (s : State Float) → Accepted i s → Suits (rulesWith w (i .config) (plain (i .parameters))) i
 suits w i s ok = record { span-is = refl; slots = table-slots (i .config) (plain (i .parameters)) (λ x y. scheduled-fair (curveOf (i .parameters)) x y (i .config .«max_ivl») (interval-ok (i .config) (ok .config-ok))) }
-
-module _ {C : Type 0} (R : Rules C) (i : Inputs) (s : State C) (ok : Accepted i s) (fit : Suits R i) where
-  fine : RunBounds (R .span) (cardsOf R i s)
-  fine = record { some = omega (arith, fit .span-is, ok .span-some); most = omega (arith, fit .span-is, ok .span-most); few = omega (arith, set-up-few (R .costs) i s ok, ok .deck-most) }
-
-  begins : SetUp (columns (R .costs .none)) (R .costs) (R .span) (introducedBefore (i .existing) (i .existing-counts) (length (i .existing))) (startOf R i s)
-  begins = subst (λ (z : ℕ). SetUp (columns (R .costs .none)) (R .costs) z (introducedBefore (i .existing) (i .existing-counts) (length (i .existing))) (startOf R i s)) (fit .span-is) (set-up-start (R .costs) i s ok)
-
-  good : StateInvariant (cardsOf R i s) (R .span) (startOf R i s)
-  good = subst (λ (z : ℕ). StateInvariant (cardsOf R i s) z (startOf R i s)) (fit .span-is) (set-up-good (R .costs) i s ok)
-
-  -- the bound on turns never shows: the run has stopped
-  pub has-stopped : (y : Stop) × (next R ((runFrom R (startOf R i s)) .state) ≡ stops y)
-  unfolding runFrom
-  has-stopped = ends R (cardsOf R i s) fine (fit .slots) (startOf R i s) good
-
-  pub few-turns : length (turnsOf R i s) ≤ cardsOf R i s * suc (R .span)
-  unfolding runFrom
-  few-turns = turns-demand R (cardsOf R i s) fine (fit .slots) _ (startOf R i s) begins good (bound R (startOf R i s)) .few
-
-  pub demand-three : (counts days : List (List ℕ)) → counts ≡ (runFrom R (startOf R i s)) .state .counts → days ≡ (runFrom R (startOf R i s)) .state .days → DemandThree R i s counts days
-  unfolding runFrom
-  demand-three counts days ec ed = record {
-    demand = turns-demand R (cardsOf R i s) fine (fit .slots) _ (startOf R i s) begins good (bound R (startOf R i s));
-    rows = rw (ec, ed) (turns-rows R (cardsOf R i s) fine (fit .slots) _ (startOf R i s) begins good (bound R (startOf R i s)));
-  }
-
--- ---- the entry point
-not-finished : (r : Refusal) (p : Progress) → EndedOk (answer.Refused r p) → ⊥
-not-finished r p f = let e = f .1 in not-one cc
-
-module _ (i : Inputs) (s : State Float) where
-  -- the entry's tests look neither at the seed nor at the draws
-  pub same-check : {c : Check} → c ≡ checked (inputs (i .config) (i .parameters) (i .retention) 0 (i .existing) (i .existing-counts)) (withDraws 0 s) → c ≡ checked i s
-  unfolding checked listsOk
-  same-check e = e
-
-  pub refused-is : (r : Refusal) → checked i s ≡ check.Failed r → RunContract i s (answer.Refused r (progress 0 0 (i .seed))) (listsOf s)
-  unfolding simulatedBy
-  refused-is r e = record {
-    result = rw e (record { answer = refl; lists = refl });
-    daily-rules = λ f. absurd (not-finished r (progress 0 0 (i .seed)) f);
-  }
-
-  module _ (e : checked i s ≡ check.Passed) {r : Answer} {l′ : Lent Float}
-      (d : IsResult (resultFrom (rulesOf (i .config) (kept (Runtime.runtimeOf (i .parameters)))) (startOf (rulesFor i) i s)) r l′) where
-    plainly : IsResult (resultFrom (rulesFor i) (startOf (rulesFor i) i s)) r l′
-    plainly = subst (λ (x : Scalars). IsResult (resultFrom (rulesOf (i .config) x) (startOf (rulesFor i) i s)) r l′) (kept-is (i .parameters)) d
-
-    done : IsResult (simulated i s) r l′
-    unfolding simulatedBy
-    done = rw e plainly
-
-    three : DemandThree (rulesFor i) i s (l′ .counts) (l′ .days)
-    unfolding resultFrom
-    three = demand-three (rulesFor i) i s (accepted i s e) (suits splitMix i s (accepted i s e)) (l′ .counts) (l′ .days) (ap (λ (l : Lent Float). l .counts) (plainly .lists)) (ap (λ (l : Lent Float). l .days) (plainly .lists))
-
-    pub accepted-is : RunContract i s r l′
-    accepted-is = record { result = done; daily-rules = λ f. three }

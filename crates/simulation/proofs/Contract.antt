@@ -1,0 +1,64 @@
+-- THE CONTRACT OF A CALL (`RunContract`): a call that an entry test fails is answered as it came, and one that passes has the result of `simulated`; where it ends Ok,
+-- demand 3 holds of it.
+use mathlib.Core.Path.{_≡_, refl, sym, ap, _∙_, subst}
+use mathlib.Core.Option.{Option, some}
+use lib.Ieee.{Float}
+use Rattle.turns.specs.Run.{stopOf}
+use Rattle.draws.specs.Draws.{splitMix}
+use Rattle.model.specs.Runtime as Runtime
+use Rattle.events.specs.Scalars.{Scalars, kept}
+use Rattle.events.proofs.Loops.{kept-is}
+use Rattle.simulation.specs.declared.Refusal.{Refusal}
+use Rattle.simulation.specs.declared.Check.{Check}
+use Rattle.simulation.specs.declared.Check.the-variants as check
+use Rattle.simulation.specs.declared.Progress.{Progress}
+use Rattle.simulation.specs.declared.Answer.{Answer}
+use Rattle.simulation.specs.declared.Answer.the-variants as answer
+use Rattle.simulation.specs.declared.Stop.{Stop}
+use Rattle.simulation.specs.State.{State, Lent, listsOf, withDraws}
+use Rattle.simulation.specs.Rules.{rulesOf}
+use Rattle.simulation.specs.Turn.{next}
+use Rattle.simulation.specs.Entry.{Inputs, inputs, listsOk, checked}
+use Rattle.simulation.specs.Simulate.{Result, progress, answerOf, rulesFor, bound, resultFrom, simulatedBy, simulated, IsResult}
+use Rattle.simulation.specs.Steps.{InnerContract}
+use Rattle.simulation.specs.Demands.{startOf, RunContract}
+use Rattle.simulation.proofs.entry.Accepted.{accepted}
+use Rattle.simulation.proofs.run.Suits.{suits}
+use Rattle.simulation.proofs.run.DemandThree.{has-stopped, stops-so}
+use Rattle.simulation.proofs.run.Answers.{ok-demand}
+use Rattle.simulation.proofs.Logic.{not-one}
+
+not-finished : (r : Refusal) (p q : Progress) → answer.Refused r p ≡ answer.Finished q → ⊥
+not-finished r p q e = not-one cc
+
+module _ (i : Inputs) (s : State Float) where
+  -- the entry's tests look neither at the seed nor at the draws
+  pub same-check : {c : Check} → c ≡ checked (inputs (i .config) (i .parameters) (i .retention) 0 (i .existing) (i .existing-counts)) (withDraws 0 s) → c ≡ checked i s
+  unfolding checked listsOk
+  same-check e = e
+
+  pub refused-is : (r : Refusal) → checked i s ≡ check.Failed r → RunContract i s (answer.Refused r (progress 0 0 (i .seed))) (listsOf s)
+  unfolding simulatedBy
+  refused-is r e = record {
+    result = rw e (record { answer = refl; lists = refl });
+    demand-three = λ p f. absurd (not-finished r (progress 0 0 (i .seed)) p f);
+  }
+
+  module _ (e : checked i s ≡ check.Passed) {r : Answer} {l′ : Lent Float}
+      (d : InnerContract (rulesOf (i .config) (kept (Runtime.runtimeOf (i .parameters)))) (startOf (rulesFor i) i s) r l′) where
+    plainly : InnerContract (rulesFor i) (startOf (rulesFor i) i s) r l′
+    plainly = subst (λ (x : Scalars). InnerContract (rulesOf (i .config) x) (startOf (rulesFor i) i s) r l′) (kept-is (i .parameters)) d
+
+    result : IsResult (simulated i s) r l′
+    unfolding simulatedBy resultFrom
+    result =
+        let ok = accepted i s e in
+        let h = has-stopped (rulesFor i) i s ok (suits splitMix i s ok) in
+        let x = stops-so (rulesFor i) i s ok (suits splitMix i s ok) (h .0) (h .1) in
+        rw (e, x) (record { answer = ap some (sym (plainly .answer (h .0) x)); lists = plainly .lists })
+
+    pub accepted-is : RunContract i s r l′
+    accepted-is = record {
+      result = result;
+      demand-three = λ p f. ok-demand (rulesFor i) i s (suits splitMix i s (accepted i s e)) p (result .answer ∙ ap some f) l′ (result .lists);
+    }
