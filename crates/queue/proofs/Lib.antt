@@ -5,3 +5,4 @@ pub mod Steps
 pub mod Settled
 pub mod Laws
 pub mod Keys
+pub mod Frame
