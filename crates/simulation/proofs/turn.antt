@@ -5,3 +5,4 @@ pub mod Events
 pub mod Lawful
 pub mod Calls
 pub mod Stops
+pub mod Frame

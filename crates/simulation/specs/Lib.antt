@@ -8,5 +8,6 @@ pub mod RunRefusals
 pub mod Entry
 pub mod SetUp
 pub mod Simulate
+pub mod Frame
 pub mod Demands
 pub mod Steps

@@ -1,0 +1,50 @@
+-- WHICH PLACES A RUN HAS TO DO WITH: of lists that are longer than it needs, the first ones. Definitions only.
+--   firstPlaces cards span s   the state of the first places: a row a card, a place a day, and the due counts
+--   beyond cards span s        the places behind them
+--   extended s b               s with the places b behind those of its lists
+use Prim.Native.Nat.{ℕ}
+use mathlib.Core.List.{[], _++_}
+use lib.ListN.{take, drop}
+use Rattle.days.specs.Due.{dueDays}
+use Rattle.queue.specs.Queue.{queue}
+use Rattle.simulation.specs.State.{State, Lent}
+
+module _ {C : Type 0} where
+  abbrev pub firstPlaces : ℕ → ℕ → State C → State C
+  firstPlaces cards span s = record {
+    cards = take cards (s .cards);
+    counts = take cards (s .counts);
+    queue = queue (take cards (s .queue .rows)) (s .queue .len);
+    days = take span (s .days);
+    costs = take span (s .costs);
+    memorized = take span (s .memorized);
+    due = take (dueDays span) (s .due);
+    table = s .table;
+    draws = s .draws;
+  }
+
+  abbrev pub beyond : ℕ → ℕ → State C → Lent C
+  beyond cards span s = record {
+    cards = drop cards (s .cards);
+    counts = drop cards (s .counts);
+    rows = drop cards (s .queue .rows);
+    days = drop span (s .days);
+    costs = drop span (s .costs);
+    memorized = drop span (s .memorized);
+    due = drop (dueDays span) (s .due);
+    keys = [];
+    intervals = [];
+  }
+
+  abbrev pub extended : State C → Lent C → State C
+  extended s b = record {
+    cards = s .cards ++ b .cards;
+    counts = s .counts ++ b .counts;
+    queue = queue (s .queue .rows ++ b .rows) (s .queue .len);
+    days = s .days ++ b .days;
+    costs = s .costs ++ b .costs;
+    memorized = s .memorized ++ b .memorized;
+    due = s .due ++ b .due;
+    table = s .table;
+    draws = s .draws;
+  }
