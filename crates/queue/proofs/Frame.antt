@@ -2,7 +2,8 @@
 --   widened q b                          the queue q with the rows b behind its list
 --   popped-widened, changed-widened      a pop and a change of the front do the same there
 --   pushed-grown                         a push into the first free place grows the list of the queue's own rows
---   popped-long, changed-long            and lists keep their lengths
+--   popped-long, changed-long, bubble-long   and lists keep their lengths
+--   popped-less, changed-same            how many cards are queued after
 use mathlib.Core.Path.{_≡_, refl, sym, ap, _∙_}
 use mathlib.Core.Bool.{Bool, true, false, _&&_, cond}
 use mathlib.Core.List.{List, [], _∷_, _++_}
@@ -31,6 +32,9 @@ rise-long (suc n) a pos = go (ltb 0 pos && ltb (keyAt a pos) (keyAt a (parent po
     go true ih = ih ∙ swap-long a pos (parent pos)
     go false ih = refl
 
+pub bubble-long : (a : List (List ℕ)) (pos : ℕ) → length (bubbleUp a pos) ≡ length a
+bubble-long a pos = rise-long pos a pos
+
 sink-long : (n : ℕ) (a : List (List ℕ)) (len pos : ℕ) → length (sink n a len pos) ≡ length a
 unfolding sink
 sink-long zero a len pos = refl
@@ -56,6 +60,22 @@ changed-long q key = go (hasFront q)
   where
     go : (t : Bool) → length ((cond t (queue (heapify (rekeyed (q .rows) key) (q .len)) (q .len)) q) .rows) ≡ length (q .rows)
     go true = sink-long (q .len) _ (q .len) 0 ∙ length-set (q .rows) 0 _
+    go false = refl
+
+pub popped-less : (q : Queue) → popped q .len ≤ q .len
+unfolding popped
+popped-less q = go (hasFront q)
+  where
+    go : (t : Bool) → (cond t (queue (heapify (set (q .rows) 0 (getD (q .rows) (q .len - 1) [])) (q .len - 1)) (q .len - 1)) q) .len ≤ q .len
+    go true = omega arith
+    go false = omega arith
+
+pub changed-same : (q : Queue) (key : ℕ) → frontChanged q key .len ≡ q .len
+unfolding frontChanged
+changed-same q key = go (hasFront q)
+  where
+    go : (t : Bool) → (cond t (queue (heapify (rekeyed (q .rows) key) (q .len)) (q .len)) q) .len ≡ q .len
+    go true = refl
     go false = refl
 
 -- ---- the list's own places

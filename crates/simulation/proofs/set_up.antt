@@ -1,3 +1,4 @@
 pub mod Loops
 pub mod Invariant
 pub mod State
+pub mod Frame

@@ -29,7 +29,7 @@ use Rattle.events.specs.declared.Event.{Event}
 use Rattle.events.specs.declared.Event.the-variants as event
 use Rattle.events.specs.Drawn.{Drawn}
 use Rattle.queue.specs.Queue.{front}
-use Rattle.queue.proofs.Frame.{front-widened, popped-widened, popped-long, changed-widened, changed-long}
+use Rattle.queue.proofs.Frame.{front-widened, popped-widened, popped-long, popped-less, changed-widened, changed-long, changed-same}
 use Rattle.intervals.specs.declared.Slot.{Slot}
 use Rattle.intervals.specs.declared.Slot.the-variants as slot
 use Rattle.intervals.specs.Schedule.{intervalOf}
@@ -52,6 +52,7 @@ pub record Exact {C : Type 0} (cards span : ℕ) (s : State C) : Type 0 where
   pub costs-are : length (s .costs) ≡ span
   pub memorized-are : length (s .memorized) ≡ span
   pub due-are : length (s .due) ≡ dueDays span
+  pub queued : s .queue .len ≤ cards
 
 -- the forgetting curve of a card, up to a day within the list
 module _ (m : Model) (a : List Float) (k : Card) (e : ℕ) where
@@ -77,7 +78,7 @@ module _ (m : Model) (a : List Float) (k : Card) (e : ℕ) where
       go true q = refl
       go false q = q
 
-module _ {C : Type 0} (R : Rules C) (cards : ℕ) (fine : RunBounds (R .span) cards) (s : State C) (b : Lent C) (good : StateInvariant cards (R .span) s) (ex : Exact cards (R .span) s) where
+module _ {C : Type 0} (R : Rules C) (cards : ℕ) (fine : RunBounds (R .span) cards) (s : State C) (b : Lent C) (good : StateInvariant cards (R .span) (extended s b)) (ex : Exact cards (R .span) s) where
   abbrev wide : State C
   wide = extended s b
 
@@ -97,20 +98,26 @@ module _ {C : Type 0} (R : Rules C) (cards : ℕ) (fine : RunBounds (R .span) ca
     d = dayOf (k .due)
 
     room : s .queue .len ≤ length (s .queue .rows)
-    room = good .order .keyed .sound .room
-
-    mine : c < length (s .cards)
-    mine = omega (arith, is-card R cards fine [] s good some, ex .cards-are)
-
-    mine′ : c < length (s .counts)
-    mine′ = omega (arith, is-card R cards fine [] s good some, ex .counts-are)
+    room = omega (arith, ex .queued, ex .rows-are)
 
     same-front : front (wide .queue) ≡ c
     same-front = front-widened (s .queue) (b .rows) some room
 
+    mine : c < length (s .cards)
+    mine = omega (arith, is-card R cards fine [] wide good some, same-front, ex .cards-are)
+
+    mine′ : c < length (s .counts)
+    mine′ = omega (arith, is-card R cards fine [] wide good some, same-front, ex .counts-are)
+
     same-card : cardIn wide c ≡ k
     unfolding cardAt
     same-card = rw (List·getD-append (s .cards) (b .cards) noFloats c mine, List·getD-append (s .counts) (b .counts) noCounts c mine′)
+
+    same-turn : cardIn wide (front (wide .queue)) ≡ k
+    same-turn = ap (cardIn wide) same-front ∙ same-card
+
+    within : retires (R .span) (R .lapse-limit) k ≡ false → d < R .span
+    within e = rw same-turn at (in-span R cards fine [] wide good some (rw same-turn e))
 
     -- ---- what each turn leaves
     retire-own : afterRetire R wide k ≡ extended (afterRetire R s k) b
@@ -127,15 +134,18 @@ module _ {C : Type 0} (R : Rules C) (cards : ℕ) (fine : RunBounds (R .span) ca
       costs-are = ex .costs-are;
       memorized-are = curve-long (R .model) (s .memorized) k (R .span) ∙ ex .memorized-are;
       due-are = ex .due-are;
+      queued = omega (arith, ex .queued, popped-less (s .queue));
     }
 
     module _ (h : d < R .span) where
       put-own : afterPutOff R wide c k d ≡ extended (afterPutOff R s c k d) b
       unfolding afterPutOff writeFloats
       put-own =
-          rw (set-append-left (s .cards) (b .cards) c (floatsOf (cardAfterPutOff k d)) mine,
-          changed-widened (s .queue) (b .rows) some room (keyOf (cardAfterPutOff k d)),
-          move-due-own (R .span) (s .due) (b .due) (isNew (k .«last_date»)) d (omega (arith, ex .due-are)) (omega (arith, h, ex .due-are)))
+          rw (
+            set-append-left (s .cards) (b .cards) c (floatsOf (cardAfterPutOff k d)) mine,
+            changed-widened (s .queue) (b .rows) some room (keyOf (cardAfterPutOff k d)),
+            move-due-own (R .span) (s .due) (b .due) (isNew (k .«last_date»)) d (omega (arith, ex .due-are)) (omega (arith, h, ex .due-are)),
+          )
 
       put-exact : Exact cards (R .span) (afterPutOff R s c k d)
       unfolding afterPutOff writeFloats
@@ -147,6 +157,7 @@ module _ {C : Type 0} (R : Rules C) (cards : ℕ) (fine : RunBounds (R .span) ca
         costs-are = ex .costs-are;
         memorized-are = ex .memorized-are;
         due-are = move-due-long (R .span) (s .due) (isNew (k .«last_date»)) d ∙ ex .due-are;
+        queued = omega (arith, ex .queued, changed-same (s .queue) (keyOf (cardAfterPutOff k d)));
       }
 
       module _ (new : Bool) (x : Memory) (t : Slot) where
@@ -154,13 +165,15 @@ module _ {C : Type 0} (R : Rules C) (cards : ℕ) (fine : RunBounds (R .span) ca
         unfolding afterEvent writeFloats writeCounts
         event-is-own =
             let k′ : Card = cardAfterEvent k new x d (intervalOf t) in
-            rw (set-append-left (s .cards) (b .cards) c (floatsOf k′) mine,
-            set-append-left (s .counts) (b .counts) c (countsOf k′) mine′,
-            changed-widened (s .queue) (b .rows) some room (keyOf k′),
-            event-own (s .days) (b .days) (R .span) d h (omega (arith, ex .days-are)) (x .recalled) new,
-            cost-own (R .costs .none) (R .costs .plus) (s .costs) (b .costs) d (R .costs .cost (eventTurn R s c k new d x)) (omega (arith, h, ex .costs-are)),
-            curve-own (R .model) (s .memorized) k d (b .memorized) (omega (arith, h, ex .memorized-are)),
-            add-due-own (R .span) (s .due) (b .due) (dayOf (k′ .due)) (omega (arith, ex .due-are)))
+            rw (
+              set-append-left (s .cards) (b .cards) c (floatsOf k′) mine,
+              set-append-left (s .counts) (b .counts) c (countsOf k′) mine′,
+              changed-widened (s .queue) (b .rows) some room (keyOf k′),
+              event-own (s .days) (b .days) (R .span) d h (omega (arith, ex .days-are)) (x .recalled) new,
+              cost-own (R .costs .none) (R .costs .plus) (s .costs) (b .costs) d (R .costs .cost (eventTurn R s c k new d x)) (omega (arith, h, ex .costs-are)),
+              curve-own (R .model) (s .memorized) k d (b .memorized) (omega (arith, h, ex .memorized-are)),
+              add-due-own (R .span) (s .due) (b .due) (dayOf (k′ .due)) (omega (arith, ex .due-are)),
+            )
 
         event-exact : Exact cards (R .span) (afterEvent R s c k new d x t)
         unfolding afterEvent writeFloats writeCounts
@@ -172,6 +185,7 @@ module _ {C : Type 0} (R : Rules C) (cards : ℕ) (fine : RunBounds (R .span) ca
           costs-are = cost-long (R .costs .none) (R .costs .plus) (s .costs) d _ ∙ ex .costs-are;
           memorized-are = curve-long (R .model) (s .memorized) k d ∙ ex .memorized-are;
           due-are = add-due-long (R .span) (s .due) _ ∙ ex .due-are;
+          queued = omega (arith, ex .queued, changed-same (s .queue) (keyOf (cardAfterEvent k new x d (intervalOf t))));
         }
 
       slot-framed : (new : Bool) (x : Memory) (t : Slot) → Framed (eventWithSlot R s c k new d x t) (eventWithSlot R wide c k new d x t)
@@ -220,7 +234,7 @@ module _ {C : Type 0} (R : Rules C) (cards : ℕ) (fine : RunBounds (R .span) ca
       where
         go : (t : Bool) → retires (R .span) (R .lapse-limit) k ≡ t → Framed (turnOfCard R s c k d) (turnOfCard R wide c k d)
         go true e = gone e
-        go false e = let h = in-span R cards fine [] s good some e in rw (days-same h) (act-framed h (choiceOf (R .span) (R .lapse-limit) (R .limits) d k (learnedAt (s .days) d) (reviewedAt (s .days) d) (costAt (R .costs .none) (s .costs) d)))
+        go false e = let h = within e in rw (days-same h) (act-framed h (choiceOf (R .span) (R .lapse-limit) (R .limits) d k (learnedAt (s .days) d) (reviewedAt (s .days) d) (costAt (R .costs .none) (s .costs) d)))
 
     turn-framed : Framed (turnOfCard R s c k d) (turnOfCard R wide (front (wide .queue)) (cardIn wide (front (wide .queue))) (dayOf (cardIn wide (front (wide .queue)) .due)))
     turn-framed = rw (same-front, same-card) card-framed
