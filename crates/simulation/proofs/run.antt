@@ -1,6 +1,7 @@
 pub mod Loop
 pub mod Table
-pub mod LongerTable
+pub mod Tables
+pub mod Frame
 pub mod Answer
 pub mod Suits
 pub mod DemandThree

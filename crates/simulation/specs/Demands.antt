@@ -23,7 +23,8 @@ use Rattle.simulation.specs.State.{State, Lent, listsOf, withTable}
 use Rattle.simulation.specs.Invariant.{lapsesIn}
 use Rattle.simulation.specs.Rules.{Rules}
 use Rattle.simulation.specs.RunRefusals.{StopCondition}
-use Rattle.simulation.specs.Entry.{Inputs, checked}
+use Rattle.simulation.specs.Entry.{Inputs, listsOk, checked}
+use Rattle.simulation.specs.Frame.{firstPlaces, beyond}
 use Rattle.simulation.specs.SetUp.{introducedBefore, setUp}
 use Rattle.simulation.specs.Simulate.{IsResult, progress, answerOf, rulesFor, runFrom, simulatedBy, simulated}
 
@@ -48,17 +49,16 @@ module _ {C : Type 0} (R : Rules C) (i : Inputs) (s : State C) where
       (sumTo cardsOf (lapsesIn (startOf .counts))) (sumTo cardsOf (lapsesIn (l .counts)))
       (R .costs) (learnedAt (l .days)) (reviewedAt (l .days)) (correctAt (l .days)) (introducedAt (l .days)) (costAt (R .costs .none) (l .costs)) turnsOf
 
--- A second run's lists: those of the first, but for an interval table that is longer in both its columns
-pub record LongerTable {C : Type 0} (s s′ : State C) : Type 0 where
-  pub rest : s′ ≡ withTable (s′ .table) s
+-- A second call's lists: of any contents and long enough, with an interval table at least as long
+pub record LongerTable {C : Type 0} (i : Inputs) (s s′ : State C) : Type 0 where
+  pub lists-ok : listsOk i s′ ≡ true
   pub longer : length (s .table .keys) ≤ length (s′ .table .keys)
-  pub even : length (s′ .table .keys) ≡ length (s′ .table .intervals)
 
--- the same answer, the same turns, and the same rows, due counts, cards and draws; the table holds the same
+-- the same answer, the same turns, the same first places of all lists (rows, due counts, cards, queue) and draws; and the tables hold the same under each key
 pub record SameRun {C : Type 0} (R : Rules C) (i : Inputs) (s s′ : State C) : Type 0 where
   pub answers : simulatedBy R i s′ .answer ≡ simulatedBy R i s .answer
   pub turns-are : turnsOf R i s′ ≡ turnsOf R i s
-  pub lists-are : endOf R i s′ ≡ withTable (endOf R i s′ .table) (endOf R i s)
+  pub places-are : firstPlaces (cardsOf R i s) (R .span) (endOf R i s′) ≡ withTable (endOf R i s′ .table) (firstPlaces (cardsOf R i s) (R .span) (endOf R i s))
   pub intervals-are : (x y : ℕ) → heldIn (endOf R i s′ .table) x y ≡ heldIn (endOf R i s .table) x y
 
 -- DEMAND 3, OF A RUN THAT ENDS OK, by any rules: `p` is the progress that its answer tells, `l` the lists that it leaves
@@ -70,7 +70,7 @@ pub record DemandThree {C : Type 0} (R : Rules C) (i : Inputs) (s : State C) (p 
   -- the turns reported are exactly the list's length
   pub turns-reported : p .turns ≡ length (turnsOf R i s)
   -- with any longer interval table and all else alike it ends Ok too, with the same turns, draws, answer, rows, due counts and cards
-  pub longer-table : (s′ : State C) → LongerTable s s′ → SameRun R i s s′
+  pub longer-table : (s′ : State C) → LongerTable i s s′ → SameRun R i s s′
 
 -- WHAT A CALL OF THE RUN PROMISES: the answer and the lists are those of the definition, and where it ends Ok demand 3 holds of them
 pub record RunContract (i : Inputs) (s : State Float) (r : Answer) (l : Lent Float) : Type 0 where
@@ -86,6 +86,10 @@ pub record Demands {C : Type 0} (R : Rules C) (i : Inputs) (s : State C) : Type 
   -- it ends Ok, or is refused by 7 or 8 with card c, exactly on the condition of that stop: Ok exactly when the queue is empty
   pub stops-exactly : checked i s ≡ check.Passed → (x : Stop)
       → (simulatedBy R i s .answer ≡ some (answerOf x (progress (length (turnsOf R i s)) (cardsOf R i s) (endOf R i s .draws)))) ↔ StopCondition R (endOf R i s) x
+  -- places behind those that the run needs are as they were lent: of cards and queue behind the run's cards, of days behind the span, of due counts behind theirs
+  pub beyond-same : checked i s ≡ check.Passed → beyond (cardsOf R i s) (R .span) (endOf R i s) ≡ beyond (cardsOf R i s) (R .span) s
+  -- 2: what the lists held before, and how long they are, plays no part: a second call with equal inputs and a table equally long has the same run
+  pub same-run : (s′ : State C) → checked i s ≡ check.Passed → listsOk i s′ ≡ true → length (s′ .table .keys) ≡ length (s .table .keys) → SameRun R i s s′
   -- 3: whatever is drawn
   pub demand-three : (p : Progress) → simulatedBy R i s .answer ≡ some (answer.Finished p) → DemandThree R i s p (listsOf (simulatedBy R i s .state))
   -- of every accepted call, refused in the run or not: it comes to its end or to a refusal within cards × (span + 1) turns, so its bound never shows

@@ -26,6 +26,7 @@ pub record Accepted {C : Type 0} (i : Inputs) (s : State C) : Type 0 where
   pub span-most : i .config .«learn_span» ≤ 36500
   pub config-ok : configOk (i .config) ≡ true
   pub retention-ok : isFinite (i .retention) ≡ true
+  pub lists-ok : listsOk i s ≡ true
   pub existing-even : length (i .existing) ≡ length (i .existing-counts)
   pub table-even : length (s .table .keys) ≡ length (s .table .intervals)
   pub cards-even : length (s .cards) ≡ length (s .counts)
@@ -98,6 +99,7 @@ accepted i s e =
       span-most = ltb-false 36500 (g .«learn_span») (t .1);
       config-ok = c .0;
       retention-ok = c .1;
+      lists-ok = unnot _ (p₆ .0);
       existing-even = eqb-true n (length (i .existing-counts)) (l₁ .0);
       table-even = eqb-true (length (s .table .keys)) (length (s .table .intervals)) (l₂ .0);
       cards-even = even;

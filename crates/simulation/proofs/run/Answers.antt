@@ -26,7 +26,7 @@ use Rattle.simulation.specs.Demands.{startOf, cardsOf, endOf, turnsOf, D
 use Rattle.simulation.proofs.entry.Accepted.{Accepted, accepted}
 use Rattle.simulation.proofs.run.Suits.{Suits}
 use Rattle.simulation.proofs.run.DemandThree.{has-stopped, stops-so, daily-rules, rows-are}
-use Rattle.simulation.proofs.run.LongerTable.{longer-table}
+use Rattle.simulation.proofs.run.Frame.{longer-table}
 use Rattle.simulation.proofs.Logic.{not-one}
 
 same-finished : (p q : Progress) → some (answer.Finished p) ≡ some (answer.Finished q) → p ≡ q
@@ -98,5 +98,5 @@ module _ {C : Type 0} (R : Rules C) (i : Inputs) (s : State C) where
         demand = daily-rules R i s (accepted i s passed) fit;
         rows = rows-are R i s (accepted i s passed) fit l (el ∙ ap (λ (r : Result C). listsOf (r .state)) (passed-is passed));
         turns-reported = sym (ap (λ (z : Progress). z .turns) (t .1));
-        longer-table = λ s′ longer. longer-table R i s s′ fit passed longer (t .0);
+        longer-table = λ s′ longer. longer-table R i fit s s′ passed longer (t .0);
       }

@@ -1,7 +1,7 @@
 -- Set-up in longer lists, and from lists with other contents: the run's own places come out the same, and the places behind them stay.
---   OwnPlaces         two decks that began from other lists have the same cards so far, each in front of what is left of its lists
---   own-all           so it is when all cards have come
---   set-up-own        so two calls with equal inputs begin alike in their first places, and each with the places behind them as lent
+--   OwnPlaces        two decks that began from other lists have the same cards so far, each in front of what is left of its lists
+--   own-all          so it is when all cards have come
+--   starts-alike     so two calls with equal inputs begin alike in their first places, and each with the places behind them as lent
 use mathlib.Core.Path.{_≡_, refl, sym, ap, _∙_}
 use mathlib.Core.Bool.{Bool, true, false, cond}
 use mathlib.Core.List.{List, [], _∷_, _++_}
@@ -236,36 +236,45 @@ module _ {C : Type 0} (i : Inputs) (s s′ : State C) (ok : Accepted i s) (ok′
         there = ap (λ (z : Deck). dealt s′ (z .queue .len)) (p .there) ∙ q .there;
       }
 
-  -- the state of the run's own places, with an emptied table t
-  abbrev pub ownState : C → Deck → Table → State C
-  ownState none own t = record {
-    cards = own .cards;
-    counts = own .counts;
-    queue = own .queue;
-    days = replicate span (firstDayCounts i);
-    costs = replicate span none;
-    memorized = replicate span 0ᶠ;
-    due = own .due;
-    table = clearIn t;
-    draws = i .seed;
-  }
+-- ---- the state as set up
+-- the run's own places, with an emptied table t
+abbrev pub ownState : {C : Type 0} → C → Inputs → Deck → Table → State C
+ownState none i own t = record {
+  cards = own .cards;
+  counts = own .counts;
+  queue = own .queue;
+  days = replicate (i .config .«learn_span») (firstDayCounts i);
+  costs = replicate (i .config .«learn_span») none;
+  memorized = replicate (i .config .«learn_span») 0ᶠ;
+  due = own .due;
+  table = clearIn t;
+  draws = i .seed;
+}
 
-  pub set-up-here : (none : C) → setUp none i s ≡ extended (ownState none (own-all .own) (s .table)) (beyond (own-all .own .queue .len) span s)
-  unfolding setUp
-  set-up-here none = rw (own-all .here, filled-is (firstDayCounts i) span (s .days) (ok .days-long), filled-is none span (s .costs) (ok .costs-long), filled-is 0ᶠ span (s .memorized) (ok .memorized-long))
+-- two calls begin with the same places, each in front of those that it was lent behind them
+pub record StartsAlike {C : Type 0} (none : C) (i : Inputs) (s s′ : State C) : Type 0 where
+  pub own : Deck
+  pub exact : (t : Table) → Exact (own .queue .len) (i .config .«learn_span») (ownState none i own t)
+  pub here : setUp none i s ≡ extended (ownState none i own (s .table)) (beyond (own .queue .len) (i .config .«learn_span») s)
+  pub there : setUp none i s′ ≡ extended (ownState none i own (s′ .table)) (beyond (own .queue .len) (i .config .«learn_span») s′)
 
-  pub set-up-there : (none : C) → setUp none i s′ ≡ extended (ownState none (own-all .own) (s′ .table)) (beyond (own-all .own .queue .len) span s′)
-  unfolding setUp
-  set-up-there none = rw (own-all .there, filled-is (firstDayCounts i) span (s′ .days) (ok′ .days-long), filled-is none span (s′ .costs) (ok′ .costs-long), filled-is 0ᶠ span (s′ .memorized) (ok′ .memorized-long))
-
-  pub own-exact : (none : C) (t : Table) → Exact (own-all .own .queue .len) span (ownState none (own-all .own) t)
-  own-exact none t = record {
-    cards-are = own-all .exact .cards-are;
-    counts-are = own-all .exact .counts-are;
-    rows-are = own-all .exact .rows-are;
-    days-are = length-replicate span (firstDayCounts i);
-    costs-are = length-replicate span none;
-    memorized-are = length-replicate span 0ᶠ;
-    due-are = own-all .exact .due-are;
-    queued = omega arith;
-  }
+pub starts-alike : {C : Type 0} (none : C) (i : Inputs) (s s′ : State C) → Accepted i s → Accepted i s′ → StartsAlike none i s s′
+unfolding setUp
+starts-alike none i s s′ ok ok′ =
+    let span : ℕ = i .config .«learn_span» in
+    let p = own-all i s s′ ok ok′ in
+    record {
+      own = p .own;
+      exact = λ t. record {
+        cards-are = p .exact .cards-are;
+        counts-are = p .exact .counts-are;
+        rows-are = p .exact .rows-are;
+        days-are = length-replicate span (firstDayCounts i);
+        costs-are = length-replicate span none;
+        memorized-are = length-replicate span 0ᶠ;
+        due-are = p .exact .due-are;
+        queued = omega arith;
+      };
+      here = rw (p .here, filled-is (firstDayCounts i) span (s .days) (ok .days-long), filled-is none span (s .costs) (ok .costs-long), filled-is 0ᶠ span (s .memorized) (ok .memorized-long));
+      there = rw (p .there, filled-is (firstDayCounts i) span (s′ .days) (ok′ .days-long), filled-is none span (s′ .costs) (ok′ .costs-long), filled-is 0ᶠ span (s′ .memorized) (ok′ .memorized-long));
+    }

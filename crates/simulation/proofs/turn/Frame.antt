@@ -79,11 +79,11 @@ module _ (m : Model) (a : List Float) (k : Card) (e : ℕ) where
       go false q = q
 
 module _ {C : Type 0} (R : Rules C) (cards : ℕ) (fine : RunBounds (R .span) cards) (s : State C) (b : Lent C) (good : StateInvariant cards (R .span) (extended s b)) (ex : Exact cards (R .span) s) where
-  abbrev wide : State C
+  abbrev pub wide : State C
   wide = extended s b
 
   -- what the next turn of `wide` is, by that of s
-  abbrev Framed : Next (Turn Drawn) (State C) Stop → Next (Turn Drawn) (State C) Stop → Type 0
+  abbrev pub Framed : Next (Turn Drawn) (State C) Stop → Next (Turn Drawn) (State C) Stop → Type 0
   Framed (takes t s′) y = (y ≡ takes t (extended s′ b)) × Exact cards (R .span) s′
   Framed (stops x) y = y ≡ stops x
 

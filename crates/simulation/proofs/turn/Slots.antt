@@ -1,6 +1,7 @@
 -- What the run asks of a model's slots (`Slots`); that slots of an interval table have it (`table-slots`), and those of a model without one (`plain-slots`).
-use mathlib.Core.Path.{_≡_, refl}
-use mathlib.Core.Bool.{false}
+use mathlib.Core.Path.{_≡_, refl, sym, _∙_}
+use mathlib.Core.Bool.{true, false}
+use native.Mathlib.Omega.{arith}
 use lib.Ieee.{Float}
 use Rattle.cards.specs.declared.SimulatorConfig.{SimulatorConfig}
 use Rattle.cards.specs.Day.{IntervalInRange}
@@ -8,10 +9,10 @@ use Rattle.cards.proofs.Later.{in-range-used}
 use Rattle.events.specs.Scalars.{Scalars}
 use Rattle.intervals.specs.declared.Slot.the-variants as slot
 use Rattle.intervals.specs.Bucket.{stabilityBucket, retentionBucket}
-use Rattle.intervals.specs.Table.{Table}
+use Rattle.intervals.specs.Table.{Table, places}
 use Rattle.intervals.specs.Schedule.{isFull, intervalOf, entered, certifies}
 use Rattle.intervals.proofs.Laws.{Sound, Twin}
-use Rattle.intervals.proofs.Schedule.{interval-all, slot-sound, twin-slot}
+use Rattle.intervals.proofs.Schedule.{interval-all, slot-sound, slot-full-iff, twin-slot}
 use Rattle.simulation.specs.Invariant.{TableInRange}
 use Rattle.simulation.specs.Model.{Model, modelOf}
 
@@ -23,12 +24,18 @@ pub record Slots (m : Model) : Type 0 where
   -- two tables that hold the same give the same, unless the shorter one is full
   pub twins : (t t′ : Table) → Twin t t′ → (x y : Float) → isFull (m .slot t x y) ≡ false
       → (intervalOf (m .slot t x y) ≡ intervalOf (m .slot t′ x y)) × (isFull (m .slot t′ x y) ≡ false) × Twin (entered t (m .slot t x y)) (entered t′ (m .slot t′ x y))
+  -- and where they are equally long, the second is full where the first is
+  pub fulls : (t t′ : Table) → Twin t t′ → places t ≡ places t′ → (x y : Float) → isFull (m .slot t x y) ≡ true → isFull (m .slot t′ x y) ≡ true
 
 module _ (g : SimulatorConfig) (x : Scalars) (fair : (s r : Float) → IntervalInRange (x .interval s r (g .«max_ivl»))) where
   pub table-slots : Slots (modelOf g x)
   table-slots = record {
     fair = λ t h s r. interval-all t (stabilityBucket s) (retentionBucket r) (λ v. certifies (λ d. x .chance d s) s r v (g .«max_ivl»)) (x .interval s r (g .«max_ivl»)) IntervalInRange h (fair s r);
     sound = λ t ok s r. slot-sound t (stabilityBucket s) (retentionBucket r) (λ v. certifies (λ d. x .chance d s) s r v (g .«max_ivl»)) (x .interval s r (g .«max_ivl»)) (in-range-used (x .interval s r (g .«max_ivl»)) (fair s r)) ok;
+    fulls = λ t t′ w p s r e.
+        let a = slot-full-iff t (stabilityBucket s) (retentionBucket r) (λ v. certifies (λ d. x .chance d s) s r v (g .«max_ivl»)) (x .interval s r (g .«max_ivl»)) (w .sound) .0 e in
+        slot-full-iff t′ (stabilityBucket s) (retentionBucket r) (λ v. certifies (λ d. x .chance d s) s r v (g .«max_ivl»)) (x .interval s r (g .«max_ivl»)) (w .sound') .1
+        (sym (w .held (stabilityBucket s) (retentionBucket r)) ∙ a .0, omega (arith, a .1, w .count, p));
     twins = λ t t′ w s r. twin-slot t t′ w (stabilityBucket s) (retentionBucket r) (λ v. certifies (λ d. x .chance d s) s r v (g .«max_ivl»)) (x .interval s r (g .«max_ivl»)) (in-range-used (x .interval s r (g .«max_ivl»)) (fair s r));
   }
 
@@ -37,4 +44,4 @@ module _ (g : SimulatorConfig) (x : Scalars) (fair : (s r : Float) → IntervalI
   untabled = record { chance = modelOf g x .chance; event = modelOf g x .event; ratings = modelOf g x .ratings; slot = λ t s r. slot.Keep (x .interval s r (g .«max_ivl»)) }
 
   pub plain-slots : Slots untabled
-  plain-slots = record { fair = λ t h s r e. fair s r; sound = λ t ok s r. ok; twins = λ t t′ w s r e. (refl, refl, w) }
+  plain-slots = record { fair = λ t h s r e. fair s r; sound = λ t ok s r. ok; twins = λ t t′ w s r e. (refl, refl, w); fulls = λ t t′ w p s r e. e }
