@@ -1,4 +1,12 @@
--- SplitMix64 (Steele, Lea and Flood 2014), and a rating and a recall drawn by one word of it. Definitions only. Assumes nothing.
+-- SplitMix64 (Steele, Lea and Flood 2014), and a rating and a recall drawn by one word of it. Definitions only.
+-- Assumes nothing.
+--     advance s, mix z                    the state of the next draw, and the output of a state
+--     word z          the top 32 bits of an output
+--     DrawRule, splitMix                  a way to draw, and this one
+--     unit w          v, the top 24 bits of a word over 2 ^ 24
+--     sumFrom s ws, choose target s i p ws                      a running sum, and the choice by it
+--     rating ws w     the index that a word chooses among weights
+--     recalled chance w                   whether a word recalls
 use Prim.Native.Nat.{ℕ, suc, _+_, _*_, _/_, _%_, _^_}
 use mathlib.Core.Bool.{Bool, false, cond}
 use mathlib.Core.List.{List, [], _∷_}
@@ -39,8 +47,9 @@ unfoldable pub sumFrom : Float → List Float → Float
 sumFrom s [] = s
 sumFrom s (x ∷ xs) = sumFrom (s +ᶠ x) xs
 
--- The first index whose running sum is above the target, or the last of a positive weight if none is (0 if there is none of those either).
--- i is the index of the first weight left, s the sum before it, and p the last index before i of a positive weight.
+-- The first index whose running sum is above the target, or the last of a positive weight if none is (0 if there is
+-- none of those either). i is the index of the first weight left, s the sum before it, and p the last index before i
+-- of a positive weight.
 unfoldable pub choose : Float → Float → ℕ → ℕ → List Float → ℕ
 choose target s i p [] = p
 choose target s i p (x ∷ xs) = let rest = choose target (s +ᶠ x) (suc i) (cond (lt 0ᶠ x) i p) xs in cond (lt target (s +ᶠ x)) i rest

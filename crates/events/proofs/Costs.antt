@@ -15,8 +15,11 @@ use Rattle.events.specs.declared.Memory.{Memory}
 use Rattle.events.specs.declared.Event.{Event}
 use Rattle.events.specs.declared.Event.the-variants as event
 use Rattle.events.specs.Scalars.{Scalars}
-use Rattle.events.specs.Events.{ofRating, shortStep, shortSteps, memoryOf, chanceOk, chanceOn, pickEvent, learningLimit, firstOf, learning, successRating, success, failedOf, lapse, reviewing, eventAt, eventOf}
-use Rattle.events.specs.Drawn.{Drawn, kindAs, shortRatings, learningRatings, lapseRatings, reviewRatings, ratingsOf, paid, costOf}
+use Rattle.events.specs.Events.{ofRating, shortStep, shortSteps, memoryOf, chanceOk, chanceOn, pickEvent}
+use Rattle.events.specs.Events.{learningLimit, firstOf, learning, successRating, success, failedOf, lapse}
+use Rattle.events.specs.Events.{reviewing, eventAt, eventOf}
+use Rattle.events.specs.Drawn.{Drawn, kindAs, shortRatings, learningRatings, lapseRatings, reviewRatings}
+use Rattle.events.specs.Drawn.{ratingsOf, paid, costOf}
 
 steps-cost : (w : DrawRule) (x : Scalars) (transitions costs : List Float) (limit n : ℕ) (t : ShortTerm)
     → shortSteps w x transitions costs limit n t .cost ≡ paid costs (t .cost) (shortRatings w x transitions costs limit n t)

@@ -1,4 +1,7 @@
 -- One turn of the loop over short-term steps, and that what is kept of the parameters serves as they do.
+--     steps-many, steps-easy              steps that end: enough good ratings, or an easy one
+--     steps-on        one that goes on
+--     kept-is w       THE MODEL KEPT BY VALUE is the model
 use mathlib.Core.Path.{_≡_, refl, sym, ap, _∙_, fun-ext}
 use mathlib.Core.Bool.{Bool, true, false, _||_, cond}
 use mathlib.Core.List.{List}

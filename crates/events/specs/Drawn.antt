@@ -1,4 +1,9 @@
 -- WHAT AN EVENT DRAWS, its ratings in their order, and what they cost. Definitions only.
+--     Drawn           the ratings; kindAs new recalled d: the kind of a turn with them
+--     shortRatings    those of short-term steps
+--     learningRatings, lapseRatings, reviewRatings, ratingsOf   those of a learning, a lapse, a review, an event
+--     paid row sum d  a sum with the cost of each rating added
+--     costOf g kind, costs g              what a turn costs, and the cost rule of a configuration
 use Prim.Native.Nat.{ℕ, zero, suc}
 use mathlib.Core.Bool.{Bool, true, false, _||_, cond}
 use mathlib.Core.List.{List, [], _∷_}

@@ -1,4 +1,15 @@
 -- What a learning and a review do to a card, over any memory model and any way to draw. Definitions only.
+-- Letters: w the way to draw, g the configuration, x the model, k a card, t where the short-term steps have come to.
+--     ratingOf i, recalledRatingOf i      a rating from its weight's index; ofRating row rating: its number in a row
+--     consecutiveAfter n rating           how many good ratings since the last 1
+--     shortStep w x transitions costs t, shortSteps .. limit n t      a short-term step, and up to n of them
+--     memoryOf t cost recalled            what an event leaves
+--     chanceOk chance, chanceOn x k day   refusal 7's test, and the chance on a day
+--     learningLimit g rating              how many good ratings end a learning
+--     learning w g x state                a learning
+--     success w g x k chance state, lapse w g x k chance state        a review, recalled and not
+--     reviewing w g x k chance state      a review, or refusal 7
+--     eventAt w g x k new chance state, eventOf w g x k new day state         an event at a chance, and on a day
 use Prim.Native.Nat.{ℕ, zero, suc, _+_, _-_, min}
 use mathlib.Core.Bool.{Bool, true, false, _&&_, _||_, cond}
 use mathlib.Core.List.{List}

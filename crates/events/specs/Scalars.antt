@@ -1,5 +1,6 @@
--- What a run asks of a memory model, as functions: by their definitions over the parameters, and as they are computed from what is kept of
--- the parameters. `kept-is` says that the two are the same. Definitions only.
+-- What a run asks of a memory model, as functions (`Scalars`): FSRS-7 over its parameters (`plain w`), and as it is
+-- computed from what is kept of them (`kept m`). `kept-is` (proofs/Loops) says that the two are the same. Definitions
+-- only.
 use Prim.Native.Nat.{ℕ}
 use mathlib.Core.List.{List}
 use lib.Ieee.{Float}
@@ -16,7 +17,8 @@ pub record Scalars : Type 0 where
   pub next-difficulty : Float → ℕ → Float
   -- stability after a rating of a short-term step, from stability and difficulty
   pub short-term : Float → Float → ℕ → Float
-  -- after a review's rating of 2 to 4, and after a rating of 1: from stability, difficulty and the chance that there was to recall
+  -- after a review's rating of 2 to 4, and after a rating of 1: from stability, difficulty and the chance that there
+  -- was to recall
   pub after-success : Float → Float → Float → ℕ → Float
   pub after-failure : Float → Float → Float → Float
   -- the chance to recall after so many days, at a stability

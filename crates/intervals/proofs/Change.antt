@@ -1,5 +1,11 @@
--- What entering changes, place by place, and what a search finds afterwards.
--- Assumes nothing.
+-- What entering changes, place by place, and what a search finds afterwards. Assumes nothing.
+--     same-is, same-self                  two keys that are the same
+--     enter-places    entering leaves the length
+--     value-same, free-same, key-same     the place that is entered
+--     value-other, free-other, key-other  any other place
+--     Keeps t t'      two tables as long, of which the second has every used place of the first, with its key
+--     keeps-lookup    then a key that is found is found where it was
+--     takes-lookup    and one that is entered at the free place of its search is found there
 use mathlib.Core.Path.{_≡_, refl, sym, _∙_, ap}
 use mathlib.Core.Bool.{Bool, true, false, _&&_}
 use Prim.Native.Nat.{ℕ, zero, suc, _<_}
@@ -11,7 +17,8 @@ use lib.Ieee.{Float, nan}
 use lib.ListN.{length-set}
 use lib.Seq.{getD-set-same, getD-set-other}
 use Rattle.intervals.specs.declared.Entry.the-variants.{Found, Free}
-use Rattle.intervals.specs.Table.{Table, places, homeOf, nextOf, isFree, sameKey, freeAt, keyAt, valueAt, probe, lookupIn, enterIn}
+use Rattle.intervals.specs.Table.{Table, places, homeOf, nextOf, isFree, sameKey, freeAt, keyAt, valueAt, probe}
+use Rattle.intervals.specs.Table.{lookupIn, enterIn}
 use Rattle.intervals.proofs.Steps.{next-lt, home-lt, step-free, step-here, step-on, step-none}
 use Rattle.intervals.proofs.Probe.{free, here, other, caseOf, at-free, at-full, free-full, true-false}
 

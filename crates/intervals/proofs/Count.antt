@@ -1,5 +1,6 @@
--- How many keys are held goes by what is held alone: two tables that hold the same hold as many, whatever their lengths.
--- Assumes nothing.
+-- How many keys are held goes by what is held alone. Assumes nothing.
+--     same-count t t'                     two tables that hold the same hold as many, whatever their lengths
+--     twin-of t t'    so they are twins, if the second is no shorter
 use mathlib.Core.Path.{_≡_, refl, sym, _∙_, ap}
 use mathlib.Core.Bool.{Bool, true, false, cond}
 use mathlib.Core.Option.{none}
@@ -16,7 +17,8 @@ use Rattle.intervals.specs.declared.Entry.the-variants.{Found, Free, Ful
 use Rattle.intervals.specs.Table.{Table, places, freeAt, valueAt, lookupIn, countTo, heldIn, countIn}
 use Rattle.intervals.proofs.Probe.{true-false, Stands, lookup-at-is}
 use Rattle.intervals.proofs.Change.{same-is, same-self}
-use Rattle.intervals.proofs.Laws.{Sound, Answer, at, room, full, answer, free-none, full-none, stands-held, some-none, count-free, count-used, count-zero, Twin}
+use Rattle.intervals.proofs.Laws.{Sound, Answer, at, room, full, answer, free-none, full-none, stands-held}
+use Rattle.intervals.proofs.Laws.{some-none, count-free, count-used, count-zero, Twin}
 
 -- how many numbers below n pass a test
 count-if : (ℕ → Bool) → ℕ → ℕ

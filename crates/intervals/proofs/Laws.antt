@@ -25,9 +25,12 @@ use Rattle.float32.specs.Float32.{clamp}
 use Rattle.float32.specs.Numbers.{0ᶠ, 1ᶠ}
 use Rattle.intervals.specs.declared.Entry.{Entry}
 use Rattle.intervals.specs.declared.Entry.the-variants.{Found, Free, Full}
-use Rattle.intervals.specs.Table.{Table, places, isFree, sameKey, freeAt, keyAt, valueAt, lookupIn, enterIn, clearIn, heldTo, countTo, heldIn, countIn, answerOf}
-use Rattle.intervals.proofs.Probe.{Case, free, here, other, caseOf, at-free, at-full, true-false, Stands, lookup-at-is, lookup-free-is, lookup-full-is}
-use Rattle.intervals.proofs.Change.{Keeps, same-is, same-self, enter-places, value-same, free-same, key-same, value-other, free-other, key-other, keeps-lookup, takes-lookup}
+use Rattle.intervals.specs.Table.{Table, places, isFree, sameKey, freeAt, keyAt, valueAt, lookupIn, enterIn}
+use Rattle.intervals.specs.Table.{clearIn, heldTo, countTo, heldIn, countIn, answerOf}
+use Rattle.intervals.proofs.Probe.{Case, free, here, other, caseOf, at-free, at-full, true-false, Stands}
+use Rattle.intervals.proofs.Probe.{lookup-at-is, lookup-free-is, lookup-full-is}
+use Rattle.intervals.proofs.Change.{Keeps, same-is, same-self, enter-places, value-same, free-same, key-same}
+use Rattle.intervals.proofs.Change.{value-other, free-other, key-other, keeps-lookup, takes-lookup}
 
 -- a key that stands at a place is found there
 pub record Sound (t : Table) : Type 0 where

@@ -1,4 +1,7 @@
 -- The bit pattern of an i32, as the code finds it: of a negative one by a sum of 64 bits. Assumes nothing.
+--     itself, widened                     an i32 as 32 bits, and as 64
+--     below, above    its pattern by the code's sum, and as it is
+--     bucket-in value step                a bucket is an i32
 use mathlib.Core.Path.{_≡_, refl, _∙_}
 use mathlib.Core.Bool.{true, false}
 use Prim.Native.Nat.{ℕ, suc, _^_, _<_}

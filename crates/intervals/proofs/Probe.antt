@@ -1,5 +1,9 @@
--- What a search finds is there: the key's place, a free place, or every place taken by another key.
--- Assumes nothing.
+-- What a search finds is there: the key's place, a free place, or every place taken by another key. Assumes nothing.
+--     Case t s r p, caseOf                a place is free, the key's, or another key's
+--     at-free, at-full, free-full, true-false                   two answers that are not the same
+--     Stands t s r p  the key stands at the place, which is used
+--     probe-at-is, probe-free-is, probe-full-is                 what a search of m places finds
+--     lookup-at-is, lookup-free-is, lookup-full-is              what the whole search finds
 use mathlib.Core.Path.{_≡_, refl, sym, _∙_}
 use mathlib.Core.Bool.{Bool, true, false}
 use mathlib.Core.Logic.{_⊎_, inl, inr, ⊎-elim}
@@ -10,7 +14,8 @@ use lib.Ieee.{Float}
 use Rattle.intervals.specs.declared.Entry.{Entry}
 use Rattle.intervals.specs.declared.Entry.the-variants.{Found, Free, Full}
 use Rattle.intervals.specs.Table.{Table, places, homeOf, nextOf, freeAt, keyAt, valueAt, probe, lookupIn}
-use Rattle.intervals.proofs.Steps.{home-lt, next-lt, next-wrap, next-on, step-free, step-here, step-on, step-none, lookup-none}
+use Rattle.intervals.proofs.Steps.{home-lt, next-lt, next-wrap, next-on, step-free, step-here, step-on}
+use Rattle.intervals.proofs.Steps.{step-none, lookup-none}
 
 -- what stands at a place, seen from a key
 pub data Case (t : Table) (s r p : ℕ) : Type 0 where

@@ -1,8 +1,17 @@
--- One use of the table for a schedule: what it keeps, when it is refused, and that a longer table makes no difference to it.
+-- One use of the table for a schedule: what it keeps, when it is refused, and that a longer table makes no difference
+-- to it.
 -- Assumes nothing.
+--     held-is, anew-is, new-is, full-is   the slot by what the lookup found
+--     Origin, origin  where a slot's interval comes from
+--     slot-full-iff   there is no slot exactly where the key is not held and as many keys are held as the table is long
+--     slot-sound      a sound table stays sound
+--     interval-all, slot-all              what holds of all intervals held and of the fresh one holds of the slot's, and of all held after it
+--     twin-slot       two tables that hold the same give the same slot but for its place, unless the shorter one is full
+--     range-both, range-fails, slot-full, slot-new, slot-held, slot-anew, not-found, not-entered      what the code finds, test by test
+--     scheduled-used  the fresh interval never marks a free place
 use mathlib.Core.Path.{_≡_, refl, sym, ap, _∙_}
 use mathlib.Core.Bool.{Bool, true, false}
-use mathlib.Core.List.{List, [], _∷_}
+use mathlib.Core.List.{[], _∷_}
 use mathlib.Core.Logic.{_↔_, ⊎-elim}
 use mathlib.Core.Option.{none}
 use Prim.Native.Nat.{ℕ, _<_}
@@ -11,7 +20,7 @@ use native.Mathlib.Omega.{arith}
 use types.Run.{OneOf}
 use denote.Enum.Declared.{tagOf}
 use lib.Ieee.{Float}
-use Rattle.float32.specs.Float32.{max, min}
+use Rattle.float32.specs.Float32.{max}
 use Rattle.float32.specs.Ops.{_+ᶠ_, _-ᶠ_}
 use Rattle.float32.specs.Numbers.{0ᶠ}
 use Rattle.model.specs.Constants.{half}
@@ -24,12 +33,14 @@ use Rattle.intervals.specs.declared.Slot.{Slot}
 use Rattle.intervals.specs.declared.Slot.the-variants as slot
 use Rattle.intervals.specs.Table.{Table, places, isFree, freeAt, valueAt, lookupIn, enterIn, heldIn, countIn}
 use Rattle.intervals.specs.Bucket.{stabilityBucket, retentionBucket}
-use Rattle.intervals.specs.Schedule.{oneAndHalf, margin, isBelow, isNoLess, certifiesOne, certifiesRange, certifies, pickSlot, slotBy, slotIn, slotOf, isFull, intervalOf, entered}
+use Rattle.intervals.specs.Schedule.{margin, isBelow, isNoLess, certifiesRange}
+use Rattle.intervals.specs.Schedule.{certifies, pickSlot, slotBy, slotIn, slotOf, isFull, intervalOf, entered}
 use Rattle.intervals.proofs.Entry as entry-type
 use Rattle.intervals.proofs.Slot as slot-type
 use Rattle.intervals.proofs.Probe.{true-false, lookup-at-is}
 use Rattle.intervals.proofs.Change.{enter-places, value-same, free-other, value-other}
-use Rattle.intervals.proofs.Laws.{clamp-used, Sound, Takes, new, again, takes-within, enter-sound, full-iff, Twin, Match, both-at, both-free, first-full, twin-lookup, twin-enter}
+use Rattle.intervals.proofs.Laws.{clamp-used, Sound, Takes, new, again, takes-within, enter-sound, full-iff}
+use Rattle.intervals.proofs.Laws.{Twin, Match, both-at, both-free, first-full, twin-lookup, twin-enter}
 
 module _ (t : Table) (s r : ℕ) (certified : Float → Bool) (fresh : Float) where
   -- by what the lookup found
@@ -49,7 +60,8 @@ module _ (t : Table) (s r : ℕ) (certified : Float → Bool) (fresh : Float) wh
   unfolding slotIn
   full-is e = rw e
 
-  -- the same the other way: a held interval is certified and stands in the table, a new one is the fresh one at a place that takes the key
+  -- the same the other way: a held interval is certified and stands in the table, a new one is the fresh one at a
+  -- place that takes the key
   pub data Origin : Slot → Type 0 where
     held : (p : ℕ) (v : Float) → lookupIn t s r ≡ entry.Found p v → certified v ≡ true → Origin (slot.Keep v)
     anew : (p : ℕ) → Takes t s r p → Origin (slot.Enter p s r fresh)
@@ -85,7 +97,8 @@ module _ (t : Table) (s r : ℕ) (certified : Float → Bool) (fresh : Float) wh
     pub slot-sound : Sound t → Sound (entered t (slotIn certified fresh t s r))
     slot-sound ok = sound-by ok (slotIn certified fresh t s r) origin
 
-  -- what holds of every interval in the table and of the fresh one holds of the interval given, and of every interval in the table after it
+  -- what holds of every interval in the table and of the fresh one holds of the interval given, and of every interval
+  -- in the table after it
   module _ (P : Float → Type 0) (all : (p : ℕ) → p < places t → freeAt t p ≡ false → P (valueAt t p)) (own : P fresh) where
     interval-by : (x : Slot) → Origin x → isFull x ≡ false → P (intervalOf x)
     interval-by x (held p v e y) f =

@@ -1,5 +1,8 @@
--- One step of the search, and that each place of a search is a place of the table.
--- Assumes nothing.
+-- One step of the search, and that each place of a search is a place of the table. Assumes nothing.
+--     home-lt, next-lt                    places of the table; next-wrap, next-on: the place after the last one, and after another
+--     step-free, step-here, step-on, step-none                  a search of suc m places, by its first one
+--     probe-free, probe-here, probe-on    the same of m, above 0
+--     lookup-none, lookup-probe           the whole search as one of all places
 use mathlib.Core.Path.{_≡_, refl, _∙_, ap}
 use mathlib.Core.Bool.{Bool, true, false}
 use Prim.Native.Nat.{ℕ, zero, suc, _+_, _-_, _<_}

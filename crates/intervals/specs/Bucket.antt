@@ -1,4 +1,7 @@
 -- The two buckets of a key, as the bit patterns of `bucket_index`. Assumes nothing.
+--     pattern z       the bit pattern of an i32
+--     bucketIndex value step              how often the step goes into the value
+--     stabilityBucket stability, retentionBucket retention      the buckets
 use Prim.Native.Nat.{ℕ, suc, _-_, _^_}
 use lib.IntN.{ℤ, pos, negsuc}
 use mathlib.Core.Bool.{false}

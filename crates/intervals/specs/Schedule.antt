@@ -1,5 +1,11 @@
--- `scheduled_interval`: what the table gives under a key, and when a held interval may be used. Of the memory model it takes a curve, the chance of recall after
--- so many days at the card's stability, and a fresh interval. Assumes nothing.
+-- `scheduled_interval`: what the table gives under a key, and when a held interval may be used. Of the memory model
+-- it takes a curve, the chance of recall after so many days at the card's stability, and a fresh interval. Assumes
+-- nothing.
+--     certifies curve stability retention interval most         `certifies_rounded_interval`; certifiesOne, certifiesRange: its two cases
+--     slotIn certified fresh t s r        the slot of a key: kept, to be entered, or none; slotBy: by what the lookup found
+--     isFull x, intervalOf x              whether there is none, and the interval of a slot
+--     entered t x     the table after what the slot asks
+--     slotOf curves stability retention most t                  the slot of a card, by a model's curves
 use mathlib.Core.Bool.{Bool, true, false, cond, _&&_}
 use Prim.Native.Nat.{ℕ}
 use lib.Ieee.{Float, nan, binary32, round, lt, le}
@@ -77,7 +83,8 @@ entered t (slot.Keep v) = t
 entered t (slot.Enter p s r v) = enterIn t p s r v
 entered t slot.Full = t
 
--- `scheduled_interval` with a model's curves: the one of the stability certifies, and the interval that they schedule is the fresh one
+-- `scheduled_interval` with a model's curves: the one of the stability certifies, and the interval that they schedule
+-- is the fresh one
 unfoldable pub slotOf : Model.Curves → Float → Float → Float → Table → Slot
 slotOf curves stability retention most t =
     slotIn (λ held. certifies (λ x. Model.forgettingCurve curves x stability) stability retention held most)

@@ -1,7 +1,15 @@
--- The interval table as lists: where a key is looked for, what a lookup finds, what entering leaves, and the map that the table is:
--- `heldIn`, what is held under a key, which knows nothing of a hash, and `countIn`, how many keys are held.
--- A key is the bit patterns of the two buckets: s of the logarithm of the stability, r of the desired retention.
--- Assumes nothing.
+-- The interval table as lists: where a key is looked for, what a lookup finds, what entering leaves, and the map that
+-- the table is.
+-- A key is the bit patterns of two buckets: s of the logarithm of the stability, r of the desired retention. Assumes
+-- nothing.
+--     Table, table keys intervals         the table of two lists; places t: how many places both lists have
+--     isFree v        whether an interval marks a free place; freeAt t p, keyAt t p s r, valueAt t p: what stands at a place
+--     homeOf n s r    where the search for a key starts; nextOf n p: the place after p, round the end
+--     probe t s r m p, lookupIn t s r     what a search of m places from p finds, and the whole search
+--     enterIn t p s r v                   the table with a key and its interval at a place
+--     clearIn t       the table with every place free
+--     heldIn t s r    what is held under a key: it knows nothing of a hash
+--     countIn t       how many keys are held; answerOf f: what a lookup answers
 use mathlib.Core.Bool.{Bool, true, false, cond, _&&_}
 use mathlib.Core.List.{List, [], _∷_}
 use mathlib.Core.Option.{Option, none, some}

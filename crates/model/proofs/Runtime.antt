@@ -1,7 +1,7 @@
 -- What is kept of the parameters gives what the model's definitions give of them. Assumes nothing.
---   init-stability-is w rating        the stability of a new card
---   curve-is w x                      THE CURVE of a state
---   curves-are w                      the curves of all states, as one function: what the model's other functions take
+--     init-stability-is w rating          the stability of a new card
+--     curve-is w x    THE CURVE of a state
+--     curves-are w    the curves of all states, as one function: what the model's other functions take
 use mathlib.Core.Path.{_≡_, refl, fun-ext}
 use mathlib.Core.Bool.{cond}
 use mathlib.Core.List.{List}
@@ -15,7 +15,8 @@ use Rattle.model.specs.Runtime as Runtime
 
 -- a rating is one of four
 ratings : (w : List Float) (n : ℕ) → 0 < n → n ≤ 4
-    → cond (eqb n 1) (Model.at w 0) (cond (eqb n 2) (Model.at w 1) (cond (eqb n 3) (Model.at w 2) (Model.at w 3))) ≡ Model.at w (n - 1)
+    → cond (eqb n 1) (Model.at w 0) (cond (eqb n 2) (Model.at w 1) (cond (eqb n 3) (Model.at w 2) (Model.at w 3)))
+    ≡ Model.at w (n - 1)
 ratings w zero h k = absurd (no h)
   where
     no : 0 < 0 → ⊥
@@ -39,7 +40,8 @@ unfolding Model.toRating
 rating-le n = omega arith
 
 module _ (w : List Float) where
-  pub init-stability-is : (rating : ℕ) → Runtime.initStability (Runtime.runtimeOf w) rating ≡ Model.initStability w rating
+  pub init-stability-is : (rating : ℕ)
+      → Runtime.initStability (Runtime.runtimeOf w) rating ≡ Model.initStability w rating
   unfolding Runtime.initStability Runtime.runtimeOf Runtime.firstOf Model.initStability
   init-stability-is rating = ratings w (Model.toRating rating) (rating-pos rating) (rating-le rating)
 

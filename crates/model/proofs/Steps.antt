@@ -1,4 +1,7 @@
--- One turn of each of the solvers' loops, counted down. Assumes nothing.
+-- One turn of each of the solver's loops, counted down. Assumes nothing.
+--     newton-on, newton-off, newton-still, newton-end     a finite step, one not finite, one that changes nothing; none left
+--     doubled-on, doubled-off, doubled-end                a doubling, its stop, none left
+--     halved-on, halved-end                               a halving, none left
 use mathlib.Core.Path.{_≡_, refl, ap}
 use mathlib.Core.Bool.{Bool, true, false, cond, _&&_}
 use Prim.Native.Nat.{ℕ, zero, suc, _-_, _≤_, _<_}
@@ -49,7 +52,8 @@ module _ (f : Float → Float) where
   newton-still (suc n) u e = rw (e, newton-still n u e) (either (Float32.isFinite u) u)
 
   module _ (r : Float) where
-    pub doubled-on : (n : ℕ) (h : Float) → 0 < n → (lt r (f h) && lt h sMax) ≡ true → doubled n f r h ≡ doubled (n - 1) f r (Float32.min (h *ᶠ two) sMax)
+    pub doubled-on : (n : ℕ) (h : Float) → 0 < n → (lt r (f h) && lt h sMax) ≡ true
+        → doubled n f r h ≡ doubled (n - 1) f r (Float32.min (h *ᶠ two) sMax)
     unfolding doubled
     doubled-on zero h p e = absurd (no p)
       where
@@ -74,13 +78,16 @@ module _ (f : Float → Float) where
     middle x y = (x +ᶠ y) *ᶠ half
 
     pub halved-on : (n : ℕ) (x y : Float) → 0 < n
-        → halved n f r x y ≡ halved (n - 1) f r (cond (lt r (f (middle x y))) (middle x y) x) (cond (lt r (f (middle x y))) y (middle x y))
+        → (let above = lt r (f (middle x y)) in
+        halved n f r x y ≡ halved (n - 1) f r (cond above (middle x y) x) (cond above y (middle x y)))
     unfolding halved
     halved-on zero x y p = absurd (no p)
       where
         no : 0 < 0 → ⊥
         no p = omega arith
-    halved-on (suc n) x y p = ap (λ (k : ℕ). halved k f r (cond (lt r (f (middle x y))) (middle x y) x) (cond (lt r (f (middle x y))) y (middle x y))) (less-one n)
+    halved-on (suc n) x y p =
+        let above = lt r (f (middle x y)) in
+        ap (λ (k : ℕ). halved k f r (cond above (middle x y) x) (cond above y (middle x y))) (less-one n)
 
     pub halved-end : (n : ℕ) (x y : Float) → n ≤ 0 → halved n f r x y ≡ Float32.clamp (middle x y) 0ᶠ sMax
     unfolding halved

@@ -1,11 +1,12 @@
--- The model's limits and the numbers of its formulas: each is the f32 nearest to the decimal beside it. Definitions only. Assumes nothing.
--- Its limits       sMin, sMax (a stability's, in days); dMin, dMax (a difficulty's); drMin, drMax (a desired retention's)
--- Times            minT
--- Difficulty       initShare, currentShare (mean reversion); againShift
--- Stability        growthShift
--- The curve        decayMin, decayMax, powerShift, factorMost, inner, edge, weightMin
--- The solver       slopeMost, stepMost, tolerance
--- Whole numbers, and a half
+-- The model's limits and the numbers of its formulas: each is the f32 nearest to the decimal beside it. Definitions
+-- only. Assumes nothing.
+--     sMin, sMax, dMin, dMax, drMin, drMax      the ends of a stability in days, a difficulty, a desired retention
+--     minT                                      the shortest time
+--     initShare, currentShare, againShift       difficulty: mean reversion, and the change at rating 1
+--     growthShift                               stability
+--     decayMin, decayMax, powerShift, factorMost, inner, edge, weightMin        the curve
+--     slopeMost, stepMost, tolerance            the solver
+--     half, two, three, five, nine, ten, eleven
 use mathlib.Core.Bool.{false}
 use lib.Ieee.{Float, binary32, round, neg}
 use Rattle.float32.specs.Ops.{_-ᶠ_}
@@ -67,7 +68,7 @@ decayMin = round binary32 false 1 100
 abbrev pub decayMax : Float
 decayMax = round binary32 false 95 100
 
--- 0.3
+-- 0.3, off w33 in the first decay and off w32 in the timescale
 abbrev pub powerShift : Float
 powerShift = round binary32 false 3 10
 

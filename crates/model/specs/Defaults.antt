@@ -1,4 +1,9 @@
--- The tables of the default configuration, from their decimals: each entry is the f32 nearest to it. Definitions only. Assumes nothing.
+-- The tables of the default configuration, from their decimals: each entry is the f32 nearest to it. Definitions
+-- only. Assumes nothing.
+--     over d ns       numerators over one denominator
+--     learningStepTransitions, relearningStepTransitions        by the rating before, three rows of four
+--     stateRatingCosts                    seconds, by learning, review and relearning
+--     firstRatingProb, reviewRatingProb   of the first rating, and of a recall's
 use Prim.Native.Nat.{ℕ}
 use mathlib.Core.List.{List, [], _∷_}
 use mathlib.Core.Bool.{false}

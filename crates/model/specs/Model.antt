@@ -1,5 +1,6 @@
 -- FSRS-7 as model_v7.rs has it, in f32, operation by operation and in its order. Definitions only. Assumes nothing.
--- Letters: w the parameters; x a memory state; s, d, r a stability, a difficulty and a chance of recall; t days; c a curve; u the logarithm of t.
+-- Letters: w the parameters; x a memory state; s, d, r a stability, a difficulty and a chance of recall; t days; c a
+-- curve; u the logarithm of t.
 --
 -- Parameters and ratings
 --   at w i                            parameter i, a NaN past the end
@@ -27,7 +28,8 @@
 --   solved c top r                    by Newton's steps, or by bisection
 --   nextIntervalBisection curves x r, nextIntervalForState curves x r, nextInterval curves s r
 --   scheduled curves s r maxIvl       in whole days, from 1 to maxIvl
--- What needs more than one curve takes `curves`, a curve for each state: `curveOf w`, or those of the runtime (specs/Runtime).
+-- What needs more than one curve takes `curves`, a curve for each state: `curveOf w`, or those of the runtime
+-- (specs/Runtime).
 use Prim.Native.Nat.{ℕ, zero, suc, _+_, _-_, min}
 use mathlib.Core.Bool.{Bool, cond, _&&_}
 use mathlib.Core.List.{List}
@@ -44,7 +46,10 @@ use Rattle.elementary.specs.Pow.{powOf}
 use Rattle.model.specs.declared.parameters.StabilityParameters.{StabilityParameters}
 use Rattle.model.specs.declared.forgetting_curve.MemoryState.{MemoryState}
 use Rattle.model.specs.declared.forgetting_curve.Curve.{Curve}
-use Rattle.model.specs.Constants.{sMin, sMax, dMin, dMax, drMin, drMax, minT, initShare, currentShare, againShift, growthShift, decayMin, decayMax, powerShift, factorMost, inner, edge, weightMin, slopeMost, stepMost, tolerance, half, two, three, five, nine, ten, eleven}
+use Rattle.model.specs.Constants.{sMin, sMax, dMin, dMax, drMin, drMax, minT, initShare, currentShare}
+use Rattle.model.specs.Constants.{againShift, growthShift, decayMin, decayMax, powerShift, factorMost, inner}
+use Rattle.model.specs.Constants.{edge, weightMin, slopeMost, stepMost, tolerance, half, two, three, five, nine}
+use Rattle.model.specs.Constants.{ten, eleven}
 
 -- ---- parameters and ratings
 
@@ -110,7 +115,10 @@ unfoldable pub sinc : StabilityParameters → Float → Float → Float → ℕ 
 sinc p s d r rating =
     let hardPenalty = cond (eqb rating 2) (p .w13) 1ᶠ in
     let easyBonus = cond (eqb rating 4) (p .w14) 1ᶠ in
-    p .growth *ᶠ (eleven -ᶠ d) *ᶠ powOf s (p .decline) *ᶠ (expOf ((1ᶠ -ᶠ r) *ᶠ p .w9) -ᶠ 1ᶠ) *ᶠ hardPenalty *ᶠ easyBonus +ᶠ 1ᶠ
+    p .growth *ᶠ (eleven -ᶠ d) *ᶠ powOf s (p .decline) *ᶠ (expOf ((1ᶠ -ᶠ r) *ᶠ p .w9) -ᶠ 1ᶠ)
+    *ᶠ hardPenalty
+    *ᶠ easyBonus
+    +ᶠ 1ᶠ
 
 unfoldable pub stabilityBy : StabilityParameters → Float → Float → Float → ℕ → Float
 stabilityBy p s d r rating₀ =
@@ -182,14 +190,19 @@ squeezed r = Float32.mulAdd r inner edge
 
 -- the weighted sum of the two powers at a time of at least 0
 unfoldable pub weighted : Curve → Float → Float
-weighted c t = c .weight1 *ᶠ powOf (base (c .factor1) t (c .fast)) (c .decay1) +ᶠ c .weight2 *ᶠ powOf (base (c .rate2) t (c .stability)) (c .decay2)
+weighted c t =
+    c .weight1 *ᶠ powOf (base (c .factor1) t (c .fast)) (c .decay1)
+    +ᶠ c .weight2 *ᶠ powOf (base (c .rate2) t (c .stability)) (c .decay2)
 
 -- the derivatives of the two powers, and their weighted sum
 unfoldable pub dr1 : Curve → Float → Float
-dr1 c t = c .decay1 *ᶠ powOf (base (c .factor1) t (c .fast)) (c .decay1 -ᶠ 1ᶠ) *ᶠ c .factor1 /ᶠ c .fast
+dr1 c t =
+    c .decay1 *ᶠ powOf (base (c .factor1) t (c .fast)) (c .decay1 -ᶠ 1ᶠ) *ᶠ c .factor1 /ᶠ c .fast
 
 unfoldable pub dr2 : Curve → Float → Float
-dr2 c t = c .decay2 *ᶠ powOf (base (c .rate2) t (c .stability)) (c .decay2 -ᶠ 1ᶠ) *ᶠ c .factor2 *ᶠ c .timescale /ᶠ c .stability
+dr2 c t =
+    c .decay2 *ᶠ powOf (base (c .rate2) t (c .stability)) (c .decay2 -ᶠ 1ᶠ) *ᶠ c .factor2 *ᶠ c .timescale
+    /ᶠ c .stability
 
 unfoldable pub weightedSlope : Curve → Float → Float
 weightedSlope c t = c .weight1 *ᶠ dr1 c t +ᶠ c .weight2 *ᶠ dr2 c t
@@ -222,7 +235,8 @@ forgettingCurve curves t s = retention (curves (ofStability s)) t
 
 -- ---- the interval by bisection
 
--- the upper end is doubled while the curve there is above the retention; 16 doublings reach S_MAX from 1 (`doubled-enough`)
+-- the upper end is doubled while the curve there is above the retention; 16 doublings reach S_MAX from 1
+-- (`doubled-enough`)
 unfoldable pub doubled : ℕ → (Float → Float) → Float → Float → Float
 doubled zero curve r high = high
 doubled (suc n) curve r high =
@@ -273,7 +287,8 @@ newton (suc n) step u =
     cond (Float32.isFinite (step u)) rest (step u)
 
 unfoldable pub nearEnough : Curve → Float → Float → Bool
-nearEnough c r interval = Float32.isFinite (retention c interval) && le (Float32.abs (retention c interval -ᶠ r)) tolerance
+nearEnough c r interval =
+    Float32.isFinite (retention c interval) && le (Float32.abs (retention c interval -ᶠ r)) tolerance
 
 -- seven steps, where they stay finite and come near enough; else bisection
 unfoldable pub solved : Curve → Float → Float → Float

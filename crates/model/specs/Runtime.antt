@@ -1,5 +1,7 @@
--- WHAT IS KEPT OF THE PARAMETERS, the Rust's `Fsrs7Runtime`: the numbers that they alone decide, and the curve of a memory state from these.
--- Of `runtimeOf w` each is what specs/Model gives of w (proofs/Runtime: `curve-is`, `init-stability-is`). Definitions only. Assumes nothing.
+-- WHAT IS KEPT OF THE PARAMETERS, the Rust's `Fsrs7Runtime`: the numbers that they alone decide, and the curve of a
+-- memory state from these.
+-- Of `runtimeOf w` each is what specs/Model gives of w (proofs/Runtime: `curve-is`, `init-stability-is`). Definitions
+-- only. Assumes nothing.
 --   firstOf w, difficultyOf w, curveParametersOf w   its parts; the fourth is `setOf w 7` of specs/Model
 --   runtimeOf w                       the whole
 --   initStability m rating            the stability of a new card
@@ -49,14 +51,22 @@ curveParametersOf w =
     }
 
 unfoldable pub runtimeOf : List Float → Fsrs7Runtime
-runtimeOf w = record { first = firstOf w; difficulty = difficultyOf w; stability = setOf w 7; curve = curveParametersOf w }
+runtimeOf w =
+    record {
+      first = firstOf w;
+      difficulty = difficultyOf w;
+      stability = setOf w 7;
+      curve = curveParametersOf w;
+    }
 
 -- ---- from what is kept
 
 unfoldable pub initStability : Fsrs7Runtime → ℕ → Float
 initStability m rating =
     let r = toRating rating in
-    cond (eqb r 1) (m .first .again) (cond (eqb r 2) (m .first .hard) (cond (eqb r 3) (m .first .good) (m .first .easy)))
+    cond (eqb r 1) (m .first .again)
+    (cond (eqb r 2) (m .first .hard)
+    (cond (eqb r 3) (m .first .good) (m .first .easy)))
 
 unfoldable pub decay1 : CurveParameters → Float → Float
 decay1 p fast = decayOf (p .w23 *ᶠ powOf fast (p .power))

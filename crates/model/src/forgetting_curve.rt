@@ -8,7 +8,6 @@ use float32::max;
 use float32::min;
 use float32::mul_add;
 ghost use mathlib.Core.Path.{_≡_};
-ghost use Prim.Native.Nat.{_*_};
 ghost use Rattle.model.specs.Model as Model;
 ghost use Rattle.model.specs.Runtime as Runtime;
 

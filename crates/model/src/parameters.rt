@@ -5,7 +5,6 @@ use elementary::exp_f32;
 use elementary::ln_f32;
 use elementary::powf_f32;
 ghost use mathlib.Core.Path.{_≡_};
-ghost use Prim.Native.Nat.{_*_};
 ghost use Rattle.model.specs.Model as Model;
 ghost use Rattle.model.specs.Runtime as Runtime;
 

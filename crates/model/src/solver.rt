@@ -14,7 +14,6 @@ use float32::min;
 use float32::round;
 use float32::to_bits;
 ghost use mathlib.Core.Path.{_≡_};
-ghost use Prim.Native.Nat.{_*_};
 ghost use mathlib.Core.Bool.{true, cond, _&&_};
 ghost use lib.Ieee.{lt};
 ghost use Rattle.float32.specs.Numbers.{0ᶠ};

@@ -21,7 +21,14 @@ xor-shift-requires-3 c κs = search needs
 
 returns : tie.Need-returns
 unfolding mix
-returns c = rw (c .xor-shift3 .ensures, c .before .wrapping-mul2 .ensures, c .before .before .xor-shift2 .ensures, c .before .before .before .wrapping-mul .ensures, c .before .before .before .before .xor-shift .ensures)
+returns c =
+    rw (
+      c .xor-shift3 .ensures,
+      c .before .wrapping-mul2 .ensures,
+      c .before .before .xor-shift2 .ensures,
+      c .before .before .before .wrapping-mul .ensures,
+      c .before .before .before .before .xor-shift .ensures,
+    )
 
 pub mix-spec : {M : Type 1} → statement M
 mix-spec =

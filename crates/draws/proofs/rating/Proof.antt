@@ -1,4 +1,6 @@
--- `draws::rating` meets its contract. Assumes nothing.
+-- The loop's invariant: the choice among the weights from i on, by the sum and the last positive weight before them,
+-- is the choice among all.
+-- The measure is how many weights are left. Assumes nothing.
 use mathlib.Core.Path.{_≡_, refl, sym, _∙_}
 use Prim.Native.Nat.{_-_, _≤_}
 use native.Mathlib.Omega.{arith}

@@ -1,4 +1,5 @@
--- `draws::total` meets its contract. Assumes nothing.
+-- The loop's invariant: the sum so far with the weights from i on comes to the sum of all. The measure is how many
+-- are left. Assumes nothing.
 use mathlib.Core.Path.{_≡_, refl, sym, _∙_}
 use Prim.Native.Nat.{_-_, _≤_}
 use native.Mathlib.Omega.{arith}

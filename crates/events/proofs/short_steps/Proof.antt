@@ -1,4 +1,5 @@
--- `events::short_steps` meets its contract.
+-- The loop's invariant: the steps that are left come from here to what all five come to from the first. The measure
+-- is how many are left.
 use Prim.Native.Nat.{ℕ, _≤_}
 use native.Mathlib.Omega.{arith}
 use mathlib.Core.Path.{_≡_, refl, sym, ap, _∙_}

@@ -29,10 +29,19 @@ returns c =
     )
 
 returns-2 : tie.Need-returns-2
-returns-2 c = rw (sym (c .before .before .before .before .before .is-finite .ensures) ∙ c .before .before .before .before .if1 .taken, sym (c .before .before .before .is-finite2 .ensures) ∙ c .before .before .if2 .taken, sym (c .before .is-finite3 .ensures) ∙ c .if3 .left)
+returns-2 c =
+    rw (
+      sym (c .before .before .before .before .before .is-finite .ensures) ∙ c .before .before .before .before .if1 .taken,
+      sym (c .before .before .before .is-finite2 .ensures) ∙ c .before .before .if2 .taken,
+      sym (c .before .is-finite3 .ensures) ∙ c .if3 .left,
+    )
 
 returns-3 : tie.Need-returns-3
-returns-3 c = rw (sym (c .before .before .before .is-finite .ensures) ∙ c .before .before .if1 .taken, sym (c .before .is-finite2 .ensures) ∙ c .if2 .left)
+returns-3 c =
+    rw (
+      sym (c .before .before .before .is-finite .ensures) ∙ c .before .before .if1 .taken,
+      sym (c .before .is-finite2 .ensures) ∙ c .if2 .left,
+    )
 
 returns-4 : tie.Need-returns-4
 returns-4 c = rw (sym (c .before .is-finite .ensures) ∙ c .if1 .left)

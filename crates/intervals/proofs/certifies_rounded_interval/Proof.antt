@@ -15,15 +15,31 @@ certifies-range-requires c κs = search needs
 
 returns : tie.Need-returns
 unfolding certifies
-returns c = rw (sym (c .before .before .before .all-finite .ensures) ∙ c .before .before .if1 .taken, c .before .if2 .taken, c .certifies-one .ensures)
+returns c =
+    rw (
+      sym (c .before .before .before .all-finite .ensures) ∙ c .before .before .if1 .taken,
+      c .before .if2 .taken,
+      c .certifies-one .ensures,
+    )
 
 returns-2 : tie.Need-returns-2
 unfolding certifies
-returns-2 c = rw (sym (c .before .before .before .all-finite .ensures) ∙ c .before .before .if1 .taken, c .before .if2 .left, c .if3 .taken)
+returns-2 c =
+    rw (
+      sym (c .before .before .before .all-finite .ensures) ∙ c .before .before .if1 .taken,
+      c .before .if2 .left,
+      c .if3 .taken,
+    )
 
 returns-3 : tie.Need-returns-3
 unfolding certifies
-returns-3 c = rw (sym (c .before .before .before .before .all-finite .ensures) ∙ c .before .before .before .if1 .taken, c .before .before .if2 .left, c .before .if3 .left, c .certifies-range .ensures)
+returns-3 c =
+    rw (
+      sym (c .before .before .before .before .all-finite .ensures) ∙ c .before .before .before .if1 .taken,
+      c .before .before .if2 .left,
+      c .before .if3 .left,
+      c .certifies-range .ensures,
+    )
 
 returns-4 : tie.Need-returns-4
 unfolding certifies

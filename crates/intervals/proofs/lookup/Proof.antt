@@ -1,10 +1,12 @@
--- `intervals::lookup` meets its contract. The loop's invariant: what the search finds from here is what the whole search finds.
+-- `intervals::lookup` meets its contract. The loop's invariant: what the search finds from here is what the whole
+-- search finds.
 -- The measure is how many places are left. Assumes nothing.
 use mathlib.Core.Path.{_≡_, sym, _∙_, ap}
 use Prim.Native.Nat.{ℕ, _≤_, _<_, _-_}
 use native.Mathlib.Omega.{arith}
 use Rattle.intervals.specs.Table.{table, places, homeOf, nextOf, probe, lookupIn}
-use Rattle.intervals.proofs.Steps.{home-lt, next-lt, probe-free, probe-here, probe-on, step-none, lookup-none, lookup-probe}
+use Rattle.intervals.proofs.Steps.{home-lt, next-lt, probe-free, probe-here, probe-on, step-none, lookup-none}
+use Rattle.intervals.proofs.Steps.{lookup-probe}
 use borrow.Author.Needs.{needs}
 use Rattle.intervals.proofs.lookup.Statement.{statement}
 use Rattle.intervals.proofs.lookup.Tie as tie

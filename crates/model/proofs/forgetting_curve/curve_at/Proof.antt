@@ -20,7 +20,14 @@ weight2-requires c κs = search needs
 
 returns : tie.Need-returns
 unfolding curveAt
-returns c = rw (c .before .weight2 .ensures, c .before .before .weight1 .ensures, c .before .before .before .d-timescale .ensures, c .before .before .before .before .factor1 .ensures, c .before .before .before .before .before .decay1 .ensures)
+returns c =
+    rw (
+      c .before .weight2 .ensures,
+      c .before .before .weight1 .ensures,
+      c .before .before .before .d-timescale .ensures,
+      c .before .before .before .before .factor1 .ensures,
+      c .before .before .before .before .before .decay1 .ensures,
+    )
 
 pub curve-at-spec : {M : Type 1} → statement M
 curve-at-spec =

@@ -14,7 +14,12 @@ min-requires c κs = search needs
 
 returns : tie.Need-returns
 unfolding pls
-returns c = rw (c .min .ensures, c .before .exp-f32 .ensures .0, c .before .before .before .before .powf-from-one .ensures)
+returns c =
+    rw (
+      c .min .ensures,
+      c .before .exp-f32 .ensures .0,
+      c .before .before .before .before .powf-from-one .ensures,
+    )
 
 pub pls-spec : {M : Type 1} → statement M
 pls-spec = tie.close (tie.spec powf-from-one-requires exp-f32-requires min-requires returns)

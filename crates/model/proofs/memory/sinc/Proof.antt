@@ -18,7 +18,13 @@ where-rated-requires-2 c κs = search needs
 
 returns : tie.Need-returns
 unfolding sinc ofBits ofFields round
-returns c = rw (c .where-rated2 .ensures, c .before .where-rated .ensures, c .before .before .exp-f32 .ensures .0, c .before .before .before .before .powf-from-one .ensures)
+returns c =
+    rw (
+      c .where-rated2 .ensures,
+      c .before .where-rated .ensures,
+      c .before .before .exp-f32 .ensures .0,
+      c .before .before .before .before .powf-from-one .ensures,
+    )
 
 pub sinc-spec : {M : Type 1} → statement M
 sinc-spec =

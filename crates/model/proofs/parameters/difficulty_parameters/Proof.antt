@@ -18,7 +18,13 @@ init-difficulty-by-requires c κs = search needs
 
 returns : tie.Need-returns
 unfolding difficultyOf initDifficulty
-returns c = rw (c .init-difficulty-by .ensures, c .before .before .before .at .ensures, c .before .before .at2 .ensures, c .before .at3 .ensures)
+returns c =
+    rw (
+      c .init-difficulty-by .ensures,
+      c .before .before .before .at .ensures,
+      c .before .before .at2 .ensures,
+      c .before .at3 .ensures,
+    )
 
 pub difficulty-parameters-spec : {M : Type 1} → statement M
 difficulty-parameters-spec =

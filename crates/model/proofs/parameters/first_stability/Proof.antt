@@ -17,7 +17,13 @@ at-requires-4 c κs = search needs
 
 returns : tie.Need-returns
 unfolding firstOf
-returns c = rw (c .before .before .before .at .ensures, c .before .before .at2 .ensures, c .before .at3 .ensures, c .at4 .ensures)
+returns c =
+    rw (
+      c .before .before .before .at .ensures,
+      c .before .before .at2 .ensures,
+      c .before .at3 .ensures,
+      c .at4 .ensures,
+    )
 
 pub first-stability-spec : {M : Type 1} → statement M
 first-stability-spec =

@@ -22,7 +22,14 @@ returns c = rw (← c .before .clamp .ensures, c .if1 .taken)
 
 returns-2 : tie.Need-returns-2
 unfolding bisected ofBits ofFields round
-returns-2 c = rw (← c .before .before .before .before .clamp .ensures, c .before .before .before .if1 .left, c .halved .ensures, c .before .doubled .ensures, c .before .before .max .ensures)
+returns-2 c =
+    rw (
+      ← c .before .before .before .before .clamp .ensures,
+      c .before .before .before .if1 .left,
+      c .halved .ensures,
+      c .before .doubled .ensures,
+      c .before .before .max .ensures,
+    )
 
 pub bisected-spec : {M : Type 1} → statement M
 bisected-spec =

@@ -1,3 +1,5 @@
+-- The loop's invariant: the doublings that are left come from `high` to what all sixteen come to from the start. The
+-- measure is how many are left. Assumes nothing.
 use mathlib.Core.Path.{_≡_, refl, sym, _∙_}
 use native.Mathlib.Omega.{arith}
 use borrow.Author.Needs.{needs}
@@ -8,7 +10,8 @@ use Rattle.model.proofs.forgetting_curve.Curve.doubled.Statement.{state
 use Rattle.model.proofs.forgetting_curve.Curve.doubled.Tie as tie
 
 abbrev Inv-loop : tie.InvT-loop
-Inv-loop self desired start high₀ left₀ high left = doubled left (retention self) desired high ≡ doubled 16 (retention self) desired start
+Inv-loop self desired start high₀ left₀ high left =
+    doubled left (retention self) desired high ≡ doubled 16 (retention self) desired start
 
 abbrev μ-loop : tie.MeasureT-loop
 μ-loop self desired start high₀ left₀ high left = left
@@ -34,13 +37,26 @@ loop-again c =
     let at-loop = c .before .before .before .before in
     let start = at-loop .before in
     rw (c .min .ensures)
-    (sym (doubled-on (retention (start .args .self)) (start .args .desired) (at-loop .loop .left) (at-loop .loop .high) (omega arith) (sym (c .before .before .stays-above .ensures) ∙ c .before .if1 .taken)) ∙ at-loop .loop .inv)
+    (sym
+    (doubled-on (retention (start .args .self)) (start .args .desired) (at-loop .loop .left) (at-loop .loop .high) (omega arith)
+    (sym (c .before .before .stays-above .ensures) ∙ c .before .if1 .taken))
+    ∙ at-loop .loop .inv)
 
 returns : tie.Need-returns Inv-loop μ-loop
-returns c = sym (doubled-off (retention (c .before .before .before .before .args .self)) (c .before .before .before .before .args .desired) (c .before .before .before .loop .left) (c .before .before .before .loop .high) (sym (c .before .stays-above .ensures) ∙ c .if1 .left)) ∙ c .before .before .before .loop .inv
+returns c =
+    let at-loop = c .before .before .before in
+    let start = at-loop .before in
+    sym
+    (doubled-off (retention (start .args .self)) (start .args .desired) (at-loop .loop .left) (at-loop .loop .high)
+    (sym (c .before .stays-above .ensures) ∙ c .if1 .left))
+    ∙ at-loop .loop .inv
 
 returns-2 : tie.Need-returns-2 Inv-loop μ-loop
-returns-2 c = sym (doubled-end (retention (c .before .before .args .self)) (c .before .before .args .desired) (c .before .loop .left) (c .before .loop .high) (omega arith)) ∙ c .before .loop .inv
+returns-2 c =
+    let at-loop = c .before in
+    let start = at-loop .before in
+    sym (doubled-end (retention (start .args .self)) (start .args .desired) (at-loop .loop .left) (at-loop .loop .high) (omega arith))
+    ∙ at-loop .loop .inv
 
 pub doubled-spec : {M : Type 1} → statement M
 doubled-spec =

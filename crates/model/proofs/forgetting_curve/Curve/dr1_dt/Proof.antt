@@ -11,7 +11,11 @@ powf-from-one-requires c κs = search needs
 
 returns : tie.Need-returns
 unfolding dr1
-returns c = rw (c .before .before .before .powf-from-one .ensures, c .before .before .before .before .before .base .ensures)
+returns c =
+    rw (
+      c .before .before .before .powf-from-one .ensures,
+      c .before .before .before .before .before .base .ensures,
+    )
 
 pub dr1-dt-spec : {M : Type 1} → statement M
 dr1-dt-spec = tie.close (tie.spec base-requires powf-from-one-requires returns)

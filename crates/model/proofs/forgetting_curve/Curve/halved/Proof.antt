@@ -1,3 +1,5 @@
+-- The loop's invariant: the halvings that are left come from `low` and `high` to what all fifty come to from 0 and
+-- the end. The measure is how many are left. Assumes nothing.
 use mathlib.Core.Path.{_≡_, refl, sym, _∙_}
 use native.Mathlib.Omega.{arith}
 use borrow.Author.Needs.{needs}
@@ -9,7 +11,8 @@ use Rattle.model.proofs.forgetting_curve.Curve.halved.Statement.{statem
 use Rattle.model.proofs.forgetting_curve.Curve.halved.Tie as tie
 
 abbrev Inv-loop : tie.InvT-loop
-Inv-loop self desired end low₀ high₀ left₀ low high left = halved left (retention self) desired low high ≡ halved 50 (retention self) desired 0ᶠ end
+Inv-loop self desired end low₀ high₀ left₀ low high left =
+    halved left (retention self) desired low high ≡ halved 50 (retention self) desired 0ᶠ end
 
 abbrev μ-loop : tie.MeasureT-loop
 μ-loop self desired end low₀ high₀ left₀ low high left = left
@@ -38,14 +41,24 @@ loop-again c =
     let at-loop = c .before .before .before .before in
     let start = at-loop .before in
     rw (c .before .choose .ensures, c .choose2 .ensures, c .before .before .retention .ensures)
-    (sym (halved-on (retention (start .args .self)) (start .args .desired) (at-loop .loop .left) (at-loop .loop .low) (at-loop .loop .high) (omega arith)) ∙ at-loop .loop .inv)
+    (sym
+    (halved-on (retention (start .args .self)) (start .args .desired) (at-loop .loop .left) (at-loop .loop .low) (at-loop .loop .high)
+    (omega arith))
+    ∙ at-loop .loop .inv)
 
 clamp-requires : tie.Need-clamp-requires Inv-loop μ-loop
 clamp-requires c κs = search needs
 
 returns : tie.Need-returns Inv-loop μ-loop
 unfolding ofBits ofFields round
-returns c = c .clamp .ensures ∙ sym (halved-end (retention (c .before .before .before .args .self)) (c .before .before .before .args .desired) (c .before .before .loop .left) (c .before .before .loop .low) (c .before .before .loop .high) (omega arith)) ∙ c .before .before .loop .inv
+returns c =
+    let at-loop = c .before .before in
+    let start = at-loop .before in
+    c .clamp .ensures
+    ∙ sym
+    (halved-end (retention (start .args .self)) (start .args .desired) (at-loop .loop .left) (at-loop .loop .low) (at-loop .loop .high)
+    (omega arith))
+    ∙ at-loop .loop .inv
 
 pub halved-spec : {M : Type 1} → statement M
 halved-spec =

@@ -15,7 +15,13 @@ abs-requires c κs = search needs
 
 returns : tie.Need-returns
 unfolding nearEnough ofBits ofFields round
-returns c = rw (← c .before .before .before .retention .ensures, ← c .before .before .is-finite .ensures, c .before .if1 .taken, ← c .abs .ensures)
+returns c =
+    rw (
+      ← c .before .before .before .retention .ensures,
+      ← c .before .before .is-finite .ensures,
+      c .before .if1 .taken,
+      ← c .abs .ensures,
+    )
 
 returns-2 : tie.Need-returns-2
 unfolding nearEnough

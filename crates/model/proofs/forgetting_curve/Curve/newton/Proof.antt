@@ -1,3 +1,6 @@
+-- The loop's invariant: the steps that are left come from u to what all seven come to from the start. A step that is
+-- not finite ends them by their definition, and one that changes nothing is what every later one would give. The
+-- measure is how many are left. Assumes nothing.
 use mathlib.Core.Path.{_≡_, refl, sym, ap, _∙_}
 use mathlib.Core.Bool.{Bool}
 use Prim.Native.Nat.{ℕ, _-_}
@@ -11,7 +14,8 @@ use Rattle.model.proofs.forgetting_curve.Curve.newton.Statement.{statem
 use Rattle.model.proofs.forgetting_curve.Curve.newton.Tie as tie
 
 abbrev Inv-loop : tie.InvT-loop
-Inv-loop self desired start least most u₀ left₀ u left = newton left (newtonStep self desired) u ≡ newton 7 (newtonStep self desired) start
+Inv-loop self desired start least most u₀ left₀ u left =
+    newton left (newtonStep self desired) u ≡ newton 7 (newtonStep self desired) start
 
 abbrev μ-loop : tie.MeasureT-loop
 μ-loop self desired start least most u₀ left₀ u left = left
@@ -19,7 +23,7 @@ abbrev μ-loop : tie.MeasureT-loop
 -- a turn, once its step is made
 module _ (c : tie.After-newton-step Inv-loop μ-loop) where
   abbrev step : Float → Float
-  step = newtonStep (c .before .before .before .before .before .args .self) (c .before .before .before .before .before .args .desired)
+  step = let start = c .before .before .before .before .before in newtonStep (start .args .self) (start .args .desired)
 
   abbrev u : Float
   u = c .before .before .loop .u
@@ -29,7 +33,11 @@ module _ (c : tie.After-newton-step Inv-loop μ-loop) where
 
   step-is : c .newton-step .result ≡ step u
   unfolding newtonStep ofBits ofFields round
-  step-is = rw (← c .before .before .before .before .ln-f32 .ensures .0, ← c .before .before .before .ln-f322 .ensures .0) (c .newton-step .ensures)
+  step-is =
+      rw (
+        ← c .before .before .before .before .ln-f32 .ensures .0,
+        ← c .before .before .before .ln-f322 .ensures .0,
+      ) (c .newton-step .ensures)
 
   finite-is : (b r : Bool) → b ≡ isFinite (c .newton-step .result) → b ≡ r → isFinite (step u) ≡ r
   finite-is b r e h = ap isFinite (sym step-is) ∙ sym e ∙ h
@@ -65,14 +73,22 @@ loop-less c = search needs
 
 loop-again : tie.Need-loop-again Inv-loop μ-loop
 loop-again c = let s = c .before .before .before .before in
-    ap (newton (left s - 1) (step s)) (step-is s) ∙ sym (newton-on (step s) (left s) (u s) (omega arith) (finite-is s _ _ (c .before .is-finite .ensures) (c .if2 .taken))) ∙ s .before .before .loop .inv
+    ap (newton (left s - 1) (step s)) (step-is s)
+    ∙ sym (newton-on (step s) (left s) (u s) (omega arith) (finite-is s _ _ (c .before .is-finite .ensures) (c .if2 .taken)))
+    ∙ s .before .before .loop .inv
 
 returns-2 : tie.Need-returns-2 Inv-loop μ-loop
 returns-2 c = let s = c .before .before .before .before in
-    step-is s ∙ sym (newton-off (step s) (left s) (u s) (omega arith) (finite-is s _ _ (c .before .is-finite .ensures) (c .if2 .left))) ∙ s .before .before .loop .inv
+    step-is s
+    ∙ sym (newton-off (step s) (left s) (u s) (omega arith) (finite-is s _ _ (c .before .is-finite .ensures) (c .if2 .left)))
+    ∙ s .before .before .loop .inv
 
 returns-3 : tie.Need-returns-3 Inv-loop μ-loop
-returns-3 c = sym (newton-end (newtonStep (c .before .before .before .before .args .self) (c .before .before .before .before .args .desired)) (c .before .loop .left) (c .before .loop .u) (omega arith)) ∙ c .before .loop .inv
+returns-3 c =
+    let at-loop = c .before in
+    let start = at-loop .before .before .before in
+    sym (newton-end (newtonStep (start .args .self) (start .args .desired)) (at-loop .loop .left) (at-loop .loop .u) (omega arith))
+    ∙ at-loop .loop .inv
 
 pub newton-spec : {M : Type 1} → statement M
 newton-spec =

@@ -30,8 +30,18 @@ returns c =
     let at-dr1-dt = at-dr2-dt .before .before in
     let at-weight-sum = at-dr1-dt .before in
     let at-max = at-weight-sum .before in (
-      rw (c .squeezed .ensures, at-weighted .weighted .ensures, at-weight-sum .weight-sum .ensures, at-max .max .ensures),
-      rw (at-dr2-dt .dr2-dt .ensures, at-dr1-dt .dr1-dt .ensures, at-weight-sum .weight-sum .ensures, at-max .max .ensures),
+      rw (
+        c .squeezed .ensures,
+        at-weighted .weighted .ensures,
+        at-weight-sum .weight-sum .ensures,
+        at-max .max .ensures,
+      ),
+      rw (
+        at-dr2-dt .dr2-dt .ensures,
+        at-dr1-dt .dr1-dt .ensures,
+        at-weight-sum .weight-sum .ensures,
+        at-max .max .ensures,
+      ),
     )
 
 pub retention-and-derivative-spec : {M : Type 1} → statement M

@@ -17,7 +17,13 @@ powf-from-one-requires-2 c κs = search needs
 
 returns : tie.Need-returns
 unfolding weighted
-returns c = rw (c .before .powf-from-one2 .ensures, c .before .before .base2 .ensures, c .before .before .before .before .powf-from-one .ensures, c .before .before .before .before .before .base .ensures)
+returns c =
+    rw (
+      c .before .powf-from-one2 .ensures,
+      c .before .before .base2 .ensures,
+      c .before .before .before .before .powf-from-one .ensures,
+      c .before .before .before .before .before .base .ensures,
+    )
 
 pub weighted-spec : {M : Type 1} → statement M
 weighted-spec =

@@ -18,7 +18,13 @@ curve-at-requires c κs = search needs
 
 returns : tie.Need-returns
 unfolding curveOf ofBits ofFields round
-returns c = rw (c .curve-at .ensures, c .before .max2 .ensures, c .before .before .clamp .ensures, c .before .before .before .max .ensures)
+returns c =
+    rw (
+      c .curve-at .ensures,
+      c .before .max2 .ensures,
+      c .before .before .clamp .ensures,
+      c .before .before .before .max .ensures,
+    )
 
 pub curve-for-state-spec : {M : Type 1} → statement M
 curve-for-state-spec =

@@ -17,7 +17,13 @@ curve-parameters-requires c κs = search needs
 
 returns : tie.Need-returns
 unfolding runtimeOf
-returns c = rw (c .before .before .before .first-stability .ensures, c .before .before .difficulty-parameters .ensures, c .before .stability-parameters .ensures, c .curve-parameters .ensures)
+returns c =
+    rw (
+      c .before .before .before .first-stability .ensures,
+      c .before .before .difficulty-parameters .ensures,
+      c .before .stability-parameters .ensures,
+      c .curve-parameters .ensures,
+    )
 
 pub new-spec : {M : Type 1} → statement M
 new-spec =

@@ -21,7 +21,14 @@ clamp-requires c κs = search needs
 
 returns : tie.Need-returns
 unfolding nextDifficultyBy ofBits ofFields round
-returns c = rw (c .clamp .ensures, c .before .mean-reversion .ensures, c .before .before .linear-damping .ensures, c .before .before .before .delta-d .ensures, c .before .before .before .before .to-rating .ensures)
+returns c =
+    rw (
+      c .clamp .ensures,
+      c .before .mean-reversion .ensures,
+      c .before .before .linear-damping .ensures,
+      c .before .before .before .delta-d .ensures,
+      c .before .before .before .before .to-rating .ensures,
+    )
 
 pub next-difficulty-spec : {M : Type 1} → statement M
 next-difficulty-spec =

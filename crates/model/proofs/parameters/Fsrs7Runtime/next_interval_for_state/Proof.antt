@@ -25,7 +25,15 @@ returns c = rw (← c .before .clamp .ensures, c .if1 .taken)
 
 returns-2 : tie.Need-returns-2
 unfolding nextIntervalForState ofBits ofFields round
-returns-2 c = rw (← c .before .before .before .before .before .clamp .ensures, c .before .before .before .before .if1 .left, c .solved .ensures, c .before .max .ensures, c .before .before .curve-for-state .ensures, c .before .before .before .within-limits .ensures)
+returns-2 c =
+    rw (
+      ← c .before .before .before .before .before .clamp .ensures,
+      c .before .before .before .before .if1 .left,
+      c .solved .ensures,
+      c .before .max .ensures,
+      c .before .before .curve-for-state .ensures,
+      c .before .before .before .within-limits .ensures,
+    )
 
 pub next-interval-for-state-spec : {M : Type 1} → statement M
 next-interval-for-state-spec =
