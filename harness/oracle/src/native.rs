@@ -36,15 +36,20 @@ pub fn recalled(chance: f32, word: u32) -> bool {
     unit(word) < chance
 }
 
+/// The next word of a state.
+pub fn word(state: &mut u64) -> u32 {
+    *state = advance(*state);
+    (mix(*state) >> 32) as u32
+}
+
 impl StdRng {
     pub fn seed_from_u64(seed: u64) -> StdRng {
         StdRng { state: seed, count: 0 }
     }
 
     pub fn word(&mut self) -> u32 {
-        self.state = advance(self.state);
         self.count += 1;
-        (mix(self.state) >> 32) as u32
+        word(&mut self.state)
     }
 
     pub fn random_bool(&mut self, chance: f64) -> bool {
