@@ -6,6 +6,7 @@ use crate::lent::Call;
 use crate::reference;
 use crate::runs::{Difference, Port, Tally, compare, port, report};
 use crate::spoils::{lengths, pairs};
+use oracle::drawn::{self, OWN, PORTS};
 
 /// The usual rate with the cards of a first month as existing ones.
 fn usual_with_cards() -> Call {
@@ -51,9 +52,14 @@ pub fn pass(port: Port, calls: &[Call]) -> Result<Tally, Box<Difference>> {
     Ok(tally)
 }
 
+/// Once with the Rust drawing by the port's functions, once by the harness's own rule.
 pub fn main() {
-    match pass(&port, &calls()) {
-        Ok(tally) => println!("edges: {}", tally.told()),
-        Err(d) => report(&d),
+    let calls = calls();
+    for (rule, name) in [(OWN, "the harness's own rule"), (PORTS, "the port's functions")] {
+        drawn::go_by(rule);
+        match pass(&port, &calls) {
+            Ok(tally) => println!("edges, draws by {name}: {}", tally.told()),
+            Err(d) => report(&d),
+        }
     }
 }

@@ -156,18 +156,34 @@ fn near_the_top(limit: &mut u32) {
 /// Rules that are nearly right.
 fn nearly() -> Vec<Named> {
     vec![
-        before("a table a place shorter", |call| {
-            call.lengths.keys = call.lengths.keys.saturating_sub(1);
-            call.lengths.intervals = call.lengths.keys;
+        before("full with a place left", |call| {
+            if call.made == "as long as its keys" && call.lengths.keys > 0 {
+                call.lengths.keys -= 1;
+                call.lengths.intervals -= 1;
+            }
+        }),
+        before("not full with no place left", |call| {
+            if call.made == "a place less than its keys" {
+                call.lengths.keys += 1;
+                call.lengths.intervals += 1;
+            }
         }),
         before("learn limits next to the top taken as 0", |call| near_the_top(&mut call.case.learn_limit)),
         before("review limits next to the top taken as 0", |call| near_the_top(&mut call.case.review_limit)),
         before("lapse limits next to the top taken as 0", |call| near_the_top(&mut call.case.suspend_after_lapses)),
         before("first weights with a total of 2^-126 or less brought up", |call| brought_up(&mut call.case.first_rating_prob)),
         before("review weights with a total of 2^-126 or less brought up", |call| brought_up(&mut call.case.review_rating_prob)),
+        before("rows of transitions with a total of 2^-126 or less brought up", |call| {
+            let c = &mut call.case;
+            c.learning_step_transitions.chunks_mut(4).chain(c.relearning_step_transitions.chunks_mut(4)).for_each(brought_up)
+        }),
         refuses("a weight of -0.0 refused", 4, |call| has_minus_zero(&call.case.first_rating_prob)),
         refuses("a cost of -0.0 refused", 4, |call| has_minus_zero(&call.case.state_rating_costs)),
-        before("a day stops at a cost equal to the maximum", |call| call.case.max_cost_perday = call.case.max_cost_perday.next_down()),
+        before("a day stops at a cost equal to the maximum", |call| {
+            if call.case.max_cost_perday >= 1.0 {
+                call.case.max_cost_perday = call.case.max_cost_perday.next_down()
+            }
+        }),
         before("the longest interval in whole days", |call| call.case.max_ivl = call.case.max_ivl.floor()),
         before("retentions of cards kept within 0 to 1", |call| {
             call.case.existing.iter_mut().filter(|(row, _)| row[5].abs() > 2.0).for_each(|(row, _)| row[5] = row[5].clamp(0.0, 1.0))

@@ -1,6 +1,8 @@
 //! The draws of `ours`, by a rule that can be set: the port's C functions, or the same rule in Rust.
-use crate::native;
+use crate::native::{self, Draws};
 use std::cell::Cell;
+
+pub use crate::native::WeightedIndex;
 
 unsafe extern "C" {
     fn drill_next(state: *mut u64) -> u64;
@@ -60,17 +62,9 @@ impl StdRng {
     }
 }
 
-pub struct WeightedIndex {
-    weights: Vec<f32>,
-}
-
-impl WeightedIndex {
-    pub fn new(weights: impl AsRef<[f32]>) -> Result<WeightedIndex, ()> {
-        Ok(WeightedIndex { weights: weights.as_ref().to_vec() })
-    }
-
-    pub fn sample(&self, rng: &mut StdRng) -> usize {
-        let word = rng.word();
-        (RULE.get().rating)(&self.weights, word)
+impl Draws for StdRng {
+    fn rating(&mut self, weights: &[f32]) -> usize {
+        let word = self.word();
+        (RULE.get().rating)(weights, word)
     }
 }

@@ -58,6 +58,17 @@ impl StdRng {
     }
 }
 
+/// What a `WeightedIndex` asks of a generator.
+pub trait Draws {
+    fn rating(&mut self, weights: &[f32]) -> usize;
+}
+
+impl Draws for StdRng {
+    fn rating(&mut self, weights: &[f32]) -> usize {
+        rating(weights, self.word())
+    }
+}
+
 pub struct WeightedIndex {
     weights: Vec<f32>,
 }
@@ -67,7 +78,7 @@ impl WeightedIndex {
         Ok(WeightedIndex { weights: weights.as_ref().to_vec() })
     }
 
-    pub fn sample(&self, rng: &mut StdRng) -> usize {
-        rating(&self.weights, rng.word())
+    pub fn sample(&self, rng: &mut impl Draws) -> usize {
+        rng.rating(&self.weights)
     }
 }
