@@ -36,12 +36,8 @@ fn longest_span() -> Vec<Call> {
 }
 
 pub fn calls() -> Vec<Call> {
-    let mut all = vec![Call::exact("the usual rate", usual(4000, 365)), usual_with_cards()];
-    all.extend(largest_deck());
-    all.extend(longest_span());
-    all.extend(lengths());
-    all.extend(pairs());
-    all
+    let usual_rate = vec![Call::exact("the usual rate", usual(4000, 365)), usual_with_cards()];
+    [lengths(), pairs(), usual_rate, largest_deck(), longest_span()].concat()
 }
 
 pub fn pass(port: Port, calls: &[Call]) -> Result<Tally, Box<Difference>> {

@@ -4,13 +4,15 @@
 use crate::edges;
 use crate::leaf;
 use crate::lent::{Call, Lengths, Lists, MARK};
+use crate::reference;
 use crate::rules::faults;
-use crate::runs::{port, varied};
-use oracle::drawn::{OWN, PORTS, Rule};
+use crate::runs::{Port, port, varied};
+use crate::stored_runs;
+use oracle::drawn::{self, OWN, PORTS, Rule};
 use oracle::native;
 
-type Wrong = Box<dyn Fn(&Call, &mut Lists) -> [u64; 5]>;
-type Named = (String, Wrong);
+pub type Wrong = Box<dyn Fn(&Call, &mut Lists) -> [u64; 5]>;
+pub type Named = (String, Wrong);
 
 fn named(name: &str, wrong: impl Fn(&Call, &mut Lists) -> [u64; 5] + 'static) -> Named {
     (name.to_string(), Box::new(wrong))
@@ -51,17 +53,12 @@ fn flip(x: &mut f32) {
     *x = f32::from_bits(x.to_bits() ^ 1);
 }
 
-/// One bit of the answer or of a place of each list.
+/// One bit of the answer or of a place of each list that a stored run tells.
 fn bits() -> Vec<Named> {
     let mut all: Vec<Named> = (0..5).map(|i| after(&format!("number {i} of the answer"), move |_, _, answer| answer[i] ^= 1)).collect();
     all.extend([
         after("a card's column", |_, lists, _| lists.cards.places_mut().iter_mut().take(1).for_each(|row| flip(&mut row[4]))),
         after("lapses", |_, lists, answer| lists.counts.places_mut().iter_mut().take(answer[3] as usize).for_each(|row| row[1] ^= 1)),
-        after("a queued card", |_, lists, answer| {
-            if answer[0] != 0 {
-                lists.queue.places_mut()[0][1] ^= 1
-            }
-        }),
         after("introduced on the last day", |call, lists, _| lists.days.places_mut()[call.case.learn_span as usize - 1][3] ^= 1),
         after("a cost", |_, lists, _| flip(&mut lists.sums.places_mut()[0][0])),
         after("memorized", |_, lists, _| flip(&mut lists.sums.places_mut()[0][1])),
@@ -70,6 +67,18 @@ fn bits() -> Vec<Named> {
             lists.due.places_mut()[span + span / 2 - 1] ^= 1
         }),
         after("an interval held", |_, lists, _| lists.intervals.places_mut().iter_mut().filter(|v| **v >= 1.0).take(1).for_each(flip)),
+    ]);
+    all
+}
+
+/// The queue, guard places, and places beyond those that a run needs.
+fn beyond() -> Vec<Named> {
+    vec![
+        after("a queued card", |_, lists, answer| {
+            if answer[0] != 0 {
+                lists.queue.places_mut()[0][1] ^= 1
+            }
+        }),
         after("the guard place before the cards", |_, lists, _| lists.cards.guards_mut()[0][5] = 0.0),
         after("the guard place before the due counts", |_, lists, _| *lists.due.guards_mut()[0] = 0),
         after("the guard place after the intervals", |_, lists, _| *lists.intervals.guards_mut()[1] = 0.0),
@@ -79,8 +88,7 @@ fn bits() -> Vec<Named> {
         after("a card's place beyond the run's cards", |_, lists, answer| {
             lists.cards.places_mut().iter_mut().skip(answer[3] as usize).for_each(|row| row[0] = 0.0)
         }),
-    ]);
-    all
+    ]
 }
 
 /// A list written at an entry's refusal.
@@ -290,27 +298,61 @@ fn leaves() -> u64 {
     all.len() as u64
 }
 
+/// A call with what the Rust prints of it.
+pub type Stored = (Call, String);
+
+pub fn with_text(call: Call) -> Stored {
+    let text = stored_runs::text(&call, &reference::result(&call));
+    (call, text)
+}
+
+/// Whether a port prints something else than is stored, in one of the stored runs.
+pub fn seen_in_stored(port: Port, stored: &[Stored]) -> bool {
+    stored.iter().any(|(call, text)| {
+        let mut lists = Lists::of(call);
+        let answer = port(call, &mut lists);
+        *text != stored_runs::text(call, &lists.result(call, answer, 0))
+    })
+}
+
+fn seen_by_chance(port: Port, rule: Rule, n: u64) -> bool {
+    let seen = varied(port, [PORTS, rule], n, 1).is_err();
+    drawn::go_by(PORTS);
+    seen
+}
+
+/// The wrong ports that the stored runs must show.
+pub fn in_stored() -> Vec<Named> {
+    [bits(), nearly(), untested()].into_iter().flatten().collect()
+}
+
+/// The right port, by the same means, is not seen.
+fn control(n: u64, calls: &[Call], stored: &[Stored]) {
+    if seen_by_chance(&port, OWN, n) || edges::pass(&port, calls).is_err() || seen_in_stored(&port, stored) {
+        println!("planted: a difference without a wrong port");
+        std::process::exit(1)
+    }
+}
+
+/// Counts those that are seen; there must be no other.
+fn each_seen(all: Vec<Named>, seen: impl Fn(Port) -> bool) -> u64 {
+    if let Some((name, _)) = all.iter().find(|(_, wrong)| !seen(wrong)) {
+        not_seen(name);
+    }
+    all.len() as u64
+}
+
 pub fn main(n: u64) {
-    let mut seen = leaves();
-    let found_by_chance = [bits(), vec![writes_at_refusal()], reached(), nearly()].into_iter().flatten();
-    for (name, wrong) in found_by_chance {
-        if varied(&wrong, [PORTS, OWN], n, 1).is_ok() {
-            not_seen(&name);
-        }
-        seen += 1;
-    }
-    for (name, rule) in rules() {
-        if varied(&port, [PORTS, rule], n, 1).is_ok() {
-            not_seen(name);
-        }
-        seen += 1;
-    }
     let calls = edges::calls();
-    for (name, wrong) in [orders(), untested(), large()].into_iter().flatten() {
-        if edges::pass(&wrong, &calls).is_ok() {
-            not_seen(&name);
-        }
-        seen += 1;
+    let stored: Vec<Stored> = stored_runs::calls().into_iter().map(|(call, _)| with_text(call)).collect();
+    control(n, &calls, &stored);
+    let by_chance = [bits(), beyond(), vec![writes_at_refusal()], reached(), nearly()].into_iter().flatten().collect();
+    let mut seen = leaves() + each_seen(by_chance, |wrong| seen_by_chance(wrong, OWN, n));
+    for (name, rule) in rules() {
+        seen += u64::from(seen_by_chance(&port, rule, n) || not_seen(name));
     }
-    println!("planted: {seen} wrong ports, rules and functions, each seen (at most {n} calls each)");
+    let by_edges = [orders(), untested(), large()].into_iter().flatten().collect();
+    seen += each_seen(by_edges, |wrong| edges::pass(wrong, &calls).is_err());
+    let again = each_seen(in_stored(), |wrong| seen_in_stored(wrong, &stored));
+    println!("planted: {seen} wrong ports, rules and functions, each seen in at most {n} calls; {again} of them in the stored runs too");
 }

@@ -1,14 +1,15 @@
 //! The reference's whole runs for the program `replay`: lines that tell a run's inputs, where they change, and what is printed of it,
 //! the answer, the rows of its days, and digests of its lists over every place that the program has.
-use crate::calls::chained;
 use crate::cases::{self, usual};
 use crate::floats::pattern;
 use crate::generate::Words;
 use crate::lent::{Call, Lengths};
+use crate::planted::{Named, Stored, in_stored, seen_in_stored, with_text};
 use crate::reference;
 use crate::result::Result;
 use crate::spoils::{FAULTS, lengths};
 use crate::stored::Sample;
+use oracle::case::Case;
 use oracle::native;
 
 /// The lengths of the program's lists, and what stands in each place before a run.
@@ -109,47 +110,32 @@ fn of_table(call: &Call, r: &Result) -> u32 {
     r.table.iter().fold(before, |sum, (k, v)| sum.wrapping_add(entered(*k, *v)))
 }
 
-fn print(s: &mut Sample, call: &Call, r: &Result) {
-    s.answer(&format!("run {:08x} {:08x} {:08x} {:08x} {:016x}", r.number, r.second, r.turns, r.cards, r.draws));
+/// What the program prints of a run.
+pub fn text(call: &Call, r: &Result) -> String {
+    let mut all = format!("run {:08x} {:08x} {:08x} {:08x} {:016x}\n", r.number, r.second, r.turns, r.cards, r.draws);
     for (d, n) in r.days.iter().enumerate() {
         let (cost, held) = (r.costs[d], r.memorized[d]);
-        s.answer(&format!("{:08x} {:08x} {:08x} {:08x} {cost:08x} {held:08x}", n[0], n[1], n[2], n[3]));
+        all += &format!("{:08x} {:08x} {:08x} {:08x} {cost:08x} {held:08x}\n", n[0], n[1], n[2], n[3]);
     }
-    s.answer(&format!("digests {:08x} {:08x} {:08x} {:08x}", of_cards(r), of_days(r), of_due(r), of_table(call, r)));
+    all + &format!("digests {:08x} {:08x} {:08x} {:08x}", of_cards(r), of_days(r), of_due(r), of_table(call, r))
 }
 
-/// The lines of a call, and its result; the program keeps the cards where another run follows from them.
-fn put_call(s: &mut Sample, told: &mut Told, call: &Call, keep: bool) -> Result {
-    let r = reference::result(call);
-    told.tell_call(s, call);
-    s.line(if keep { 77 } else { 76 }, [(call.case.seed >> 32) as u32, call.case.seed as u32, 0, 0]);
-    if keep {
-        told.keep(&r);
-    }
-    print(s, call, &r);
-    r
-}
-
-/// The usual rate, alone and after a first month; a deck that is drilled over three runs.
-fn chains() -> Vec<Vec<Call>> {
-    let one = |deck, span| {
+/// Runs of these decks and spans, each with the cards and the draws that the one before it left.
+fn chain(sizes: &[(u32, u32)]) -> Vec<(Call, bool)> {
+    let mut last: Option<Result> = None;
+    let mut all = Vec::new();
+    for (i, &(deck, span)) in sizes.iter().enumerate() {
         let mut c = usual(deck, span);
         c.places = 12_000;
-        Call::exact("", c)
-    };
-    vec![vec![one(4000, 365)], vec![one(2000, 30), one(4000, 365)], vec![one(40, 10), one(50, 25), one(60, 60)]]
-}
-
-fn put_chain(s: &mut Sample, told: &mut Told, chain: &[Call]) -> usize {
-    let mut call = chain[0].clone();
-    for next in chain.iter().skip(1).map(Some).chain([None]) {
-        let r = put_call(s, told, &call, next.is_some());
-        if let Some(next) = next {
-            let existing = chained(&call, &r, false).case.existing;
-            call = Call::exact("", oracle::case::Case { existing, seed: r.draws, ..next.case.clone() });
+        if let Some(r) = &last {
+            c.existing = r.rows();
+            c.seed = r.draws;
         }
+        let call = Call::exact("chained", c);
+        last = Some(reference::result(&call));
+        all.push((call, i + 1 < sizes.len()));
     }
-    chain.len()
+    all
 }
 
 /// A run with a table as long as its keys, a place less, and longer.
@@ -157,7 +143,8 @@ fn tables() -> Vec<Call> {
     let mut c = usual(30, 30);
     c.places = 5000;
     let keys = reference::result(&Call::exact("", c.clone())).table.len();
-    [keys, keys - 1, keys + 1, 5000].map(|places| Call::exact("", oracle::case::Case { places, ..c.clone() })).to_vec()
+    let of = |made, places| Call::exact(made, Case { places, ..c.clone() });
+    vec![of("as long as its keys", keys), of("a place less than its keys", keys - 1), of("a longer table", keys + 1), of("", 5000)]
 }
 
 /// Each fault of the table of refusals alone, and lists of other lengths.
@@ -170,18 +157,23 @@ fn refused() -> Vec<Call> {
     faults.chain(lengths()).collect()
 }
 
-/// Varied cases that fit the program: so many that end, with and without existing cards, and so many refused with 7 and with 8.
-fn varied() -> Vec<Call> {
-    let mut random = Words::new(2027);
+/// A varied case that fits the program.
+fn small(random: &mut Words) -> Call {
+    loop {
+        let mut c = cases::varied(random);
+        c.places = c.places.min(3000);
+        if c.deck_size <= 30 && c.learn_span <= 30 && c.parameters.len() <= 40 {
+            return Call::exact("", c);
+        }
+    }
+}
+
+/// So many varied runs that end, with and without existing cards, and so many that are refused with 7 and with 8.
+fn varied(random: &mut Words) -> Vec<Call> {
     let mut wanted = [(0, true, 14), (0, false, 8), (7, true, 4), (8, true, 4)];
     let mut all = Vec::new();
     while wanted.iter().any(|w| w.2 > 0) {
-        let mut c = cases::varied(&mut random);
-        c.places = c.places.min(3000);
-        if c.deck_size > 30 || c.learn_span > 30 || c.parameters.len() > 40 {
-            continue;
-        }
-        let call = Call::exact("", c);
+        let call = small(random);
         let number = reference::result(&call).number;
         let with_cards = !call.case.existing.is_empty();
         if let Some(w) = wanted.iter_mut().find(|w| w.0 == number && (w.1 == with_cards || number != 0) && w.2 > 0) {
@@ -192,18 +184,45 @@ fn varied() -> Vec<Call> {
     all
 }
 
+/// For each wrong port that these runs do not show, one that shows it.
+fn showing(random: &mut Words, shown: Vec<Call>) -> Vec<Call> {
+    let shown: Vec<Stored> = shown.into_iter().map(with_text).collect();
+    let hidden = in_stored().into_iter().filter(|(_, wrong)| !seen_in_stored(wrong, &shown));
+    let mut show = |(name, wrong): Named| {
+        let tried = (0..100_000).map(|_| with_text(small(random))).find(|one| seen_in_stored(&wrong, std::slice::from_ref(one)));
+        tried.unwrap_or_else(|| panic!("no stored run shows {name}")).0
+    };
+    hidden.map(&mut show).collect()
+}
+
 fn fits(n: &Lengths) -> bool {
     let of_cards = [n.cards, n.counts, n.queue, n.existing, n.existing_counts];
     of_cards.iter().all(|&len| len <= CARDS) && n.days.max(n.sums) <= DAYS && n.due <= DUE && n.keys.max(n.intervals) <= PLACES
 }
 
+/// All stored runs in their order, each with whether the program keeps its cards for the next: the usual rate, alone and after a first
+/// month, and a deck that is drilled over three runs, come last.
+pub fn calls() -> Vec<(Call, bool)> {
+    let random = &mut Words::new(2027);
+    let mut single = [tables(), refused(), varied(random)].concat();
+    single.extend(showing(random, single.clone()));
+    let chains = [chain(&[(4000, 365)]), chain(&[(2000, 30), (4000, 365)]), chain(&[(40, 10), (50, 25), (60, 60)])].concat();
+    single.into_iter().map(|call| (call, false)).chain(chains).collect()
+}
+
 /// Puts all runs, and says how many they are.
 pub fn put(s: &mut Sample) -> usize {
     let mut told = Told::default();
-    let single: Vec<Call> = [tables(), refused(), varied()].concat();
-    for call in &single {
+    let calls = calls();
+    for (call, keep) in &calls {
         assert!(fits(&call.lengths), "the program's lists are too short for {call:?}");
-        put_call(s, &mut told, call, false);
+        let r = reference::result(call);
+        told.tell_call(s, call);
+        s.line(if *keep { 77 } else { 76 }, [(call.case.seed >> 32) as u32, call.case.seed as u32, 0, 0]);
+        if *keep {
+            told.keep(&r);
+        }
+        s.answer(&text(call, &r));
     }
-    single.len() + chains().iter().map(|chain| put_chain(s, &mut told, chain)).sum::<usize>()
+    calls.len()
 }
