@@ -12,12 +12,9 @@ pub fn generated(words: &mut Words) -> Call {
     (0..faults).for_each(|_| spoil(words, &mut case));
     let mut call = Call::exact("varied", case);
     if words.chance(2) {
-        let n = &mut call.lengths;
-        n.cards += words.below(4) as usize;
-        n.counts = n.cards;
-        for len in [&mut n.queue, &mut n.days, &mut n.sums, &mut n.due] {
-            *len += words.below(4) as usize;
-        }
+        call.lengths.cards += words.below(4) as usize;
+        call.lengths.counts = call.lengths.cards;
+        call.lengths.written().into_iter().for_each(|len| *len += words.below(4) as usize);
     }
     if words.chance(20) || (faults > 0 && words.chance(4)) {
         shorten(words, &mut call.lengths);

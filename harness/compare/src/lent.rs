@@ -140,6 +140,16 @@ impl Lengths {
         }
     }
 
+    /// The written lists but the cards with their counts and the interval table.
+    pub fn written(&mut self) -> [&mut usize; 4] {
+        [&mut self.queue, &mut self.days, &mut self.sums, &mut self.due]
+    }
+
+    /// The lists that have a place for each day.
+    pub fn of_days(&self) -> [usize; 2] {
+        [self.days, self.sums]
+    }
+
     /// The lengths in the order of the fields, with their names.
     pub fn each(&mut self) -> [(&'static str, &mut usize); 10] {
         [
@@ -272,6 +282,14 @@ impl Lists {
             );
         }
         answer
+    }
+
+    pub fn cost_mut(&mut self, day: usize) -> &mut f32 {
+        &mut self.sums.places_mut()[day][0]
+    }
+
+    pub fn memorized_mut(&mut self, day: usize) -> &mut f32 {
+        &mut self.sums.places_mut()[day][1]
     }
 
     /// Whether every place but those that a run of so many cards and days may write is as it was lent; of the interval table

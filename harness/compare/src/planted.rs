@@ -60,8 +60,8 @@ fn bits() -> Vec<Named> {
         after("a card's column", |_, lists, _| lists.cards.places_mut().iter_mut().take(1).for_each(|row| flip(&mut row[4]))),
         after("lapses", |_, lists, answer| lists.counts.places_mut().iter_mut().take(answer[3] as usize).for_each(|row| row[1] ^= 1)),
         after("introduced on the last day", |call, lists, _| lists.days.places_mut()[call.case.learn_span as usize - 1][3] ^= 1),
-        after("a cost", |_, lists, _| flip(&mut lists.sums.places_mut()[0][0])),
-        after("memorized", |_, lists, _| flip(&mut lists.sums.places_mut()[0][1])),
+        after("a cost", |_, lists, _| flip(lists.cost_mut(0))),
+        after("memorized", |_, lists, _| flip(lists.memorized_mut(0))),
         after("the last due count", |call, lists, _| {
             let span = call.case.learn_span as usize;
             lists.due.places_mut()[span + span / 2 - 1] ^= 1
@@ -124,7 +124,7 @@ fn reached() -> Vec<Named> {
         }),
         after("memorized on the last of more than 400 days", |call, lists, _| {
             if call.case.learn_span > 400 {
-                flip(&mut lists.sums.places_mut()[call.case.learn_span as usize - 1][1])
+                flip(lists.memorized_mut(call.case.learn_span as usize - 1))
             }
         }),
         refuses("lists of exactly the needed length refused", 6, |call| call.lengths == Lengths::needed(&call.case)),
@@ -247,7 +247,7 @@ fn large() -> Vec<Named> {
         .map(|&made| {
             after(&format!("the last cost, {made}"), move |call, lists, _| {
                 if call.made == made {
-                    flip(&mut lists.sums.places_mut()[call.case.learn_span as usize - 1][0])
+                    flip(lists.cost_mut(call.case.learn_span as usize - 1))
                 }
             })
         })

@@ -37,7 +37,7 @@ fn lists_taken(call: &Call) -> bool {
     n.existing == n.existing_counts
         && n.keys == n.intervals
         && [n.cards, n.counts, n.queue].iter().all(|&len| len >= deck)
-        && [n.days, n.sums].iter().all(|&len| len >= span)
+        && n.of_days().iter().all(|&len| len >= span)
         && n.due >= span + span / 2
         && (n.cards == n.counts || !CARDS_AND_COUNTS_ALIKE)
 }

@@ -65,13 +65,14 @@ pub fn shorten(words: &mut Words, n: &mut Lengths) {
             n.cards = to(words, n.cards);
             n.counts = n.cards;
         }
-        i @ 1..6 => {
-            let written = [&mut n.queue, &mut n.days, &mut n.sums, &mut n.due, &mut n.keys];
-            let len = written.into_iter().nth(i as usize - 1).unwrap();
-            *len = to(words, *len);
+        1 => n.keys = to(words, n.keys),
+        2 => n.intervals = words.pick(&[n.intervals + 1, n.intervals.saturating_sub(1)]),
+        3 => n.existing_counts = words.pick(&[n.existing_counts + 1, n.existing_counts.saturating_sub(1)]),
+        _ => {
+            let i = words.below(n.written().len() as u64) as usize;
+            let len = *n.written()[i];
+            *n.written()[i] = to(words, len);
         }
-        6 => n.intervals = words.pick(&[n.intervals + 1, n.intervals.saturating_sub(1)]),
-        _ => n.existing_counts = words.pick(&[n.existing_counts + 1, n.existing_counts.saturating_sub(1)]),
     }
 }
 

@@ -197,7 +197,10 @@ fn showing(random: &mut Words, shown: Vec<Call>) -> Vec<Call> {
 
 fn fits(n: &Lengths) -> bool {
     let of_cards = [n.cards, n.counts, n.queue, n.existing, n.existing_counts];
-    of_cards.iter().all(|&len| len <= CARDS) && n.days.max(n.sums) <= DAYS && n.due <= DUE && n.keys.max(n.intervals) <= PLACES
+    of_cards.iter().all(|&len| len <= CARDS)
+        && n.of_days().iter().all(|&len| len <= DAYS)
+        && n.due <= DUE
+        && n.keys.max(n.intervals) <= PLACES
 }
 
 /// All stored runs in their order, each with whether the program keeps its cards for the next: the usual rate, alone and after a first
