@@ -5,11 +5,11 @@ use Rattle.replay.proofs.main.Statement.{statement}
 use Rattle.replay.proofs.main.Tie as tie
 
 abbrev Inv-loop : tie.InvT-loop
-Inv-loop w₀ rows₀ keys₀ intervals₀ numbers₀ settings₀ existing₀ existing-counts₀ lengths₀ len₀ left₀ w rows keys intervals numbers settings existing existing-counts lengths len left =
+Inv-loop _ _ _ _ _ _ _ _ _ _ _ w rows keys intervals numbers settings existing existing-counts lengths len left =
     left ≤ 100000
 
 abbrev μ-loop : tie.MeasureT-loop
-μ-loop w₀ rows₀ keys₀ intervals₀ numbers₀ settings₀ existing₀ existing-counts₀ lengths₀ len₀ left₀ w rows keys intervals numbers settings existing existing-counts lengths len left =
+μ-loop _ _ _ _ _ _ _ _ _ _ _ w rows keys intervals numbers settings existing existing-counts lengths len left =
     left
 
 loop-holds : tie.Need-loop-holds Inv-loop μ-loop
