@@ -7,7 +7,8 @@ use Rattle.replay.proofs.runs.keep_cards.Statement.{statement}
 use Rattle.replay.proofs.runs.keep_cards.Tie as tie
 
 abbrev Inv-loop : tie.InvT-loop
-Inv-loop existing₀ existing-counts₀ cards counts n i₀ existing existing-counts i = (i ≤ n) × (length existing ≡ length existing₀) × (length existing-counts ≡ length existing-counts₀)
+Inv-loop existing₀ existing-counts₀ cards counts n i₀ existing existing-counts i =
+    (i ≤ n) × (length existing ≡ length existing₀) × (length existing-counts ≡ length existing-counts₀)
 
 abbrev μ-loop : tie.MeasureT-loop
 μ-loop existing₀ existing-counts₀ cards counts n i₀ existing existing-counts i = n - i
