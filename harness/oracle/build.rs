@@ -1,5 +1,6 @@
 //! Writes the Rust of the reference, patched, below OUT_DIR, once as `ours` (its exp, ln, powf and draws are the C
 //! functions of the port, and it keeps a trace) and once as `published` (the platform's exp, ln and powf, no trace).
+//! STREET_DRILL_ARCHIVE names the folder of the port's archive, STREET_DRILL_RUST the one of the reference.
 //! Each text that a patch looks for must be there as often as the patch says; else the build stops.
 use std::path::{Path, PathBuf};
 use std::{env, fs};
@@ -197,7 +198,8 @@ fn main() {
         fs::write(at.join("model_v7.rs"), model_v7(&folder, variant, &probe).text).unwrap();
         fs::write(out.join(format!("{variant}.rs")), list).unwrap();
     }
-    let archive = root.join("target/staticlib");
+    println!("cargo:rerun-if-env-changed=STREET_DRILL_ARCHIVE");
+    let archive = env::var("STREET_DRILL_ARCHIVE").map_or(root.join("target/staticlib"), PathBuf::from);
     println!("cargo:rerun-if-changed={}", archive.join("libcapi.a").display());
     println!("cargo:rustc-link-search=native={}", archive.display());
     println!("cargo:rustc-link-lib=static=capi");

@@ -5,22 +5,36 @@
 --     lookup-none, lookup-probe           the whole search as one of all places
 use mathlib.Core.Path.{_≡_, refl, _∙_, ap}
 use mathlib.Core.Bool.{Bool, true, false}
-use Prim.Native.Nat.{ℕ, zero, suc, _+_, _-_, _<_}
-use native.Mathlib.Nat.{mod-lt}
+use Prim.Native.Nat.{ℕ, zero, suc, _+_, _-_, _*_, _<_, _≤_, min}
+use native.Mathlib.Nat.{mod-lt, min-le-left, min-le-right, mul-le-mul-left, mul-lt-mul-of-pos-right, div-lt-iff-lt-mul}
 use native.Mathlib.Omega.{arith}
 use borrow.Author.Tests.{eqb-false, eq-eqb, ne-eqb}
 use mathlib.Core.List.{List}
 use lib.Dec.{eqb}
 use lib.Ieee.{Float}
 use Rattle.intervals.specs.declared.Entry.the-variants.{Found, Free, Full}
-use Rattle.intervals.specs.Table.{Table, table, places, homeOf, nextOf, freeAt, keyAt, valueAt, probe, lookupIn}
+use Rattle.intervals.specs.Table.{Table, table, places, mixOf, homeOf, nextOf, freeAt, keyAt, valueAt, probe, lookupIn}
 
 pub table-is : {keys keys' : List (List ℕ)} {intervals intervals' : List Float} → keys ≡ keys' → intervals ≡ intervals' → table keys intervals ≡ table keys' intervals'
 table-is p q = rw (p, q)
 
+mix-lt : (s r : ℕ) → mixOf s r < 4294967296
+unfolding mixOf
+mix-lt s r = mod-lt _ (omega arith)
+
+-- the product in `home` does not wrap
+pub share-fits : (n s r m k : ℕ) → m ≡ mixOf s r → k ≡ min n 4294967296 → m * k < 18446744073709551616
+share-fits n s r m k p q =
+    let h : m < 4294967296 = rw p (mix-lt s r) in
+    let l : k ≤ 4294967296 = rw q (min-le-right n 4294967296) in
+    omega (arith, mul-le-mul-left m l)
+
 pub home-lt : (n s r : ℕ) → 0 < n → homeOf n s r < n
 unfolding homeOf
-home-lt n s r h = mod-lt _ h
+home-lt n s r h =
+    let below : mixOf s r * n < 4294967296 * n = mul-lt-mul-of-pos-right (mix-lt s r) h in
+    let reach : mixOf s r * min n 4294967296 ≤ mixOf s r * n = mul-le-mul-left (mixOf s r) (min-le-left n 4294967296) in
+    div-lt-iff-lt-mul {k = 4294967296} {x = mixOf s r * min n 4294967296} {y = n} (omega arith) .1 (omega arith)
 
 next-lt-cases : (n p : ℕ) (b : Bool) → eqb (p + 1) n ≡ b → p < n → nextOf n p < n
 unfolding nextOf

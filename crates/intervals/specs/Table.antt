@@ -40,9 +40,13 @@ isFree v = lt v 1ᶠ
 unfoldable pub sameKey : ℕ → ℕ → ℕ → ℕ → Bool
 sameKey a b s r = eqb a s && eqb b r
 
--- where the search for a key starts, and the place after p, round the end
+-- a key's hash, below 2 ^ 32; 2654435769 is 2 ^ 32 over the golden ratio
+unfoldable pub mixOf : ℕ → ℕ → ℕ
+mixOf s r = (s * 2654435769 + r * 1540483477) % 4294967296
+
+-- where the search for a key starts, the hash's share of the table's first 2 ^ 32 places, and the place after p, round the end
 unfoldable pub homeOf : ℕ → ℕ → ℕ → ℕ
-homeOf n s r = (s * 2654435769 + r * 1540483477) / 1048576 % n
+homeOf n s r = mixOf s r * min n 4294967296 / 4294967296
 
 unfoldable pub nextOf : ℕ → ℕ → ℕ
 nextOf n p = cond (eqb (p + 1) n) 0 (p + 1)

@@ -8,7 +8,7 @@ ghost use mathlib.Core.Path.{_≡_};
 ghost use mathlib.Core.List.{[], _∷_};
 ghost use Prim.Native.Nat.{_<_, min};
 ghost use lib.ListN.{length, set, replicate};
-ghost use Rattle.intervals.specs.Table.{table, homeOf, nextOf, sameKey, lookupIn, enterIn};
+ghost use Rattle.intervals.specs.Table.{table, mixOf, homeOf, nextOf, sameKey, lookupIn, enterIn};
 ghost use Rattle.intervals.specs.Bucket.{pattern, bucketIndex, stabilityBucket, retentionBucket};
 ghost use Rattle.intervals.specs.Schedule.{isBelow, isNoLess, certifiesOne, certifiesRange, allFinite, certifies, slotOf, isFull, intervalOf, entered};
 ghost use Rattle.float32.specs.Numbers.{0ᶠ};
@@ -81,14 +81,21 @@ fn lesser(a: usize, b: usize) -> usize
     if a < b { a } else { b }
 }
 
-// Where the search for a key starts.
+// A key's hash. The first factor is 2^32 over the golden ratio: neighbouring stabilities lie far apart, and any number of
+// them in a row lies evenly over the whole range.
+fn mixed(s: u32, r: u32) -> usize
+    ensures { λ m. ⌜ m ≡ mixOf s r ⌝ }
+{
+    (((s as u64) * 2654435769 + (r as u64) * 1540483477) % 4294967296) as usize
+}
+
+// Where the search for a key starts: the hash's share of the table. A remainder by the table's length would bring
+// neighbours together at some lengths.
 fn home(n: usize, s: u32, r: u32) -> usize
     requires { ⌜ 0 < n ⌝ }
     ensures { λ h. ⌜ h ≡ homeOf n s r ⌝ }
 {
-    let m = (s as u64) * 2654435769 + (r as u64) * 1540483477;
-    let k = (m / 1048576) as usize;
-    k % n
+    mixed(s, r) * lesser(n, 4294967296) / 4294967296
 }
 
 // The place after p, round the end.

@@ -18,7 +18,7 @@ fn high(x: u64) -> u32 {
     (x / 4294967296) as u32
 }
 
-fn join(a: u32, b: u32) -> u64 {
+pub fn join(a: u32, b: u32) -> u64 {
     (a as u64) * 4294967296 + (b as u64)
 }
 
@@ -27,7 +27,7 @@ fn of_index(i: usize) -> u32 {
 }
 
 // The word that is drawn from a state.
-fn drawn(state: u64) -> u32 {
+pub fn drawn(state: u64) -> u32 {
     let d = SplitMix64::new(state).next();
     draws::word(d.output)
 }

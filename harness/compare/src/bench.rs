@@ -1,6 +1,6 @@
 //! The usual rate: 4,000 new cards, 365 days, the default configuration. Side by side, in turns, the least time of each.
 use crate::cases::usual;
-use oracle::case::Case;
+use crate::lent::{Call, Lists};
 use std::time::Instant;
 
 fn timed(run: &mut dyn FnMut()) -> f64 {
@@ -9,18 +9,13 @@ fn timed(run: &mut dyn FnMut()) -> f64 {
     start.elapsed().as_secs_f64() * 1e3
 }
 
-#[cfg(feature = "run")]
-fn port(c: &Case) -> Option<Box<dyn FnMut() + '_>> {
-    let mut lists = crate::port::run::Lists::of(c);
-    Some(Box::new(move || {
-        let answer = lists.simulate(c);
+/// The port's run over lists that are kept from one run to the next.
+fn port(call: &Call) -> impl FnMut() {
+    let mut lists = Lists::of(call);
+    move || {
+        let answer = lists.simulate(call);
         assert!(answer[0] == 0, "the port refused the usual case: {answer:?}");
-    }))
-}
-
-#[cfg(not(feature = "run"))]
-fn port(_: &Case) -> Option<Box<dyn FnMut() + '_>> {
-    None
+    }
 }
 
 fn line(name: &str, time: f64, published: f64) {
@@ -52,24 +47,35 @@ fn calls(rounds: u64) {
     }
 }
 
+fn least(rounds: u64, run: &mut dyn FnMut()) -> f64 {
+    (0..rounds).map(|_| timed(run)).fold(f64::MAX, f64::min)
+}
+
 /// The port alone, for a profile.
 pub fn port_alone(rounds: u64) {
-    let c = usual(4000, 365);
-    let mut run = port(&c).expect("the archive has no drill_simulate");
-    let least = (0..rounds).map(|_| timed(&mut run)).fold(f64::MAX, f64::min);
-    println!("bench: the port alone {least:.1} ms, least of {rounds}");
+    let call = Call::exact("the usual rate", usual(4000, 365));
+    println!("bench: the port alone {:.1} ms, least of {rounds}", least(rounds, &mut port(&call)));
+}
+
+/// The port alone with interval tables of some lengths: near multiples of 2,531.4, and others.
+pub fn tables(rounds: u64) {
+    for places in [7594, 7700, 10_126, 10_200, 16_384, 40_000] {
+        let mut c = usual(4000, 365);
+        c.places = places;
+        let call = Call::exact("the usual rate", c);
+        println!("  {places:>6} places {:>8.1} ms, least of {rounds}", least(rounds, &mut port(&call)));
+    }
 }
 
 pub fn main(rounds: u64) {
-    let c = usual(4000, 365);
+    let call = Call::exact("the usual rate", usual(4000, 365));
+    let c = &call.case;
     let mut times = [f64::MAX; 3];
-    let mut port = port(&c);
+    let mut port = port(&call);
     for _ in 0..rounds {
-        times[0] = times[0].min(timed(&mut || drop(oracle::published::simulation::probe::run(&c).unwrap())));
-        times[1] = times[1].min(timed(&mut || drop(oracle::ours::simulation::probe::run(&c).unwrap())));
-        if let Some(run) = &mut port {
-            times[2] = times[2].min(timed(run));
-        }
+        times[0] = times[0].min(timed(&mut || drop(oracle::published::simulation::probe::run(c).unwrap())));
+        times[1] = times[1].min(timed(&mut || drop(oracle::ours::simulation::probe::run(c).unwrap())));
+        times[2] = times[2].min(timed(&mut port));
     }
     let t = oracle::trace::last();
     println!(
@@ -84,10 +90,6 @@ pub fn main(rounds: u64) {
     );
     line("the Rust as published, platform's functions", times[0], times[0]);
     line("the Rust with the port's exp, ln, powf, draws", times[1], times[0]);
-    if port.is_some() {
-        line("the port", times[2], times[0]);
-    } else {
-        println!("  the port: the archive has no drill_simulate");
-    }
+    line("the port", times[2], times[0]);
     calls(rounds);
 }

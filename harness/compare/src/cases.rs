@@ -35,12 +35,27 @@ pub fn usual(deck_size: u32, learn_span: u32) -> Case {
     }
 }
 
+/// Rows whose total is 2^−126 or less: there a product with the total is rounded, and no running sum may exceed it. Often the
+/// total is a few times the least float, where that shows.
+fn tiny<const N: usize>(words: &mut Words) -> [f32; N] {
+    let least = f32::from_bits(1);
+    let few = [0.0, -0.0, least, least, 2.0 * least, 3.0 * least];
+    let more = [0.0, -0.0, least, 1e-40, 5e-39, f32::MIN_POSITIVE / 4.0];
+    let from = if words.chance(3) { more } else { few };
+    let mut row = std::array::from_fn(|_| words.pick(&from));
+    row[words.below(N as u64) as usize] = words.pick(&from[2..]);
+    row
+}
+
 fn weights<const N: usize>(words: &mut Words) -> [f32; N] {
+    if words.chance(12) {
+        return tiny(words);
+    }
     let mut row = std::array::from_fn(|_| words.between(0.0, 1.0));
     if words.chance(3) {
         row.iter_mut().for_each(|x| {
             if words.chance(2) {
-                *x = 0.0
+                *x = words.pick(&[0.0, 0.0, -0.0])
             }
         });
     }
@@ -58,25 +73,45 @@ fn table(words: &mut Words) -> [f32; 12] {
 
 fn cost(words: &mut Words) -> f32 {
     match words.below(8) {
-        0 => 0.0,
+        0 => words.pick(&[0.0, -0.0]),
         1 => words.scaled(1e-10, 1e-3),
         2 => words.scaled(1e3, 3e38),
         _ => words.between(1.0, 20.0),
     }
 }
 
+/// Costs, and the most that a day may cost: often sums of one cost, which a day can meet exactly.
+fn costs(words: &mut Words, c: &mut Case) {
+    c.max_cost_perday = match words.below(8) {
+        0 => words.pick(&[0.0, -0.0]),
+        1 => f32::INFINITY,
+        2 => words.pick(&[-1.0, f32::NEG_INFINITY, 1e-3]),
+        3 => words.between(0.0, 50.0),
+        4 => words.between(0.0, 400.0),
+        _ => 1800.0,
+    };
+    if words.chance(4) {
+        let each = words.pick(&[1.0, 8.0, 0.5]);
+        c.state_rating_costs = [each; 12];
+        c.max_cost_perday = each * words.below(20) as f32;
+    } else if words.chance(2) {
+        c.state_rating_costs = std::array::from_fn(|_| cost(words));
+    }
+}
+
 fn limit(words: &mut Words, deck: u32) -> u32 {
-    match words.below(6) {
+    match words.below(8) {
         0 => 0,
         1 => 1,
         2 => 2 + words.below(5) as u32,
-        3 => words.below(deck as u64 + 2) as u32,
+        3 | 4 => words.below(deck as u64 + 2) as u32,
+        5 => u32::MAX - 1 - words.below(3) as u32,
         _ => u32::MAX,
     }
 }
 
 /// A card that the entry takes: dates fractional, negative, far, in the future, or none.
-fn card(words: &mut Words, span: u32) -> ([f32; 6], [u32; 2]) {
+pub fn card(words: &mut Words, span: u32) -> ([f32; 6], [u32; 2]) {
     let span = span as f32;
     let due = match words.below(8) {
         0 => words.between(-30.0, 0.0),
@@ -101,8 +136,14 @@ fn card(words: &mut Words, span: u32) -> ([f32; 6], [u32; 2]) {
         1 => words.pick(&[0.0, 1e-9, -1.0, f32::NAN, 1.1e-9]),
         _ => words.scaled(0.1, 1000.0),
     };
-    let retention = if words.chance(8) { words.between(-0.5, 1.5) } else { words.pick(&[0.9, 0.8, 0.95]) };
+    let retention = match words.below(12) {
+        0 => words.between(-0.5, 1.5),
+        1 => words.finite(),
+        2 => words.pick(&[1e30, -1e30, 3e38, -3e38, 1e-38, 17.0, -17.0]),
+        _ => words.pick(&[0.9, 0.8, 0.95]),
+    };
     let lapses = if words.chance(8) { words.below(4_000_000_001) as u32 } else { words.below(5) as u32 };
+    let lapses = if words.chance(20) { 4_000_000_000 } else { lapses };
     let reps = words.pick(&[0, 3, u32::MAX - 1, u32::MAX]);
     ([difficulty, stability, last, due, words.float(), retention], [reps, lapses])
 }
@@ -125,44 +166,52 @@ pub fn far(words: &mut Words) -> Case {
     c
 }
 
-/// A case that the entry takes, mostly; `spoil` makes others.
+/// Deck and span: mostly small; one in forty has more than 200 cards, and one in forty more than 400 days.
+fn size(words: &mut Words) -> (u32, u32) {
+    match words.below(80) {
+        0 => (201 + words.below(1000) as u32, 1 + words.below(60) as u32),
+        1 => (201 + words.below(4000) as u32, 1 + words.below(20) as u32),
+        2 => (1 + words.below(20) as u32, 401 + words.below(2000) as u32),
+        3 => (1 + words.below(4) as u32, 401 + words.below(10_000) as u32),
+        n => {
+            let deck = match n % 8 {
+                0 => 1,
+                1 | 2 => 1 + words.below(200) as u32,
+                _ => 1 + words.below(30) as u32,
+            };
+            let span = match words.below(8) {
+                0 => 1,
+                1 => 1 + words.below(400) as u32,
+                _ => 1 + words.below(60) as u32,
+            };
+            (deck, span)
+        }
+    }
+}
+
+/// A case that the entry takes, mostly.
 pub fn varied(words: &mut Words) -> Case {
-    let deck = match words.below(8) {
-        0 => 1,
-        1 | 2 => 1 + words.below(200) as u32,
-        _ => 1 + words.below(30) as u32,
-    };
-    let span = match words.below(8) {
-        0 => 1,
-        1 => 1 + words.below(400) as u32,
-        _ => 1 + words.below(60) as u32,
-    };
+    let (deck, span) = size(words);
     let mut c = usual(deck, span);
     if words.chance(2) {
         c.parameters = words.parameters();
     }
-    c.max_cost_perday = match words.below(8) {
-        0 => 0.0,
-        1 => f32::INFINITY,
-        2 => words.pick(&[-1.0, f32::NEG_INFINITY, 1e-3]),
-        3 => words.between(0.0, 50.0),
-        4 => words.between(0.0, 400.0),
-        _ => 1800.0,
-    };
-    c.max_ivl = words.pick(&[1.0, 1.5, 2.9999998, 36500.0, 36500.0, 36500.0, 30.0]);
+    if words.chance(8) {
+        (0..1 + words.below(8)).for_each(|_| c.parameters.push(words.float()));
+    }
+    c.max_ivl =
+        if words.chance(2) { words.scaled(1.0, 36_500.0).clamp(1.0, 36_500.0) } else { words.pick(&[1.0, 1.5, 2.9999998, 36500.0, 30.0]) };
     if words.chance(2) {
         c.first_rating_prob = weights(words);
         c.review_rating_prob = weights(words);
         c.learning_step_transitions = table(words);
         c.relearning_step_transitions = table(words);
     }
-    if words.chance(2) {
-        c.state_rating_costs = std::array::from_fn(|_| cost(words));
-    }
+    costs(words, &mut c);
     c.learn_limit = limit(words, deck);
     c.review_limit = limit(words, deck);
     c.new_cards_ignore_review_limit = words.chance(2);
-    c.suspend_after_lapses = words.pick(&[u32::MAX, u32::MAX, 0, 1, 2, 5, 4_000_000_000]);
+    c.suspend_after_lapses = words.pick(&[u32::MAX, u32::MAX, 0, 1, 2, 5, 4_000_000_000, 4_000_000_001, u32::MAX - 1]);
     c.learning_step_count = words.pick(&[0, 1, 2, 2, 3, 6, u32::MAX]);
     c.relearning_step_count = words.pick(&[0, 1, 1, 2, 6, u32::MAX]);
     c.desired_retention = match words.below(6) {
@@ -170,7 +219,7 @@ pub fn varied(words: &mut Words) -> Case {
         1 => words.pick(&[0.0, 1.0, 0.9999, 1e30, -1e30]),
         _ => words.between(0.7, 0.97),
     };
-    c.seed = words.pick(&[42, 0, u64::MAX, 7]) ^ words.below(1000);
+    c.seed = words.next();
     let most = if words.chance(2) { 0 } else { deck as u64 };
     c.existing = (0..words.below(most + 1)).map(|_| card(words, span)).collect();
     c.places = match words.below(6) {
@@ -179,45 +228,4 @@ pub fn varied(words: &mut Words) -> Case {
         _ => 20_000,
     };
     c
-}
-
-/// Breaks one rule of the entry, or two.
-pub fn spoil(words: &mut Words, c: &mut Case) {
-    let bad = words.pick(&[f32::NAN, f32::INFINITY, f32::NEG_INFINITY]);
-    match words.below(14) {
-        0 => c.parameters.truncate(words.below(34) as usize),
-        1 => c.parameters[words.below(34) as usize] = bad,
-        2 => c.deck_size = words.pick(&[0, 65_537, u32::MAX]),
-        3 => c.learn_span = words.pick(&[0, 36_501, u32::MAX]),
-        4 => c.first_rating_prob[words.below(4) as usize] = words.pick(&[bad, -1.0, -1e-45]),
-        5 => c.review_rating_prob = words.pick(&[[0.0; 3], [-0.0; 3], [3e38; 3]]),
-        6 => c.learning_step_transitions[words.below(12) as usize] = words.pick(&[bad, -1.0]),
-        7 => c.relearning_step_transitions[8..].fill(0.0),
-        8 => c.state_rating_costs[words.below(12) as usize] = words.pick(&[bad, -1.0]),
-        9 => c.max_cost_perday = f32::NAN,
-        10 => c.max_ivl = words.pick(&[bad, 0.0, 0.99999994, 36500.004]),
-        11 => c.desired_retention = bad,
-        12 => {
-            while c.existing.len() <= c.deck_size as usize {
-                let row = card(words, c.learn_span);
-                c.existing.push(row);
-            }
-        }
-        _ => {
-            if c.existing.is_empty() {
-                let row = card(words, c.learn_span);
-                c.existing.push(row);
-            }
-            let i = words.below(c.existing.len() as u64) as usize;
-            let (row, counts) = &mut c.existing[i];
-            match words.below(6) {
-                0 => row[1] = f32::INFINITY,
-                1 => row[2] = words.pick(&[f32::NAN, f32::INFINITY, 16_777_218.0, -16_777_218.0]),
-                2 => row[3] = words.pick(&[bad, 16_777_218.0, -16_777_218.0]),
-                3 => row[5] = bad,
-                4 => row[0] = bad,
-                _ => counts[1] = 4_000_000_001 + words.below(100) as u32,
-            }
-        }
-    }
 }

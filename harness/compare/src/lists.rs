@@ -1,6 +1,6 @@
 //! Sequences of operations on the queue and on the interval table, each list compared after each operation.
+use crate::floats::bits;
 use crate::generate::Words;
-use crate::leaf::bits;
 use crate::port;
 use oracle::ours::model::model_v7::probe as model;
 use oracle::ours::simulation::probe;
@@ -96,18 +96,26 @@ fn table(words: &mut Words, places: usize) -> u64 {
             fail("scheduled_interval", &log, &ours, &expected);
         }
         let held = held(&keys, &intervals);
-        if held
-            != theirs.rows().iter().map(|(k, v)| ([k[0] as u32, k[1] as u32], v.to_bits())).collect::<std::collections::BTreeMap<_, _>>()
-        {
+        if held != entries(&theirs.rows()) {
             fail("the interval table", &log, &held, &theirs.rows());
         }
     }
     steps
 }
 
-/// What a table holds, by key.
-pub fn held(keys: &[[u32; 2]], intervals: &[f32]) -> std::collections::BTreeMap<[u32; 2], u32> {
-    keys.iter().zip(intervals).filter(|(_, v)| **v >= 1.0).map(|(k, v)| (*k, v.to_bits())).collect()
+/// What a table holds, in the order of the keys; a key that is held twice is there twice.
+pub fn held(keys: &[[u32; 2]], intervals: &[f32]) -> Vec<([u32; 2], u32)> {
+    sorted(keys.iter().zip(intervals).filter(|(_, v)| **v >= 1.0).map(|(k, v)| (*k, v.to_bits())).collect())
+}
+
+/// What the Rust's table holds, in the same order.
+pub fn entries(rows: &[([i32; 2], f32)]) -> Vec<([u32; 2], u32)> {
+    sorted(rows.iter().map(|(k, v)| (k.map(|b| b as u32), v.to_bits())).collect())
+}
+
+fn sorted(mut rows: Vec<([u32; 2], u32)>) -> Vec<([u32; 2], u32)> {
+    rows.sort();
+    rows
 }
 
 pub fn main(scale: u64, seed: u64) -> u64 {

@@ -1,13 +1,24 @@
-//! Compares the port with the Rust of the reference. `harness/run` builds and starts it.
+//! Compares the port with the Rust of the reference. `harness/run` builds and starts it, and says what each command does.
 mod bench;
+mod calls;
 mod cases;
+mod edges;
+mod floats;
 mod generate;
 mod leaf;
+mod lent;
 mod lists;
+mod planted;
 mod port;
+mod reference;
+mod result;
+mod rules;
 mod runs;
-mod sample;
-mod search;
+mod spoils;
+mod stored;
+mod stored_leaves;
+mod stored_points;
+mod stored_runs;
 
 fn number(words: &[String], i: usize, default: u64) -> u64 {
     words.get(i).map_or(default, |w| w.parse().unwrap_or_else(|_| panic!("not a number: {w}")))
@@ -15,13 +26,15 @@ fn number(words: &[String], i: usize, default: u64) -> u64 {
 
 fn main() {
     let words: Vec<String> = std::env::args().skip(1).collect();
-    match words.first().map(String::as_str) {
-        Some("leaf") => leaf::main(number(&words, 1, 100), number(&words, 2, 1)),
-        Some("runs") => runs::main(number(&words, 1, 1000), number(&words, 2, 1)),
-        Some("search") => search::main(number(&words, 1, 3), number(&words, 2, 1)),
-        Some("bench") if words.last().is_some_and(|w| w == "port") => bench::port_alone(number(&words, 1, 5)),
-        Some("bench") => bench::main(number(&words, 1, 5)),
-        Some("sample") => sample::main(&words[1]),
-        _ => panic!("leaf [SCALE] [SEED] | runs [N] [SEED] | search [N] [SEED] | bench [ROUNDS] | sample FOLDER"),
+    match words.iter().map(String::as_str).collect::<Vec<_>>()[..] {
+        ["leaf", ..] => leaf::main(number(&words, 1, 100), number(&words, 2, 1)),
+        ["edges"] => edges::main(),
+        ["runs", ..] => runs::main(number(&words, 1, 1000), number(&words, 2, 1)),
+        ["planted", ..] => planted::main(number(&words, 1, 3000)),
+        ["bench", _, "port"] => bench::port_alone(number(&words, 1, 5)),
+        ["bench", _, "tables"] => bench::tables(number(&words, 1, 5)),
+        ["bench", ..] => bench::main(number(&words, 1, 5)),
+        ["store", crates] => stored::main(crates),
+        _ => panic!("a command of harness/run is needed"),
     }
 }

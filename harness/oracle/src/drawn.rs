@@ -1,9 +1,39 @@
-//! The draws by the port's C functions.
+//! The draws of `ours`, by a rule that can be set: the port's C functions, or the same rule in Rust.
+use crate::native::{self, Draws};
+use std::cell::Cell;
+
+pub use crate::native::WeightedIndex;
+
 unsafe extern "C" {
     fn drill_next(state: *mut u64) -> u64;
     fn drill_word(output: u64) -> u32;
     fn drill_rating(weights: *const f32, len: usize, word: u32) -> usize;
     fn drill_recalled(chance: f32, word: u32) -> bool;
+}
+
+/// How a state gives its next word, which weight a word chooses, and whether it recalls at a chance.
+#[derive(Clone, Copy)]
+pub struct Rule {
+    pub word: fn(&mut u64) -> u32,
+    pub rating: fn(&[f32], u32) -> usize,
+    pub recalled: fn(f32, u32) -> bool,
+}
+
+pub const PORTS: Rule = Rule {
+    word: |state| unsafe { drill_word(drill_next(state)) },
+    rating: |weights, word| unsafe { drill_rating(weights.as_ptr(), weights.len(), word) },
+    recalled: |chance, word| unsafe { drill_recalled(chance, word) },
+};
+
+pub const OWN: Rule = Rule { word: native::word, rating: native::rating, recalled: native::recalled };
+
+thread_local! {
+    static RULE: Cell<Rule> = const { Cell::new(PORTS) };
+}
+
+/// Runs draw by this rule from now on.
+pub fn go_by(rule: Rule) {
+    RULE.set(rule);
 }
 
 pub struct StdRng {
@@ -18,31 +48,23 @@ impl StdRng {
 
     fn word(&mut self) -> u32 {
         self.count += 1;
-        unsafe { drill_word(drill_next(&mut self.state)) }
+        (RULE.get().word)(&mut self.state)
     }
 
     /// Nothing, and nothing drawn, where the chance is not from 0 to 1.
     pub fn recall(&mut self, chance: f32) -> Option<bool> {
         if (0.0..=1.0).contains(&chance) {
             let word = self.word();
-            Some(unsafe { drill_recalled(chance, word) })
+            Some((RULE.get().recalled)(chance, word))
         } else {
             None
         }
     }
 }
 
-pub struct WeightedIndex {
-    weights: Vec<f32>,
-}
-
-impl WeightedIndex {
-    pub fn new(weights: impl AsRef<[f32]>) -> Result<WeightedIndex, ()> {
-        Ok(WeightedIndex { weights: weights.as_ref().to_vec() })
-    }
-
-    pub fn sample(&self, rng: &mut StdRng) -> usize {
-        let word = rng.word();
-        unsafe { drill_rating(self.weights.as_ptr(), self.weights.len(), word) }
+impl Draws for StdRng {
+    fn rating(&mut self, weights: &[f32]) -> usize {
+        let word = self.word();
+        (RULE.get().rating)(weights, word)
     }
 }

@@ -36,20 +36,36 @@ pub fn recalled(chance: f32, word: u32) -> bool {
     unit(word) < chance
 }
 
+/// The next word of a state.
+pub fn word(state: &mut u64) -> u32 {
+    *state = advance(*state);
+    (mix(*state) >> 32) as u32
+}
+
 impl StdRng {
     pub fn seed_from_u64(seed: u64) -> StdRng {
         StdRng { state: seed, count: 0 }
     }
 
     pub fn word(&mut self) -> u32 {
-        self.state = advance(self.state);
         self.count += 1;
-        (mix(self.state) >> 32) as u32
+        word(&mut self.state)
     }
 
     pub fn random_bool(&mut self, chance: f64) -> bool {
         assert!((0.0..=1.0).contains(&chance), "a chance outside 0 to 1");
         recalled(chance as f32, self.word())
+    }
+}
+
+/// What a `WeightedIndex` asks of a generator.
+pub trait Draws {
+    fn rating(&mut self, weights: &[f32]) -> usize;
+}
+
+impl Draws for StdRng {
+    fn rating(&mut self, weights: &[f32]) -> usize {
+        rating(weights, self.word())
     }
 }
 
@@ -62,7 +78,7 @@ impl WeightedIndex {
         Ok(WeightedIndex { weights: weights.as_ref().to_vec() })
     }
 
-    pub fn sample(&self, rng: &mut StdRng) -> usize {
-        rating(&self.weights, rng.word())
+    pub fn sample(&self, rng: &mut impl Draws) -> usize {
+        rng.rating(&self.weights)
     }
 }

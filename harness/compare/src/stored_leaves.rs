@@ -1,33 +1,20 @@
-//! A sample of the reference's answers for the program `replay`: its `stdin`, a line for each call, and its `stdout`.
+//! The reference's answers to calls of single functions, for the program `replay`: a line of its `stdin` for each call.
+use crate::floats::pattern;
 use crate::generate::{EDGES, Words};
+use crate::stored::Sample;
 use oracle::native;
 use oracle::ours::model::model_v7::probe as model;
 use oracle::ours::simulation::probe;
-use std::fmt::Write;
-
-struct Sample {
-    calls: String,
-    answers: String,
-}
 
 impl Sample {
-    fn line(&mut self, function: u32, words: [u32; 4]) {
-        let [a, b, c, d] = words;
-        writeln!(self.calls, "{function:02X} {a:08X} {b:08X} {c:08X} {d:08X}").unwrap();
-    }
-
     fn put(&mut self, function: u32, words: [u32; 4], answer: u32) {
         self.line(function, words);
-        writeln!(self.answers, "{answer:08x}").unwrap();
+        self.answer(&format!("{answer:08x}"));
     }
 
     fn float(&mut self, function: u32, words: [f32; 4], answer: f32) {
         self.put(function, words.map(pattern), pattern(answer));
     }
-}
-
-fn pattern(x: f32) -> u32 {
-    crate::leaf::bits(x) as u32
 }
 
 /// exp, ln and powf where their rules leave one answer.
@@ -151,21 +138,17 @@ fn table(s: &mut Sample, words: &mut Words, w: &[f32]) {
     }
 }
 
-pub fn main(folder: &str) {
-    let mut s = Sample { calls: String::new(), answers: String::new() };
+pub fn put(s: &mut Sample) {
     let mut words = Words::new(2026);
-    elementary(&mut s);
-    numbers(&mut s, &mut words);
+    elementary(s);
+    numbers(s, &mut words);
     for list in 0..8 {
         let w = if list == 0 { crate::cases::USUAL.to_vec() } else { words.parameters() };
         for (i, x) in w.iter().enumerate() {
             s.line(0, [i as u32, pattern(*x), 0, 0]);
         }
-        memory(&mut s, &mut words, &w);
-        table(&mut s, &mut words, &w);
+        memory(s, &mut words, &w);
+        table(s, &mut words, &w);
     }
-    queue(&mut s, &mut words);
-    std::fs::write(format!("{folder}/stdin"), &s.calls).unwrap();
-    std::fs::write(format!("{folder}/stdout"), &s.answers).unwrap();
-    println!("sample: {} answers in {folder}/stdout", s.answers.lines().count());
+    queue(s, &mut words);
 }

@@ -1,0 +1,34 @@
+-- The loop has passed i of the n days, and the measure is what is left of them.
+use borrow.Author.Needs.{needs}
+use Prim.Native.Nat.{_≤_, _-_}
+use Rattle.replay.proofs.shown.rows.Statement.{statement}
+use Rattle.replay.proofs.shown.rows.Tie as tie
+
+abbrev Inv-loop : tie.InvT-loop
+Inv-loop days sums span n i₀ i = i ≤ n
+
+abbrev μ-loop : tie.MeasureT-loop
+μ-loop days sums span n i₀ i = n - i
+
+loop-holds : tie.Need-loop-holds Inv-loop μ-loop
+loop-holds c = search needs
+
+day-at-requires : tie.Need-day-at-requires Inv-loop μ-loop
+day-at-requires c κs = search needs
+
+add-i : tie.Need-add-i Inv-loop μ-loop
+add-i c = search needs
+
+loop-less : tie.Need-loop-less Inv-loop μ-loop
+loop-less c = search needs
+
+loop-again : tie.Need-loop-again Inv-loop μ-loop
+loop-again c = search needs
+
+returns : tie.Need-returns Inv-loop μ-loop
+returns c = search needs
+
+pub rows-spec : {M : Type 1} → statement M
+rows-spec =
+    tie.close
+    (tie.spec Inv-loop μ-loop loop-holds day-at-requires add-i loop-less loop-again returns)
