@@ -21,7 +21,7 @@ use Rattle.simulation.proofs.entry.Accepted.{accepted}
 use Rattle.simulation.proofs.turn.Stops.{stops-iff}
 use Rattle.simulation.proofs.run.Suits.{suits}
 use Rattle.simulation.proofs.run.Table.{end-sound}
-use Rattle.simulation.proofs.run.Frame.{lists-free, beyond-same}
+use Rattle.simulation.proofs.run.Frame.{lists-free, cards-are, beyond-same}
 use Rattle.simulation.proofs.run.DemandThree.{few-turns}
 use Rattle.simulation.proofs.run.Answers.{ok-passed, told-stop, stop-told, ok-demand}
 
@@ -52,6 +52,7 @@ demands w i s =
       entry-refusal = entry-refusal R i s;
       run-leaves = run-leaves R i s;
       stops-exactly = stops-exactly w i s;
+      cards-are = cards-are R i s;
       beyond-same = λ e. beyond-same R i (suits w i s (accepted i s e)) s e;
       same-run = λ s′ e. lists-free R i (suits w i s (accepted i s e)) s s′ e;
       demand-three = λ p e. ok-demand R i s (suits w i s (accepted i s (ok-passed R i s p e))) p e _ refl;

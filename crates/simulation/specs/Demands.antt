@@ -1,5 +1,5 @@
 -- WHAT IS PROMISED OF A RUN: demand 3 (`DemandThree`), the contract of a call (`RunContract`), and the other demands (`Demands`). Definitions only.
-use Prim.Native.Nat.{ℕ, suc, _*_, _≤_}
+use Prim.Native.Nat.{ℕ, suc, _+_, _*_, _≤_}
 use mathlib.Core.Path.{_≡_}
 use mathlib.Core.Bool.{true}
 use mathlib.Core.Option.{some}
@@ -25,7 +25,7 @@ use Rattle.simulation.specs.Rules.{Rules}
 use Rattle.simulation.specs.RunRefusals.{StopCondition}
 use Rattle.simulation.specs.Entry.{Inputs, listsOk, checked}
 use Rattle.simulation.specs.Frame.{firstPlaces, beyond}
-use Rattle.simulation.specs.SetUp.{introducedBefore, setUp}
+use Rattle.simulation.specs.SetUp.{keptCount, introducedBefore, newCardCount, setUp}
 use Rattle.simulation.specs.Simulate.{IsResult, progress, answerOf, rulesFor, runFrom, simulatedBy, simulated}
 
 -- a run's lists as set up, its cards, what it comes to, and its turns, latest first
@@ -86,6 +86,8 @@ pub record Demands {C : Type 0} (R : Rules C) (i : Inputs) (s : State C) : Type 
   -- it ends Ok, or is refused by 7 or 8 with card c, exactly on the condition of that stop: Ok exactly when the queue is empty
   pub stops-exactly : checked i s ≡ check.Passed → (x : Stop)
       → (simulatedBy R i s .answer ≡ some (answerOf x (progress (length (turnsOf R i s)) (cardsOf R i s) (endOf R i s .draws)))) ↔ StopCondition R (endOf R i s) x
+  -- a run's cards are the existing ones that are kept, and those created
+  pub cards-are : checked i s ≡ check.Passed → (let kept = keptCount (i .existing) (i .existing-counts) (length (i .existing)) in cardsOf R i s ≡ kept + newCardCount (i .config) kept)
   -- places behind those that the run needs are as they were lent: of cards and queue behind the run's cards, of days behind the span, of due counts behind theirs
   pub beyond-same : checked i s ≡ check.Passed → beyond (cardsOf R i s) (R .span) (endOf R i s) ≡ beyond (cardsOf R i s) (R .span) s
   -- 2: what the lists held before, and how long they are, plays no part: a second call with equal inputs and a table equally long has the same run

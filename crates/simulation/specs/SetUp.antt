@@ -72,6 +72,11 @@ unfoldable pub addExistingCards : ℕ → List (List Float) → List (List ℕ) 
 addExistingCards span cards counts zero s = s
 addExistingCards span cards counts (suc i) s = addExistingCard span (addExistingCards span cards counts i s) (cardAt cards counts i)
 
+-- how many of the first n existing cards are kept
+unfoldable pub keptCount : List (List Float) → List (List ℕ) → ℕ → ℕ
+keptCount cards counts zero = 0
+keptCount cards counts (suc i) = keptCount cards counts i + bit (isKept (cardAt cards counts i))
+
 -- how many of the first n existing cards are kept and have a last date
 unfoldable pub introducedBefore : List (List Float) → List (List ℕ) → ℕ → ℕ
 introducedBefore cards counts zero = 0

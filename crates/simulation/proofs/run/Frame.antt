@@ -2,6 +2,7 @@
 -- so of two calls with equal inputs the second, with a table as long or longer, has the same run.
 --   run-own       a run of `extended s b` is the run of s, with b behind
 --   longer-table, lists-free   two calls: the same run, where the first ends Ok or the tables are equally long
+--   cards-are     one call: its cards are those kept and those created
 --   beyond-same   one call: the places behind those that it needs are as they were lent
 use mathlib.Core.Path.{_≡_, refl, sym, ap, _∙_, subst}
 use mathlib.Core.Bool.{true, not}
@@ -29,6 +30,7 @@ use Rattle.simulation.specs.State.{State, Lent, withTable}
 use Rattle.simulation.specs.Rules.{Rules}
 use Rattle.simulation.specs.Turn.{next}
 use Rattle.simulation.specs.Entry.{Inputs, listsOk, checked}
+use Rattle.simulation.specs.SetUp.{keptCount, newCardCount}
 use Rattle.simulation.specs.Simulate.{progress, answerOf, bound, runFrom, resultFrom, simulatedBy}
 use Rattle.simulation.specs.Invariant.{RunBounds, StateInvariant}
 use Rattle.simulation.specs.Frame.{firstPlaces, beyond, extended}
@@ -211,6 +213,13 @@ lists-free R i fit s s′ e l k =
     same-run R i fit s s′ e e′ (Unit {0}) (omega (arith, p)) (λ z. p) (h .0) (inr tt) (h .1)
 
 -- ---- one call
+-- the run's cards: the existing ones that are kept, and those created
+pub cards-are : {C : Type 0} (R : Rules C) (i : Inputs) (s : State C) → checked i s ≡ check.Passed
+    → (let kept = keptCount (i .existing) (i .existing-counts) (length (i .existing)) in cardsOf R i s ≡ kept + newCardCount (i .config) kept)
+cards-are R i s e =
+    let a = starts-alike (R .costs .none) i s s (accepted i s e) (accepted i s e) in
+    ap (λ (z : State _). z .queue .len) (a .here) ∙ a .count
+
 pub beyond-same : {C : Type 0} (R : Rules C) (i : Inputs) (fit : Suits R i) (s : State C) (e : checked i s ≡ check.Passed) → beyond (cardsOf R i s) (R .span) (endOf R i s) ≡ beyond (cardsOf R i s) (R .span) s
 beyond-same R i fit s e =
     let h = has-stopped R i s (accepted i s e) fit in

@@ -11,6 +11,8 @@ use lib.Dec.{eqb}
 use lib.ListN.{getD, set, take, drop, length, length-set, length-append, length-drop, length-take, length-replicate, replicate, replicate-append-replicate}
 use lib.Seq.{set-at, append-snoc, drop-cons, set-split, drop-set-lt, set-append-left}
 use lib.Ieee.{Float}
+use Rattle.turns.specs.Sums.{bit}
+use Rattle.turns.proofs.Sums.{bit-le}
 use Rattle.cards.specs.declared.Card.{Card}
 use Rattle.cards.specs.declared.SimulatorConfig.{SimulatorConfig}
 use Rattle.cards.specs.Day.{dayOf}
@@ -26,7 +28,7 @@ use Rattle.simulation.specs.Frame.{beyond, extended}
 use Rattle.simulation.proofs.turn.Frame.{Exact}
 use Rattle.simulation.specs.Entry.{Inputs}
 use Rattle.simulation.proofs.entry.Accepted.{Accepted}
-use Rattle.simulation.specs.SetUp.{filled, newCard, Deck, addCard, addKeptCard, addExistingCard, addExistingCards, addNewCards, newCardCount, emptyDeck, addAllCards, firstDayCounts, setUp}
+use Rattle.simulation.specs.SetUp.{filled, newCard, Deck, addCard, addKeptCard, addExistingCard, addExistingCards, keptCount, addNewCards, newCardCount, emptyDeck, addAllCards, firstDayCounts, setUp}
 
 -- the deck `own` in front of what is left of the lists of s₀
 abbrev pub inFront : Deck → Deck → Deck
@@ -94,12 +96,18 @@ grown-exact span own k ex = record {
   due-are = ex .due-are;
 }
 
+-- no more are kept than there are
+kept-few : (cards : List (List Float)) (counts : List (List ℕ)) (n : ℕ) → keptCount cards counts n ≤ n
+unfolding keptCount
+kept-few cards counts zero = omega arith
+kept-few cards counts (suc n) = omega (arith, kept-few cards counts n, bit-le (isKept (cardAt cards counts n)))
+
 -- ---- two decks, from other lists
 module _ (span deck : ℕ) (s₀ s₀′ : Deck) (room : Room deck s₀) (room′ : Room deck s₀′) (few : deck ≤ 65536) where
-  pub record OwnPlaces (s s′ : Deck) (most : ℕ) : Type 0 where
+  pub record OwnPlaces (s s′ : Deck) (n : ℕ) : Type 0 where
     pub own : Deck
     pub exact : ExactDeck span own
-    pub within : own .queue .len ≤ most
+    pub count : own .queue .len ≡ n
     pub here : s ≡ inFront own s₀
     pub there : s′ ≡ inFront own s₀′
 
@@ -109,15 +117,19 @@ module _ (span deck : ℕ) (s₀ s₀′ : Deck) (room : Room deck s₀) (room�
   room-for′ : (n : ℕ) → n < deck → Room (n + 1) s₀′
   room-for′ n h = record { cards-long = omega (arith, h, room′ .cards-long); counts-long = omega (arith, h, room′ .counts-long); rows-long = omega (arith, h, room′ .rows-long) }
 
-  own-card : (s s′ : Deck) (k : Card) (most : ℕ) → most < deck → OwnPlaces s s′ most → OwnPlaces (addCard s k) (addCard s′ k) (suc most)
-  own-card s s′ k most h p =
+  -- the same count in other words
+  counted : (s s′ : Deck) (n n′ : ℕ) → n ≡ n′ → OwnPlaces s s′ n → OwnPlaces s s′ n′
+  counted s s′ n n′ e p = record { own = p .own; exact = p .exact; count = p .count ∙ e; here = p .here; there = p .there }
+
+  own-card : (s s′ : Deck) (k : Card) (n : ℕ) → n < deck → OwnPlaces s s′ n → OwnPlaces (addCard s k) (addCard s′ k) (n + 1)
+  own-card s s′ k n h p =
       let o = p .own in
       record {
         own = grow o k;
         exact = grown-exact span o k (p .exact);
-        within = omega (arith, p .within);
-        here = ap (λ (z : Deck). addCard z k) (p .here) ∙ grown span o s₀ (p .exact) k (room-for (o .queue .len) (omega (arith, h, p .within))) (omega (arith, h, few, p .within));
-        there = ap (λ (z : Deck). addCard z k) (p .there) ∙ grown span o s₀′ (p .exact) k (room-for′ (o .queue .len) (omega (arith, h, p .within))) (omega (arith, h, few, p .within));
+        count = omega (arith, p .count);
+        here = ap (λ (z : Deck). addCard z k) (p .here) ∙ grown span o s₀ (p .exact) k (room-for (o .queue .len) (omega (arith, h, p .count))) (omega (arith, h, few, p .count));
+        there = ap (λ (z : Deck). addCard z k) (p .there) ∙ grown span o s₀′ (p .exact) k (room-for′ (o .queue .len) (omega (arith, h, p .count))) (omega (arith, h, few, p .count));
       }
 
   -- a kept card is counted on its day
@@ -128,16 +140,16 @@ module _ (span deck : ℕ) (s₀ s₀′ : Deck) (room : Room deck s₀) (room�
   unfolding addKeptCard withDue
   kept-is s k = refl
 
-  own-kept : (s s′ : Deck) (k : Card) (most : ℕ) → most < deck → OwnPlaces s s′ most → OwnPlaces (addKeptCard span s k) (addKeptCard span s′ k) (suc most)
+  own-kept : (s s′ : Deck) (k : Card) (n : ℕ) → n < deck → OwnPlaces s s′ n → OwnPlaces (addKeptCard span s k) (addKeptCard span s′ k) (n + 1)
   unfolding withDue addCard own-card
-  own-kept s s′ k most h p =
+  own-kept s s′ k n h p =
       let o = p .own in
-      let q = own-card s s′ k most h p in
+      let q = own-card s s′ k n h p in
       let d : ℕ = dayOf (k .due) in
       record {
         own = withDue (grow o k) (addDue span (o .due) d);
         exact = record { cards-are = q .exact .cards-are; counts-are = q .exact .counts-are; rows-are = q .exact .rows-are; due-are = add-due-long span (o .due) d ∙ p .exact .due-are };
-        within = q .within;
+        count = q .count;
         here = kept-is s k ∙ both s s₀ (q .here) (ap (λ (z : Deck). addDue span (z .due) d) (p .here) ∙ add-due-own span (o .due) (s₀ .due) d (omega (arith, p .exact .due-are)));
         there = kept-is s′ k ∙ both s′ s₀′ (q .there) (ap (λ (z : Deck). addDue span (z .due) d) (p .there) ∙ add-due-own span (o .due) (s₀′ .due) d (omega (arith, p .exact .due-are)));
       }
@@ -146,25 +158,26 @@ module _ (span deck : ℕ) (s₀ s₀′ : Deck) (room : Room deck s₀) (room�
           → withDue (addCard z k) (addDue span (z .due) (dayOf (k .due))) ≡ inFront (withDue (grow (p .own) k) (addDue span (p .own .due) (dayOf (k .due)))) z₀
       both z z₀ e f = rw f (ap (λ (w : Deck). withDue w (addDue span (p .own .due) (dayOf (k .due)) ++ z₀ .due)) e)
 
-  own-existing : (s s′ : Deck) (k : Card) (most : ℕ) → most < deck → OwnPlaces s s′ most → OwnPlaces (addExistingCard span s k) (addExistingCard span s′ k) (suc most)
+  own-existing : (s s′ : Deck) (k : Card) (n : ℕ) → n < deck → OwnPlaces s s′ n → OwnPlaces (addExistingCard span s k) (addExistingCard span s′ k) (n + bit (isKept k))
   unfolding addExistingCard
-  own-existing s s′ k most h p = go (isKept k)
+  own-existing s s′ k n h p = go (isKept k)
     where
-      go : (t : Bool) → OwnPlaces (cond t (addKeptCard span s k) s) (cond t (addKeptCard span s′ k) s′) (suc most)
-      go true = own-kept s s′ k most h p
-      go false = record { own = p .own; exact = p .exact; within = omega (arith, p .within); here = p .here; there = p .there }
+      go : (t : Bool) → OwnPlaces (cond t (addKeptCard span s k) s) (cond t (addKeptCard span s′ k) s′) (n + bit t)
+      go true = own-kept s s′ k n h p
+      go false = counted s s′ n (n + 0) (omega arith) p
 
-  own-existing-all : (cards : List (List Float)) (counts : List (List ℕ)) (n : ℕ) (s s′ : Deck) → n ≤ deck → OwnPlaces s s′ 0 → OwnPlaces (addExistingCards span cards counts n s) (addExistingCards span cards counts n s′) n
-  unfolding addExistingCards
+  own-existing-all : (cards : List (List Float)) (counts : List (List ℕ)) (n : ℕ) (s s′ : Deck) → n ≤ deck → OwnPlaces s s′ 0
+      → OwnPlaces (addExistingCards span cards counts n s) (addExistingCards span cards counts n s′) (keptCount cards counts n)
+  unfolding addExistingCards keptCount
   own-existing-all cards counts zero s s′ h p = p
-  own-existing-all cards counts (suc n) s s′ h p = own-existing _ _ (cardAt cards counts n) n (omega (arith, h)) (own-existing-all cards counts n s s′ (omega (arith, h)) p)
+  own-existing-all cards counts (suc n) s s′ h p =
+      own-existing _ _ (cardAt cards counts n) (keptCount cards counts n) (omega (arith, h, kept-few cards counts n)) (own-existing-all cards counts n s s′ (omega (arith, h)) p)
 
-  own-new-all : (retention : Float) (limit n most : ℕ) (s s′ : Deck) → most + n ≤ deck → OwnPlaces s s′ most → OwnPlaces (addNewCards retention limit n s) (addNewCards retention limit n s′) (most + n)
+  own-new-all : (retention : Float) (limit n kept : ℕ) (s s′ : Deck) → kept + n ≤ deck → OwnPlaces s s′ kept → OwnPlaces (addNewCards retention limit n s) (addNewCards retention limit n s′) (kept + n)
   unfolding addNewCards
-  own-new-all retention limit zero most s s′ h p = record { own = p .own; exact = p .exact; within = omega (arith, p .within); here = p .here; there = p .there }
-  own-new-all retention limit (suc n) most s s′ h p =
-      let q = own-card _ _ (newCard retention limit n) (most + n) (omega (arith, h)) (own-new-all retention limit n most s s′ (omega (arith, h)) p) in
-      record { own = q .own; exact = q .exact; within = omega (arith, q .within); here = q .here; there = q .there }
+  own-new-all retention limit zero kept s s′ h p = counted s s′ kept (kept + 0) (omega arith) p
+  own-new-all retention limit (suc n) kept s s′ h p =
+      counted _ _ (kept + n + 1) (kept + suc n) (omega arith) (own-card _ _ (newCard retention limit n) (kept + n) (omega (arith, h)) (own-new-all retention limit n kept s s′ (omega (arith, h)) p))
 
 -- ---- the deck of a call
 filled-is : {A : Type 0} (x : A) (n : ℕ) (l : List A) → n ≤ length l → filled x n l ≡ replicate n x ++ drop n l
@@ -206,7 +219,7 @@ module _ {C : Type 0} (i : Inputs) (s s′ : State C) (ok : Accepted i s) (ok′
   empty-own = record {
     own = record { cards = []; counts = []; queue = queue [] 0; due = replicate (dueDays span) 0 };
     exact = record { cards-are = refl; counts-are = refl; rows-are = refl; due-are = length-replicate (dueDays span) 0 };
-    within = omega arith;
+    count = refl;
     here = rw (filled-is 0 (dueDays span) (s .due) (ok .due-long));
     there = rw (filled-is 0 (dueDays span) (s′ .due) (ok′ .due-long));
   }
@@ -218,22 +231,23 @@ module _ {C : Type 0} (i : Inputs) (s s′ : State C) (ok : Accepted i s) (ok′
   abbrev dealt : State C → ℕ → Deck
   dealt z kept = addNewCards (i .retention) (i .config .«learn_limit») (newCardCount (i .config) kept) (keptOf z)
 
-  pub own-all : Own (addAllCards i (emptyDeck i s)) (addAllCards i (emptyDeck i s′)) deck
+  abbrev kept : ℕ
+  kept = keptCount (i .existing) (i .existing-counts) (length (i .existing))
+
+  pub own-all : Own (addAllCards i (emptyDeck i s)) (addAllCards i (emptyDeck i s′)) (kept + newCardCount (i .config) kept)
   unfolding addAllCards
   own-all =
       let r = has-room i s ok in
       let r′ = has-room i s′ ok′ in
       let p = own-existing-all span deck (listsDeck span s) (listsDeck span s′) r r′ (ok .deck-most) (i .existing) (i .existing-counts) (length (i .existing)) (emptyDeck i s) (emptyDeck i s′) (ok .existing-few) empty-own in
-      let n : ℕ = p .own .queue .len in
-      let few : n + newCardCount (i .config) n ≤ deck = new-few (i .config) n (omega (arith, p .within, ok .existing-few)) in
-      let q = own-new-all span deck (listsDeck span s) (listsDeck span s′) r r′ (ok .deck-most) (i .retention) (i .config .«learn_limit») (newCardCount (i .config) n) n (keptOf s) (keptOf s′) few
-      (record { own = p .own; exact = p .exact; within = omega arith; here = p .here; there = p .there }) in
+      let few : kept + newCardCount (i .config) kept ≤ deck = new-few (i .config) kept (omega (arith, kept-few (i .existing) (i .existing-counts) (length (i .existing)), ok .existing-few)) in
+      let q = own-new-all span deck (listsDeck span s) (listsDeck span s′) r r′ (ok .deck-most) (i .retention) (i .config .«learn_limit») (newCardCount (i .config) kept) kept (keptOf s) (keptOf s′) few p in
       record {
         own = q .own;
         exact = q .exact;
-        within = omega (arith, q .within, few);
-        here = ap (λ (z : Deck). dealt s (z .queue .len)) (p .here) ∙ q .here;
-        there = ap (λ (z : Deck). dealt s′ (z .queue .len)) (p .there) ∙ q .there;
+        count = q .count;
+        here = ap (dealt s) (ap (λ (z : Deck). z .queue .len) (p .here) ∙ p .count) ∙ q .here;
+        there = ap (dealt s′) (ap (λ (z : Deck). z .queue .len) (p .there) ∙ p .count) ∙ q .there;
       }
 
 -- ---- the state as set up
@@ -254,6 +268,7 @@ ownState none i own t = record {
 -- two calls begin with the same places, each in front of those that it was lent behind them
 pub record StartsAlike {C : Type 0} (none : C) (i : Inputs) (s s′ : State C) : Type 0 where
   pub own : Deck
+  pub count : (let kept = keptCount (i .existing) (i .existing-counts) (length (i .existing)) in own .queue .len ≡ kept + newCardCount (i .config) kept)
   pub exact : (t : Table) → Exact (own .queue .len) (i .config .«learn_span») (ownState none i own t)
   pub here : setUp none i s ≡ extended (ownState none i own (s .table)) (beyond (own .queue .len) (i .config .«learn_span») s)
   pub there : setUp none i s′ ≡ extended (ownState none i own (s′ .table)) (beyond (own .queue .len) (i .config .«learn_span») s′)
@@ -265,6 +280,7 @@ starts-alike none i s s′ ok ok′ =
     let p = own-all i s s′ ok ok′ in
     record {
       own = p .own;
+      count = p .count;
       exact = λ t. record {
         cards-are = p .exact .cards-are;
         counts-are = p .exact .counts-are;
