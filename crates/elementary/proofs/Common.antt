@@ -49,9 +49,16 @@ no-nan-bits n h = subst (λ (t : Bool). T (not t)) (sym (nanBits-above binary32 
     no : 2139095040 < n % 2147483648 → ⊥
     no u = omega arith
 
+pub below-nan : (n : ℕ) → n ≤ 2139095040 → T (not (nanBits binary32 n))
+below-nan n h = no-nan-bits n (omega arith)
+
 pub infinity-is : ofBits binary32 2139095040 ≡ inf false
 unfolding ofBits
 infinity-is = refl
+
+pub minus-infinity-is : ofBits binary32 4286578688 ≡ inf true
+unfolding ofBits
+minus-infinity-is = refl
 
 pub zero-is : ofBits binary32 0 ≡ fin false 0 (pos 0)
 unfolding ofBits

@@ -1,6 +1,3 @@
-pub mod Log
-pub mod Scale
-pub mod Near
 pub mod Cases
-pub mod Order
+pub mod Odd
 pub mod Law

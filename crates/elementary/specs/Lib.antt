@@ -1,4 +1,6 @@
 pub mod Exp
 pub mod Ln
+pub mod Power
+pub mod Quick
 pub mod Pow
 pub mod Accuracy

@@ -3,7 +3,6 @@
 use elementary::exp_f32;
 use elementary::ln_f32;
 use elementary::powf_f32;
-use elementary::powf_from_one;
 use float32::abs;
 use float32::clamp;
 use float32::is_finite;
@@ -218,7 +217,7 @@ fn after_failing(p: StabilityParameters, s: f32, r: f32) -> f32
 {
     min(
         s,
-        p.w10 * (powf_from_one(s + 1.0, p.w11) - 1.0) * exp_f32((1.0 - r) * p.w12),
+        p.w10 * (powf_f32(s + 1.0, p.w11) - 1.0) * exp_f32((1.0 - r) * p.w12),
     )
 }
 
@@ -234,7 +233,7 @@ fn increase(p: StabilityParameters, s: f32, d: f32, r: f32, rating: u32) -> f32
 {
     p.growth
         * (11.0 - d)
-        * powf_from_one(s, p.decline)
+        * powf_f32(s, p.decline)
         * (exp_f32((1.0 - r) * p.w9) - 1.0)
         * where_rated(rating, 2, p.w13)
         * where_rated(rating, 4, p.w14)
@@ -272,7 +271,7 @@ fn drawn_in(r: f32) -> f32
 fn first_decay(p: CurveParameters, fast: f32) -> f32
     ensures { λ r. ⌜ r ≡ Kept.decay1Of p fast ⌝ }
 {
-    decay_of(p.w23 * powf_from_one(fast, p.power))
+    decay_of(p.w23 * powf_f32(fast, p.power))
 }
 
 fn first_factor(p: CurveParameters, decay: f32) -> f32
@@ -284,13 +283,13 @@ fn first_factor(p: CurveParameters, decay: f32) -> f32
 fn first_weight(p: CurveParameters, fast: f32) -> f32
     ensures { λ r. ⌜ r ≡ Kept.weight1Of p fast ⌝ }
 {
-    p.w27 * powf_from_one(fast, p.decline)
+    p.w27 * powf_f32(fast, p.decline)
 }
 
 fn second_weight(p: CurveParameters, s: f32, d: f32) -> f32
     ensures { λ r. ⌜ r ≡ Kept.weight2Of p s d ⌝ }
 {
-    p.w28 * powf_from_one(s, p.w30) * exp_f32((d - 5.0) * p.weight)
+    p.w28 * powf_f32(s, p.w30) * exp_f32((d - 5.0) * p.weight)
 }
 
 fn timescale(p: CurveParameters, d: f32) -> f32
@@ -337,8 +336,8 @@ impl Curve {
     fn weighted(self, t: f32) -> f32
         ensures { λ r. ⌜ r ≡ Kept.weighted self t ⌝ }
     {
-        self.weight1 * powf_from_one(base(self.factor1, t, self.fast), self.decay1)
-            + self.weight2 * powf_from_one(base(self.rate2, t, self.stability), self.decay2)
+        self.weight1 * powf_f32(base(self.factor1, t, self.fast), self.decay1)
+            + self.weight2 * powf_f32(base(self.rate2, t, self.stability), self.decay2)
     }
 
     // The chance of recall after t days.
@@ -357,9 +356,7 @@ impl Curve {
     fn first_slope(self, t: f32) -> f32
         ensures { λ r. ⌜ r ≡ Kept.slope1 self t ⌝ }
     {
-        self.decay1
-            * powf_from_one(base(self.factor1, t, self.fast), self.decay1 - 1.0)
-            * self.factor1
+        self.decay1 * powf_f32(base(self.factor1, t, self.fast), self.decay1 - 1.0) * self.factor1
             / self.fast
     }
 
@@ -367,7 +364,7 @@ impl Curve {
         ensures { λ r. ⌜ r ≡ Kept.slope2 self t ⌝ }
     {
         self.decay2
-            * powf_from_one(base(self.rate2, t, self.stability), self.decay2 - 1.0)
+            * powf_f32(base(self.rate2, t, self.stability), self.decay2 - 1.0)
             * self.factor2
             * self.timescale
             / self.stability

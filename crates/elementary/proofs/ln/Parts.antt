@@ -61,6 +61,7 @@ sub32 b p h =
         }
 
 pub record Range (n m : ℕ) : Type 0 where
+  pub least : 10 ≤ n
   pub most : n ≤ 286
   pub low : 8388608 ≤ m
   pub high : m < 16777216
@@ -71,8 +72,8 @@ range b p h = go (lt-or-ge b 8388608)
     go : (b < 8388608) ⊎ (8388608 ≤ b) → Range (exponent b) (significand b)
     go (inl l) =
         let s = sub32 b p l in
-        record { most = rw (exponent-sub b l) (omega arith); low = rw (significand-sub b l) (s .low); high = rw (significand-sub b l) (s .high) }
-    go (inr l) = record { most = rw (exponent-normal b l) (omega arith); low = rw (significand-normal b l) (omega arith); high = rw (significand-normal b l) (omega arith) }
+        record { least = rw (exponent-sub b l) (omega arith); most = rw (exponent-sub b l) (omega arith); low = rw (significand-sub b l) (s .low); high = rw (significand-sub b l) (s .high) }
+    go (inr l) = record { least = rw (exponent-normal b l) (omega arith); most = rw (exponent-normal b l) (omega arith); low = rw (significand-normal b l) (omega arith); high = rw (significand-normal b l) (omega arith) }
 
 -- x = m / 2^23 * 2^(n - 159): what holds at every such n and m, from 159 up and below, holds of x's own
 module _ (x : Float) (G : ℕ → ℕ → Type 0)

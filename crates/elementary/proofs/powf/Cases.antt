@@ -1,137 +1,21 @@
--- The cases of the recipe's definitions, and what the code's proofs ask of them.
+-- The cases of powf's definition, and what the code's proofs ask of them.
 use mathlib.Core.Path.{_≡_, refl, sym, ap, _∙_, subst}
 use mathlib.Core.Logic.{_⊎_, inl, inr}
 use mathlib.Core.Bool.{Bool, true, false, not, cond}
-use Prim.Native.Nat.{ℕ, suc, _+_, _-_, _*_, _/_, _%_, _^_, _≤_, _<_}
-use native.Mathlib.Nat.{le-trans, le-of-eq, lt-of-lt-of-le, div-lt-iff-lt-mul, zero-div, zero-mul, mul-zero, one-mul, add-zero}
+use Prim.Native.Nat.{ℕ, _+_, _-_, _*_, _/_, _%_, _^_, _≤_, _<_}
+use native.Mathlib.Nat.{add-zero}
 use native.Mathlib.Omega.{arith}
 use borrow.Author.Tests.{lt-ltb, le-ltb, eq-eqb, ne-eqb}
 use lib.Dec.{T, ltb, eqb, lit≤}
 use lib.Ieee.{Float, nan, binary32, isNan, ofBits, toBits}
 use lib.Ieee.Bits.{cond-no}
-use lib.Pow.{pow-pos, pow-mono, shl-lt}
+use lib.Pow.{pow-mono}
 use Rattle.series.proofs.Cuts.{lt-or-ge}
-use Rattle.elementary.proofs.exp.Cases.{packed-le}
-use Rattle.elementary.specs.Pow.{logOf, turned, nearArg, distance, farShift, grown, placed, farArg, zBits, argOf, powBits, isOdd, zeroSize, zeroBits, infBits, toInfBits, numBits, powAt, powOf}
-use Rattle.elementary.proofs.powf.Near.{z-low, z-mid, z-high}
+use Rattle.elementary.specs.Power.{powBits}
+use Rattle.elementary.specs.Pow.{isOdd, zeroSize, zeroBits, infBits, toInfBits, numBits, powAt, powOf}
+use Rattle.elementary.proofs.power.Finite.{pow-to-zero, bits-le}
+use Rattle.elementary.proofs.power.Finite as finite
 
-pub turned-plus : (c w : ℕ) → c < 2147483648 → turned (ltb c 2147483648) w ≡ w
-unfolding turned
-turned-plus c w h = simp (lt-ltb c 2147483648 h)
-
-pub turned-minus : (c w : ℕ) → 2147483648 ≤ c → turned (ltb c 2147483648) w ≡ 1099511627776 - w
-unfolding turned
-turned-minus c w h = simp (le-ltb c 2147483648 h)
-
-pub turned-range : (s : Bool) (w : ℕ) → 103079215104 ≤ w → w ≤ 996432412672 → (103079215104 ≤ turned s w) × (turned s w ≤ 996432412672)
-unfolding turned
-turned-range true w h k = (h, k)
-turned-range false w h k = (omega arith, omega arith)
-
-pub distance-below : (g : ℕ) → g < 549755813888 → distance g ≡ 549755813888 - g
-unfolding distance
-distance-below g h = simp (lt-ltb g 549755813888 h)
-
-pub distance-above : (g : ℕ) → 549755813888 ≤ g → distance g ≡ g - 549755813888
-unfolding distance
-distance-above g h = simp (le-ltb g 549755813888 h)
-
-pub distance-le : (g : ℕ) → 103079215104 ≤ g → g ≤ 996432412672 → distance g ≤ 446676598784
-distance-le g h k =
-    elim (lt-or-ge g 549755813888) [
-      | inl l ↦ rw (distance-below g l) (omega arith)
-      | inr l ↦ rw (distance-above g l) (omega arith)
-    ]
-
-pub shift-below : (a : ℕ) → a < 1585446912 → farShift a ≡ a / 8388608 - 134
-unfolding farShift
-shift-below a h = simp (lt-ltb a 1585446912 h)
-
-pub shift-above : (a : ℕ) → 1585446912 ≤ a → farShift a ≡ 55
-unfolding farShift
-shift-above a h = simp (le-ltb a 1585446912 h)
-
-pub shift-le : (a : ℕ) → farShift a ≤ 55
-shift-le a =
-    elim (lt-or-ge a 1585446912) [
-      | inl l ↦ rw (shift-below a l) (omega arith)
-      | inr l ↦ le-of-eq (shift-above a l)
-    ]
-
-pub grown-small : (u e : ℕ) → u / 2 ^ (55 - e) ≡ 0 → grown u e ≡ u * 2 ^ e / 2
-unfolding grown
-grown-small u e h = simp (eq-eqb (u / 2 ^ (55 - e)) 0 h)
-
-pub grown-large : (u e : ℕ) → (u / 2 ^ (55 - e) ≡ 0 → ⊥) → grown u e ≡ 18014398509481984
-unfolding grown
-grown-large u e h = simp (ne-eqb (u / 2 ^ (55 - e)) 0 h)
-
-grown-lt : (u e : ℕ) → e ≤ 55 → u / 2 ^ (55 - e) ≡ 0 → u * 2 ^ e < 36028797018963968
-grown-lt u e h z =
-    let k : u / 2 ^ (55 - e) < 1 = le-of-eq (ap suc z) in
-    let l : u < 2 ^ (55 - e) = lt-of-lt-of-le (div-lt-iff-lt-mul (pow-pos (55 - e)) .0 k) (le-of-eq (one-mul (2 ^ (55 - e)))) in
-    let s : 55 - e + e ≡ 55 = omega arith in
-    subst (λ (i : ℕ). u * 2 ^ e < 2 ^ i) s (shl-lt (55 - e) e l)
-
-pub grown-fits : (u e : ℕ) → e ≤ 55 → u / 2 ^ (55 - e) ≡ 0 → u * 2 ^ e < 18446744073709551616
-grown-fits u e h z = le-trans (grown-lt u e h z) (lit≤ tt)
-
-pub grown-le : (u e : ℕ) → e ≤ 55 → grown u e ≤ 18014398509481984
-grown-le u e h = go (lt-or-ge 0 (u / 2 ^ (55 - e)))
-  where
-    half : (n : ℕ) → n < 36028797018963968 → n / 2 ≤ 18014398509481984
-    half n l = omega arith
-
-    go : (0 < u / 2 ^ (55 - e)) ⊎ (u / 2 ^ (55 - e) ≤ 0) → grown u e ≤ 18014398509481984
-    go (inl l) = le-of-eq (grown-large u e (no (u / 2 ^ (55 - e)) l))
-      where
-        no : (n : ℕ) → 0 < n → n ≡ 0 → ⊥
-        no n h z = omega arith
-    go (inr l) =
-        let z : u / 2 ^ (55 - e) ≡ 0 = omega arith in
-        rw (grown-small u e z) (half (u * 2 ^ e) (grown-lt u e h z))
-
-pub placed-below : (g v : ℕ) → g < 549755813888 → placed g v ≡ 3196577161300672512 - v
-unfolding placed
-placed-below g v h = simp (lt-ltb g 549755813888 h)
-
-pub placed-above : (g v : ℕ) → 549755813888 ≤ g → placed g v ≡ 3196577161300672512 + v
-unfolding placed
-placed-above g v h = simp (le-ltb g 549755813888 h)
-
-pub arg-near : (g a : ℕ) → a < 1124073473 → argOf g a ≡ nearArg g a
-unfolding argOf
-arg-near g a h = simp (lt-ltb a 1124073473 h)
-
-pub arg-far : (g a : ℕ) → 1124073473 ≤ a → argOf g a ≡ farArg g a
-unfolding argOf
-arg-far g a h = simp (le-ltb a 1124073473 h)
-
-pub bits-one : (b c : ℕ) → c % 2147483648 < 603979776 → powBits b c ≡ 1065353216
-unfolding powBits
-bits-one b c h = simp (lt-ltb (c % 2147483648) 603979776 h)
-
-pub bits-z : (b c : ℕ) → 603979776 ≤ c % 2147483648 → powBits b c ≡ zBits (argOf (turned (ltb c 2147483648) (logOf b)) (c % 2147483648))
-unfolding powBits
-bits-z b c h = simp (le-ltb (c % 2147483648) 603979776 h)
-
--- ---- no pattern is a NaN's
-z-le : (z : ℕ) → zBits z ≤ 2139095040
-z-le z = go (lt-or-ge z 3184236859454220636) (lt-or-ge (z / 97551793252584) 32896)
-  where
-    go : (z < 3184236859454220636) ⊎ (3184236859454220636 ≤ z) → (z / 97551793252584 < 32896) ⊎ (32896 ≤ z / 97551793252584) → zBits z ≤ 2139095040
-    go (inl h) _ = le-trans (le-of-eq (z-low z h)) (lit≤ tt)
-    go (inr h) (inl k) = le-trans (le-of-eq (z-mid z h k)) (packed-le (z / 97551793252584 - 32641) (z % 97551793252584 * 2) (omega arith) (omega arith))
-    go (inr h) (inr k) = le-of-eq (z-high z h k)
-
-pub bits-le : (b c : ℕ) → powBits b c ≤ 2139095040
-bits-le b c =
-    elim (lt-or-ge (c % 2147483648) 603979776) [
-      | inl h ↦ le-trans (le-of-eq (bits-one b c h)) (lit≤ tt)
-      | inr h ↦ le-trans (le-of-eq (bits-z b c h)) (z-le (argOf (turned (ltb c 2147483648) (logOf b)) (c % 2147483648)))
-    ]
-
--- ---- the special cases
 pub odd-below : (a : ℕ) → a < 1065353216 → isOdd a ≡ false
 unfolding isOdd
 odd-below a h = simp (lt-ltb a 1065353216 h)
@@ -232,58 +116,6 @@ pub at-num : (b c : ℕ) → (c % 2147483648 ≡ 0 → ⊥) → (b ≡ 106535321
 unfolding powAt
 at-num b c n m h = simp (ne-eqb (c % 2147483648) 0 n, ne-eqb b 1065353216 m, le-ltb 2147483648 b h)
 
--- 1^y by the recipe
-pub one-near : (a : ℕ) → nearArg 549755813888 a ≡ 3196577161300672512
-unfolding nearArg
-one-near a =
-    let m = a % 8388608 + 8388608 in
-    let e : m * 549755813888 + (16777216 - m) * 549755813888 ≡ 9223372036854775808 = omega arith in
-    rw e (go (9223372036854775808 / 2 ^ (135 - a / 8388608)))
-  where
-    go : (h : ℕ) → h + 3196577161300672512 - h ≡ 3196577161300672512
-    go h = omega arith
-
-grown-none : (e : ℕ) → grown 0 e ≡ 0
-grown-none e = grown-small 0 e (zero-div (2 ^ (55 - e))) ∙ ap (λ (n : ℕ). n / 2) (zero-mul (2 ^ e))
-
-far-is : (g a : ℕ) → farArg g a ≡ placed g (grown ((a % 8388608 + 8388608) * distance g) (farShift a))
-unfolding farArg
-far-is g a = refl
-
-one-far : (a : ℕ) → farArg 549755813888 a ≡ 3196577161300672512
-one-far a =
-    far-is 549755813888 a
-    ∙ ap (λ (u : ℕ). placed 549755813888 (grown u (farShift a))) (ap (λ (d : ℕ). (a % 8388608 + 8388608) * d) (distance-above 549755813888 (lit≤ tt)) ∙ mul-zero (a % 8388608 + 8388608))
-    ∙ ap (placed 549755813888) (grown-none (farShift a))
-    ∙ placed-above 549755813888 0 (lit≤ tt)
-
-pub one-turned : (t : Bool) → turned t 549755813888 ≡ 549755813888
-unfolding turned
-one-turned true = refl
-one-turned false = refl
-
-log-one : logOf 1065353216 ≡ 549755813888
-unfolding logOf
-log-one = refl
-
-pub one-z : zBits 3196577161300672512 ≡ 1065353216
-unfolding zBits
-one-z = refl
-
-one-any : (c : ℕ) → powBits 1065353216 c ≡ 1065353216
-one-any c = go (lt-or-ge (c % 2147483648) 603979776) (lt-or-ge (c % 2147483648) 1124073473)
-  where
-    a : ℕ
-    a = c % 2147483648
-
-    g-is : turned (ltb c 2147483648) (logOf 1065353216) ≡ 549755813888
-    g-is = ap (turned (ltb c 2147483648)) log-one ∙ one-turned (ltb c 2147483648)
-
-    go : (c % 2147483648 < 603979776) ⊎ (603979776 ≤ c % 2147483648) → (c % 2147483648 < 1124073473) ⊎ (1124073473 ≤ c % 2147483648) → powBits 1065353216 c ≡ 1065353216
-    go (inl h) _ = bits-one 1065353216 c h
-    go (inr h) (inl k) = bits-z 1065353216 c h ∙ ap zBits (ap (λ (g : ℕ). argOf g (c % 2147483648)) g-is ∙ arg-near 549755813888 (c % 2147483648) k ∙ one-near (c % 2147483648)) ∙ one-z
-    go (inr h) (inr k) = bits-z 1065353216 c h ∙ ap zBits (ap (λ (g : ℕ). argOf g (c % 2147483648)) g-is ∙ arg-far 549755813888 (c % 2147483648) k ∙ one-far (c % 2147483648)) ∙ one-z
-
 -- x finite and above 0, y finite
 pub at-regular : (b c : ℕ) → 0 < b → b < 2139095040 → c % 2147483648 < 2139095040 → powAt b c ≡ ofBits binary32 (powBits b c)
 at-regular b c p h k = go (lt-or-ge 0 (c % 2147483648)) (lt-or-ge b 1065353216) (lt-or-ge 1065353216 b)
@@ -309,12 +141,12 @@ at-regular b c p h k = go (lt-or-ge 0 (c % 2147483648)) (lt-or-ge b 1065353216) 
     go : (0 < c % 2147483648) ⊎ (c % 2147483648 ≤ 0) → (b < 1065353216) ⊎ (1065353216 ≤ b) → (1065353216 < b) ⊎ (b ≤ 1065353216) → powAt b c ≡ ofBits binary32 (powBits b c)
     go (inr l) _ _ =
         let z : c % 2147483648 ≡ 0 = omega arith in
-        at-zero b c z ∙ ap (ofBits binary32) (sym (bits-one b c (omega arith)))
+        at-zero b c z ∙ ap (ofBits binary32) (sym (pow-to-zero b c p h z))
     go (inl l) (inl i) _ = rest l (less i)
     go (inl l) (inr i) (inl j) = rest l (more j)
     go (inl l) (inr i) (inr j) =
         let e : b ≡ 1065353216 = omega arith in
-        at-one b c e ∙ ap (ofBits binary32) (sym (ap (λ (n : ℕ). powBits n c) e ∙ one-any c))
+        at-one b c e ∙ ap (ofBits binary32) (sym (finite.at-one b c e))
 
 -- ---- NaN
 pub of-nan-y : (x y : Float) → y ≡ nan → (toBits binary32 x ≡ 1065353216 → ⊥) → powOf x y ≡ nan

@@ -4,12 +4,12 @@ use Rattle.model.specs.Kept.{weight1Of}
 use Rattle.model.proofs.model_v7.first_weight.Statement.{statement}
 use Rattle.model.proofs.model_v7.first_weight.Tie as tie
 
-powf-from-one-requires : tie.Need-powf-from-one-requires
-powf-from-one-requires c κs = search needs
+powf-f32-requires : tie.Need-powf-f32-requires
+powf-f32-requires c κs = search needs
 
 returns : tie.Need-returns
 unfolding weight1Of
-returns c = rw (c .before .powf-from-one .ensures)
+returns c = rw (c .before .powf-f32 .ensures .0)
 
 pub first-weight-spec : {M : Type 1} → statement M
-first-weight-spec = tie.close (tie.spec powf-from-one-requires returns)
+first-weight-spec = tie.close (tie.spec powf-f32-requires returns)

@@ -5,8 +5,8 @@ use Rattle.model.specs.Kept.{increaseOf}
 use Rattle.model.proofs.model_v7.increase.Statement.{statement}
 use Rattle.model.proofs.model_v7.increase.Tie as tie
 
-powf-from-one-requires : tie.Need-powf-from-one-requires
-powf-from-one-requires c κs = search needs
+powf-f32-requires : tie.Need-powf-f32-requires
+powf-f32-requires c κs = search needs
 
 exp-f32-requires : tie.Need-exp-f32-requires
 exp-f32-requires c κs = search needs
@@ -19,13 +19,13 @@ where-rated-requires-2 c κs = search needs
 
 returns : tie.Need-returns
 unfolding increaseOf increase
-returns c = rw (c .where-rated2 .ensures, c .before .where-rated .ensures, c .before .before .exp-f32 .ensures .0, c .before .before .before .before .powf-from-one .ensures)
+returns c = rw (c .where-rated2 .ensures, c .before .where-rated .ensures, c .before .before .exp-f32 .ensures .0, c .before .before .before .before .powf-f32 .ensures .0)
 
 pub increase-spec : {M : Type 1} → statement M
 increase-spec =
     tie.close
     (tie.spec
-    powf-from-one-requires
+    powf-f32-requires
     exp-f32-requires
     where-rated-requires
     where-rated-requires-2

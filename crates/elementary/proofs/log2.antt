@@ -1,0 +1,4 @@
+pub mod Curve
+pub mod Law
+pub mod Fine
+pub mod Words

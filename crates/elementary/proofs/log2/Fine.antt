@@ -1,0 +1,278 @@
+-- A finer logarithm, for |y| above 128: of a significand of 36 digits, in units of 2^-35, at most 8 below and 8 above.
+use mathlib.Core.Path.{_≡_, refl, sym, ap, _∙_, subst}
+use mathlib.Core.Logic.{_⊎_, inl, inr}
+use Prim.Native.Nat.{ℕ, _+_, _-_, _*_, _/_, _%_, _^_, _≤_, _<_}
+use native.Mathlib.Nat.{le-trans, le-of-eq, mul-pos, mul-le-mul, mul-le-mul-left, mul-le-mul-right}
+use native.Mathlib.Omega.{arith}
+use lib.Dec.{lit<, lit≤}
+use Rattle.series.specs.Exp.{sum, scale, ExpGe, ExpLe}
+use Rattle.series.proofs.Cuts.{lt-or-ge, le-below, ge-above, le-by}
+use Rattle.series.proofs.Two.{TwoLe, TwoGe, two-le-mono, two-ge-mono, two-le-weaken, two-ge-weaken, two-le-mul, two-ge-mul, two-le-quot, two-le-one, two-le-up, two-ge-up, two-le-down, two-ge-down, two-le-exp, two-ge-exp}
+use Rattle.power_tables.specs.Tables.{height, slope, curvature, lineWord}
+use Rattle.power_tables.proofs.Rules.{ln2-le, ln2-ge, height-rule}
+use Rattle.elementary.specs.Power.{fineLog2At}
+use Rattle.elementary.proofs.log2.Curve.{curve-le, curve-ge}
+use Rattle.elementary.proofs.log2.Law.{floor, scaled-le, scaled-ge, B-is, C-is, B-lt, B-gt, C-lt}
+
+-- 2^(3888119808 / 2^67) ≥ 1 + 2^-36, and 2^(12 / 2^35) ≥ 1 + 8.25 / 2^35
+spare : TwoGe 3888119808 147573952589676412928 68719476737 68719476736
+spare = two-ge-exp 195103586505167 281474976710656 3888119808 147573952589676412928 68719476737 68719476736 (lit< tt) (lit< tt) ln2-le (1, unfold sum scale in lit≤ tt)
+
+room : TwoGe 51539607552 147573952589676412928 137438953505 137438953472
+room = two-ge-exp 195103586505167 281474976710656 51539607552 147573952589676412928 137438953505 137438953472 (lit< tt) (lit< tt) ln2-le (1, unfold sum scale in lit≤ tt)
+
+covers : (t D c : ℕ) → c + D ≡ 4294967296 * (D + t) → (D + t) * (4294967296 * D * 137438953472) ≤ c * 137438953505 * D
+covers t D c e = le-trans (le-of-eq (left t D)) (mul-le-mul-right D (go t D c e))
+  where
+    go : (t D c : ℕ) → c + D ≡ 4294967296 * (D + t) → 590295810358705651712 * (D + t) ≤ c * 137438953505
+    go t D c e = omega arith
+
+    left : (t D : ℕ) → (D + t) * (4294967296 * D * 137438953472) ≡ 590295810358705651712 * (D + t) * D
+    left t D = omega arith
+
+-- ---- the quadratic w at d = t / D, of any number of digits
+module _ (t D w : ℕ) (small : t * 512 ≤ D) (D-pos : 0 < D) where
+  line-below : w * (D * D) + 395790452196 * 268435456 * (t * t) ≤ 49570588694 * 4294967296 * (t * D) → TwoLe (w - 3888119808) 147573952589676412928 (D + t) D
+  line-below h = go (lt-or-ge w 3888119808)
+    where
+      p : ℕ
+      p = 1073741056 * (t * D) - 535822336 * (t * t)
+
+      ep : p + 535822336 * (t * t) ≡ 1073741056 * (t * D)
+      ep = omega (arith, mul-le-mul-left t small)
+
+      order : w * 195103586505168 * (1073741824 * (D * D)) ≤ p * 41538374868278621028243970633760768
+      order =
+          last (w * (D * D)) (t * D) (t * t) 41538374868278621028243970633760768
+          (scaled-le (w * (D * D)) (t * D) (t * t) (49570588694 * 4294967296) (395790452196 * 268435456) (1073741824 * 195103586505168) (1073741056 * 41538374868278621028243970633760768) (535822336 * 41538374868278621028243970633760768) h (lit≤ tt) (lit≤ tt))
+          ep (omega arith)
+        where
+          last : (U a b h : ℕ) → 1073741824 * 195103586505168 * U + 535822336 * h * b ≤ 1073741056 * h * a → p + 535822336 * b ≡ 1073741056 * a
+              → w * 195103586505168 * (1073741824 * (D * D)) ≡ 1073741824 * 195103586505168 * U → w * 195103586505168 * (1073741824 * (D * D)) ≤ p * h
+          last U a b h g e k = rw k (omega (arith, ap (λ (z : ℕ). z * h) e))
+
+      by-two : TwoLe w 147573952589676412928 (68719476736 * (D + t) + D) (68719476736 * D)
+      by-two = two-le-exp 195103586505168 281474976710656 w 147573952589676412928 (68719476736 * (D + t) + D) (68719476736 * D) (lit< tt) (lit< tt) ln2-ge
+          (le-below (w * 195103586505168) 41538374868278621028243970633760768 p (1073741824 * (D * D)) (68719476736 * (D + t) + D) (68719476736 * D) (lit< tt) (mul-pos (lit< tt) (mul-pos D-pos D-pos))
+          order (curve-le t D small D-pos p ep))
+
+      go : (w < 3888119808) ⊎ (3888119808 ≤ w) → TwoLe (w - 3888119808) 147573952589676412928 (D + t) D
+      go (inl l) = subst (λ (z : ℕ). TwoLe z 147573952589676412928 (D + t) D) (none l) (two-le-one 147573952589676412928 (D + t) D (omega arith))
+        where
+          none : w < 3888119808 → 0 ≡ w - 3888119808
+          none l = omega arith
+      go (inr l) =
+          two-le-weaken (w - 3888119808) 147573952589676412928 ((68719476736 * (D + t) + D) * 68719476736) (68719476736 * D * 68719476737) (D + t) D (mul-pos (mul-pos (lit< tt) D-pos) (lit< tt)) (flat t D)
+          (two-le-quot 147573952589676412928 (w - 3888119808) 3888119808 (68719476736 * (D + t) + D) (68719476736 * D) 68719476737 68719476736
+          (subst (λ (z : ℕ). TwoLe z 147573952589676412928 (68719476736 * (D + t) + D) (68719476736 * D)) (whole l) by-two) spare)
+        where
+          whole : 3888119808 ≤ w → w ≡ w - 3888119808 + 3888119808
+          whole l = omega arith
+
+          flat : (t D : ℕ) → (68719476736 * (D + t) + D) * 68719476736 * D ≤ (D + t) * (68719476736 * D * 68719476737)
+          flat t D = omega arith
+
+  line-above : 49570588694 * 4294967296 * (t * D) ≤ w * (D * D) + 395790452196 * 268435456 * (t * t) → TwoGe (w + 51539607552) 147573952589676412928 (D + t) D
+  line-above h =
+      let c = 4294967296 * (D + t) - D in
+      two-ge-weaken (w + 51539607552) 147573952589676412928 (c * 137438953505) (4294967296 * D * 137438953472) (D + t) D (mul-pos (mul-pos (lit< tt) D-pos) (lit< tt)) (covers t D c (omega arith))
+      (two-ge-mul 147573952589676412928 w 51539607552 c (4294967296 * D) 137438953505 137438953472
+      (two-ge-exp 195103586505167 281474976710656 w 147573952589676412928 c (4294967296 * D) (lit< tt) (lit< tt) ln2-le
+      (ge-above (w * 195103586505167) 41538374868278621028243970633760768 p (1073741824 * (D * D)) c (4294967296 * D) (lit< tt) (mul-pos (lit< tt) (mul-pos D-pos D-pos))
+      order (curve-ge t D small D-pos p ep)))
+      room)
+    where
+      p : ℕ
+      p = 1073741055 * (t * D) - 535822337 * (t * t)
+
+      ep : p + 535822337 * (t * t) ≡ 1073741055 * (t * D)
+      ep = omega (arith, mul-le-mul-left t small)
+
+      order : p * 41538374868278621028243970633760768 ≤ w * 195103586505167 * (1073741824 * (D * D))
+      order =
+          last (w * (D * D)) (t * D) (t * t) 41538374868278621028243970633760768
+          (scaled-ge (w * (D * D)) (t * D) (t * t) (49570588694 * 4294967296) (395790452196 * 268435456) (1073741824 * 195103586505167) (1073741055 * 41538374868278621028243970633760768) (535822337 * 41538374868278621028243970633760768) h (lit≤ tt) (lit≤ tt))
+          ep (omega arith)
+        where
+          last : (U a b h : ℕ) → 1073741055 * h * a ≤ 1073741824 * 195103586505167 * U + 535822337 * h * b → p + 535822337 * b ≡ 1073741055 * a
+              → w * 195103586505167 * (1073741824 * (D * D)) ≡ 1073741824 * 195103586505167 * U → p * h ≤ w * 195103586505167 * (1073741824 * (D * D))
+          last U a b h g e k = rw k (omega (arith, ap (λ (z : ℕ). z * h) e))
+
+-- ---- with the table: t below 2^26
+module _ (i t n D q : ℕ) (I : i < 512) (Small : t < 67108864) (en : n ≡ 512 + i) (eD : D ≡ n * 67108864) (lo : q * 16777216 ≤ t * t) (hi : t * t < (q + 1) * 16777216) where
+  D-pos : 0 < D
+  D-pos = omega arith
+
+  small-t : t * 512 ≤ D
+  small-t = omega arith
+
+  BI : (slope i * n ≤ 49570588694) × (49570588694 < (slope i + 1) * n)
+  BI = B-is i 0 n (n * 16384) I (lit< tt) en refl
+
+  CI : (curvature i * (n * n) ≤ 395790452196) × (395790452196 < (curvature i + 1) * (n * n))
+  CI = C-is i 0 n (n * 16384) I (lit< tt) en refl
+
+  below-start : (w : ℕ) → w + (curvature i + 1) * (q + 1) ≡ slope i * t * 64 → w * (D * D) + 395790452196 * 268435456 * (t * t) ≤ 49570588694 * 4294967296 * (t * D)
+  below-start w e = start (slope i) (curvature i) (BI .0) (CI .1) e
+    where
+      start : (B C : ℕ) → B * n ≤ 49570588694 → 395790452196 < (C + 1) * (n * n) → w + (C + 1) * (q + 1) ≡ B * t * 64
+          → w * (D * D) + 395790452196 * 268435456 * (t * t) ≤ 49570588694 * 4294967296 * (t * D)
+      start B C b c e =
+          let x : B * D * (t * D) ≤ 49570588694 * 67108864 * (t * D) = mul-le-mul-right (t * D) (by-n B b eD) in
+          let t1 : t * t ≤ (q + 1) * 16777216 = omega arith in
+          let y : 395790452196 * 4503599627370496 * (t * t) ≤ (C + 1) * (D * D) * ((q + 1) * 16777216) = mul-le-mul (by-nn C c eD) t1 in
+          last (w * (D * D)) (t * D * (B * D)) (t * D) (t * t) ((C + 1) * (D * D) * (q + 1)) (omega (arith, ap (λ (z : ℕ). z * (D * D)) e)) (omega arith) (omega arith)
+        where
+          by-n : (B : ℕ) → B * n ≤ 49570588694 → D ≡ n * 67108864 → B * D ≤ 49570588694 * 67108864
+          by-n B b e = rw e (omega arith)
+
+          by-nn : (C : ℕ) → 395790452196 < (C + 1) * (n * n) → D ≡ n * 67108864 → 395790452196 * 4503599627370496 ≤ (C + 1) * (D * D)
+          by-nn C c e = rw e (omega arith)
+
+          last : (U x a b y : ℕ) → U + y ≡ 64 * x → x ≤ 49570588694 * 67108864 * a → 395790452196 * 268435456 * b ≤ y → U + 395790452196 * 268435456 * b ≤ 49570588694 * 4294967296 * a
+          last U x a b y e h k = omega arith
+
+  above-start : (w : ℕ) → w + curvature i * q ≡ (slope i + 1) * t * 64 → 49570588694 * 4294967296 * (t * D) ≤ w * (D * D) + 395790452196 * 268435456 * (t * t)
+  above-start w e = start (slope i) (curvature i) (BI .1) (CI .0) e
+    where
+      start : (B C : ℕ) → 49570588694 < (B + 1) * n → C * (n * n) ≤ 395790452196 → w + C * q ≡ (B + 1) * t * 64
+          → 49570588694 * 4294967296 * (t * D) ≤ w * (D * D) + 395790452196 * 268435456 * (t * t)
+      start B C b c e =
+          let x : 49570588694 * 67108864 * (t * D) ≤ (B + 1) * D * (t * D) = mul-le-mul-right (t * D) (by-n B b eD) in
+          let y : C * (D * D) * (q * 16777216) ≤ 395790452196 * 4503599627370496 * (t * t) = mul-le-mul (by-nn C c eD) lo in
+          last (w * (D * D)) (t * D * ((B + 1) * D)) (t * D) (t * t) (C * (D * D) * q) (omega (arith, ap (λ (z : ℕ). z * (D * D)) e)) (omega arith) (omega arith)
+        where
+          by-n : (B : ℕ) → 49570588694 < (B + 1) * n → D ≡ n * 67108864 → 49570588694 * 67108864 ≤ (B + 1) * D
+          by-n B b e = rw e (omega arith)
+
+          by-nn : (C : ℕ) → C * (n * n) ≤ 395790452196 → D ≡ n * 67108864 → C * (D * D) ≤ 395790452196 * 4503599627370496
+          by-nn C c e = rw e (omega arith)
+
+          last : (U x a b y : ℕ) → U + y ≡ 64 * x → 49570588694 * 67108864 * a ≤ x → y ≤ 395790452196 * 268435456 * b → 49570588694 * 4294967296 * a ≤ U + 395790452196 * 268435456 * b
+          last U x a b y e h k = omega arith
+
+  q-le : q ≤ 268435456
+  q-le = go (mul-le-mul t1 t1)
+    where
+      t1 : t ≤ 67108864
+      t1 = omega arith
+
+      go : t * t ≤ 67108864 * 67108864 → q ≤ 268435456
+      go h = omega arith
+
+  -- the bend's part is the smaller, but at t = 0
+  curvature-lt : 0 < t → (curvature i + 1) * (q + 1) ≤ slope i * t * 64
+  curvature-lt T = go (curvature i) (slope i) (C-lt i 0 n (n * 16384) I (lit< tt) en refl) (B-gt i 0 n (n * 16384) I (lit< tt) en refl)
+    where
+      go : (C B : ℕ) → C < 2097152 → 48000000 < B → (C + 1) * (q + 1) ≤ B * t * 64
+      go C B c b =
+          let c1 : C + 1 ≤ 2097152 = omega arith in
+          let b1 : 48000000 ≤ B = omega arith in
+          let t1 : t ≤ 67108864 = omega arith in
+          let x : (C + 1) * (q + 1) ≤ 2097152 * (q + 1) = mul-le-mul-right (q + 1) c1 in
+          let y : 48000000 * t ≤ B * t = mul-le-mul-right t b1 in
+          let z : t * t ≤ 67108864 * t = mul-le-mul-right t t1 in
+          omega arith
+
+  curvature-le : curvature i * q ≤ slope i * t * 64
+  curvature-le = go (lt-or-ge 0 t)
+    where
+      zero-q : t ≤ 0 → q ≡ 0
+      zero-q h = last (mul-le-mul h h)
+        where
+          last : t * t ≤ 0 * 0 → q ≡ 0
+          last k = omega arith
+
+      go : (0 < t) ⊎ (t ≤ 0) → curvature i * q ≤ slope i * t * 64
+      go (inl h) = omega (arith, curvature-lt h)
+      go (inr h) = rw (zero-q h) (omega arith)
+
+  below-w : (w : ℕ) → w ≡ slope i * t * 64 - (curvature i + 1) * (q + 1) → TwoLe (w - 3888119808) 147573952589676412928 (D + t) D
+  below-w w e = line-below t D w small-t D-pos (go (lt-or-ge 0 t))
+    where
+      go : (0 < t) ⊎ (t ≤ 0) → w * (D * D) + 395790452196 * 268435456 * (t * t) ≤ 49570588694 * 4294967296 * (t * D)
+      go (inl h) = below-start w (omega (arith, curvature-lt h))
+      go (inr h) =
+          let t0 : t ≡ 0 = omega arith in
+          let w0 : w ≡ 0 = omega (arith, ap (λ (z : ℕ). slope i * z) t0) in
+          rw (w0, t0) (omega arith)
+
+  fine-is : fineLog2At i t ≡ (height i * 4294967296 + slope i + slope i * t * 64 - curvature i * (t * t / 16777216)) / 4294967296
+  unfolding fineLog2At
+  fine-is = refl
+
+  q-is : t * t / 16777216 ≡ q
+  q-is = omega arith
+
+  pub fine-below : TwoLe (fineLog2At i t + i * 67108864 - 8) 34359738368 (D + t) 34359738368
+  fine-below =
+      let A = height-rule i I in
+      let w = slope i * t * 64 - (curvature i + 1) * (q + 1) in
+      two-le-down 4294967296 (fineLog2At i t + i * 67108864 - 8) 34359738368 (D + t) 34359738368 (lit< tt)
+      (two-le-mono (4294967296 * (fineLog2At i t + i * 67108864 - 8)) (4294967296 * (height i - 7 + i * 67108864) + (w - 3888119808)) 147573952589676412928 (D + t) 34359738368
+      (sums (fineLog2At i t) (height i) (slope i) (curvature i) (fine-is ∙ ap (λ (z : ℕ). (height i * 4294967296 + slope i + slope i * t * 64 - curvature i * z) / 4294967296) q-is) (A .low) (B-lt i 0 n (n * 16384) I (lit< tt) en refl) (C-lt i 0 n (n * 16384) I (lit< tt) en refl) q-le)
+      (two-le-weaken (4294967296 * (height i - 7 + i * 67108864) + (w - 3888119808)) 147573952589676412928 ((512 + i) * (D + t)) (512 * D) (D + t) 34359738368 (mul-pos (lit< tt) D-pos) (omega (arith, ap (λ (z : ℕ). z * (D + t)) en, ap (λ (z : ℕ). z * (D + t)) eD))
+      (two-le-mul 147573952589676412928 (4294967296 * (height i - 7 + i * 67108864)) (w - 3888119808) (512 + i) 512 (D + t) D
+      (two-le-up 4294967296 (height i - 7 + i * 67108864) 34359738368 (512 + i) 512 (A .below)) (below-w w refl))))
+    where
+      sums : (F A B C : ℕ) → F ≡ (A * 4294967296 + B + B * t * 64 - C * q) / 4294967296 → 7 ≤ A → B < 134217728 → C < 2097152 → q ≤ 268435456
+          → 4294967296 * (F + i * 67108864 - 8) ≤ 4294967296 * (A - 7 + i * 67108864) + (B * t * 64 - (C + 1) * (q + 1) - 3888119808)
+      sums F A B C e l b c k = omega arith
+
+  pub fine-above : TwoGe (fineLog2At i t + i * 67108864 + 8) 34359738368 (D + t) 34359738368
+  fine-above =
+      let A = height-rule i I in
+      let w = (slope i + 1) * t * 64 - curvature i * q in
+      let ew : w + curvature i * q ≡ (slope i + 1) * t * 64 = omega (arith, curvature-le) in
+      two-ge-down 4294967296 (fineLog2At i t + i * 67108864 + 8) 34359738368 (D + t) 34359738368 (lit< tt)
+      (two-ge-mono (4294967296 * (height i - 7 + i * 67108864 + 1) + (w + 51539607552)) (4294967296 * (fineLog2At i t + i * 67108864 + 8)) 147573952589676412928 (D + t) 34359738368
+      (sums (fineLog2At i t) (height i) (slope i) (curvature i) (fine-is ∙ ap (λ (z : ℕ). (height i * 4294967296 + slope i + slope i * t * 64 - curvature i * z) / 4294967296) q-is) (A .low) w ew)
+      (two-ge-weaken (4294967296 * (height i - 7 + i * 67108864 + 1) + (w + 51539607552)) 147573952589676412928 ((512 + i) * (D + t)) (512 * D) (D + t) 34359738368 (mul-pos (lit< tt) D-pos) (omega (arith, ap (λ (z : ℕ). z * (D + t)) en, ap (λ (z : ℕ). z * (D + t)) eD))
+      (two-ge-mul 147573952589676412928 (4294967296 * (height i - 7 + i * 67108864 + 1)) (w + 51539607552) (512 + i) 512 (D + t) D
+      (two-ge-up 4294967296 (height i - 7 + i * 67108864 + 1) 34359738368 (512 + i) 512 (A .above)) (line-above t D w small-t D-pos (above-start w ew)))))
+    where
+      sums : (F A B C : ℕ) → F ≡ (A * 4294967296 + B + B * t * 64 - C * q) / 4294967296 → 7 ≤ A → (w : ℕ) → w + C * q ≡ (B + 1) * t * 64
+          → 4294967296 * (A - 7 + i * 67108864 + 1) + (w + 51539607552) ≤ 4294967296 * (F + i * 67108864 + 8)
+      sums F A B C e l w k = omega arith
+
+-- ---- for the code
+pub record FineFits (w e i t : ℕ) : Type 0 where
+  pub product : w % 4294967296 * (t * 64) ≤ 1152921504606846976
+  pub sum : w + w % 4294967296 * (t * 64) ≤ 18446744073709551615
+  pub square : t * t ≤ 4503599627370496
+  pub bent : e % 4294967296 * (t * t / 16777216) ≤ 1152921504606846976
+  pub less : e % 4294967296 * (t * t / 16777216) ≤ w + w % 4294967296 * (t * 64)
+  pub is : (w + w % 4294967296 * (t * 64) - e % 4294967296 * (t * t / 16777216)) / 4294967296 ≡ fineLog2At i t
+
+line-is : (i : ℕ) → lineWord i ≡ height i * 4294967296 + slope i
+unfolding lineWord
+line-is i = refl
+
+pub fine-fits : (w e i t : ℕ) → i < 512 → t < 67108864 → w ≡ lineWord i → e ≡ curvature i → FineFits w e i t
+fine-fits w e i t I X ew ee =
+    let q = t * t / 16777216 in
+    let f = floor (t * t) 16777216 (lit< tt) in
+    go (height i) (slope i) (curvature i) q (ew ∙ line-is i) ee (height-rule i I .high) (B-lt i 0 (512 + i) ((512 + i) * 16384) I (lit< tt) refl refl) (C-lt i 0 (512 + i) ((512 + i) * 16384) I (lit< tt) refl refl)
+    (curvature-le i t (512 + i) ((512 + i) * 67108864) q I X refl refl (f .0) (f .1)) (q-le i t (512 + i) ((512 + i) * 67108864) q I X refl refl (f .0) (f .1)) refl (fine-is i t (512 + i) ((512 + i) * 67108864) q I X refl refl (f .0) (f .1))
+  where
+    go : (A B C q : ℕ) → w ≡ A * 4294967296 + B → e ≡ C → A ≤ 3221225471 → B < 134217728 → C < 2097152 → C * q ≤ B * t * 64 → q ≤ 268435456 → t * t / 16777216 ≡ q
+        → fineLog2At i t ≡ (A * 4294967296 + B + B * t * 64 - C * (t * t / 16777216)) / 4294967296 → FineFits w e i t
+    go A B C q ew ee a b c h k eq d =
+        let lower : w % 4294967296 ≡ B = omega arith in
+        let bend′ : e % 4294967296 ≡ C = omega arith in
+        let t1 : t ≤ 67108864 = omega arith in
+        let b1 : B ≤ 134217728 = omega arith in
+        let c1 : C ≤ 2097152 = omega arith in
+        let bt : B * t ≤ 134217728 * 67108864 = mul-le-mul b1 t1 in
+        let cq : C * q ≤ 2097152 * 268435456 = mul-le-mul c1 k in
+        record {
+          product = rw lower (omega arith);
+          sum = rw lower (omega arith);
+          square = mul-le-mul t1 t1;
+          bent = rw (bend′, eq) (omega arith);
+          less = rw (lower, bend′, eq) (omega arith);
+          is = rw (lower, bend′, d, eq) (ap (λ (z : ℕ). z / 4294967296) (same A B (C * q) w ew));
+        }
+      where
+        same : (A B y w : ℕ) → w ≡ A * 4294967296 + B → w + B * (t * 64) - y ≡ A * 4294967296 + B + B * t * 64 - y
+        same A B y w e = omega arith
