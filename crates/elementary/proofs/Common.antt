@@ -26,6 +26,11 @@ pub equals-itself : (x : Float) → eq x x ≡ true → T (not (isNan x))
 unfolding ne
 equals-itself x h = is-number x (ap not h)
 
+-- what differs from itself
+pub unequal : (x : Float) → eq x x ≡ false → x ≡ nan
+unfolding ne
+unequal x h = is-nan x (ap not h)
+
 -- NaN's own pattern is above the infinity's
 pub number-of-bits : (x : Float) → toBits binary32 x % 2147483648 ≤ 2139095040 → T (not (isNan x))
 unfolding isNan toBits

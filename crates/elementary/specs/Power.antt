@@ -90,12 +90,11 @@ unfoldable pub fineArg : ℕ → ℕ → ℕ
 unfolding absDiff signedArg
 fineArg l c = signedArg (159 * 2 ^ 35) l c ((c % 2 ^ 23 + 2 ^ 23) * absDiff l (159 * 2 ^ 35) / 2 ^ 13)
 
--- x^(2^k) in units of 2^-60, where |y| / 2^k is from 64 to 128; 0 where it is below 1/4, 2^62 where it is 4 or more.
+-- x^(2^k) in units of 2^-60, from the normalized pattern p of x, where |y| / 2^k is from 64 to 128; 0 where it is below 1/4, 2^62 where it is 4 or more.
 -- (From |y| = 2^31 on it is one or the other for every x but 1.)
 unfoldable pub squared : ℕ → ℕ → ℕ
-unfolding normalized squares
-squared b c =
-    let p = normalized b in
+unfolding squares
+squared p c =
     let k = c % 2 ^ 31 / 2 ^ 23 - 133 in
     cond (ltb p (157 * 2 ^ 23)) 0
     (cond (ltb p (161 * 2 ^ 23)) (cond (ltb 24 k) (cond (ltb p (159 * 2 ^ 23)) 0 (2 ^ 62)) (squares k ((2 ^ 23 + p % 2 ^ 23) * 2 ^ (p / 2 ^ 23 - 122))))
@@ -107,12 +106,12 @@ largeArg x c =
     cond (ltb x (2 ^ 58)) (cond (ltb c (2 ^ 31)) 0 (2 ^ 56))
     (cond (ltb x (2 ^ 62)) (fineArg (fineLog2 x) c) (cond (ltb c (2 ^ 31)) (2 ^ 56) 0))
 
--- for x other than 1
+-- x^y for |y| above 128 and x other than 1
 unfoldable pub largeBits : ℕ → ℕ → ℕ
-unfolding squared largeArg exp2Bits
-largeBits b c = exp2Bits (largeArg (squared b c) c)
+unfolding normalized squared largeArg exp2Bits
+largeBits b c = exp2Bits (largeArg (squared (normalized b) c) c)
 
--- ---- any finite y: 1^y = 1
+-- ---- any finite y; 0x43000000 is the bit pattern of 128, 0x3F800000 that of 1
 unfoldable pub powBits : ℕ → ℕ → ℕ
 unfolding nearBits largeBits
-powBits b c = cond (eqb b 0x3F800000) 0x3F800000 (cond (ltb (c % 2 ^ 31) 0x43000001) (nearBits b c) (largeBits b c))
+powBits b c = cond (ltb (c % 2 ^ 31) 0x43000001) (nearBits b c) (cond (eqb b 0x3F800000) 0x3F800000 (largeBits b c))

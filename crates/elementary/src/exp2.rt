@@ -16,7 +16,7 @@ fn exp2m1(r: u64) -> u64
 }
 
 // 2^(z / 2^39 % 1) and half a step, less the straight line, in units of 2^-63, from the word w of z.
-fn digits_by(w: u64, z: u64) -> u64
+pub(crate) fn digits_by(w: u64, z: u64) -> u64
     requires { ⌜ w ≡ powerWord (z / 2 ^ 32 % 128) ⌝ }
     ensures { λ d. ⌜ d + z / 2 ^ 32 % 128 * 2 ^ 56 ≡ exp2Of (z % 2 ^ 39) + 2 ^ 39 ⌝ }
 {
@@ -32,7 +32,7 @@ fn normal(q: u64, d: u64) -> u32
 }
 
 // 2^(z / 2^39 - 2^16 - 126), of the digits d. The last test is the cut to 0.
-fn ranged(z: u64, d: u64) -> f32
+pub(crate) fn ranged(z: u64, d: u64) -> f32
     requires { ⌜ d + z / 2 ^ 32 % 128 * 2 ^ 56 ≡ exp2Of (z % 2 ^ 39) + 2 ^ 39 ⌝ }
     ensures { λ r. ⌜ r ≡ ofBits binary32 (exp2Bits z) ⌝ }
 {

@@ -3,7 +3,7 @@ ghost use mathlib.Core.Path.{_≡_};
 ghost use Prim.Native.Nat.{_*_, _/_, _%_, _+_, _^_, _<_, _≤_};
 ghost use lib.Ieee.{binary32, ofBits};
 ghost use Rattle.power_tables.specs.Tables.{lineWord, curvature};
-ghost use Rattle.elementary.specs.Power.{fineLog2At, fineLog2, fineArg, largeArg, largeBits};
+ghost use Rattle.elementary.specs.Power.{exp2Bits, fineLog2At, fineLog2, fineArg, largeArg, largeBits};
 ghost use Rattle.elementary.specs.Power as Power;
 
 // x x / 2^60, in 64 bits.
@@ -49,6 +49,16 @@ fn fine_log2_by(line: u64, bend: u64, i: u64, t: u64) -> u64
     (line + line % 4294967296 * (t * 64) - bend % 4294967296 * (t * t / 16777216)) / 4294967296
 }
 
+// The same with the interval's height from its table, and its slope and curvature by division.
+fn fine_log2_at(i: u64, t: u64) -> u64
+    requires { ⌜ (i < 512) × (t < 2 ^ 26) ⌝ }
+    ensures { λ r. ⌜ (r ≡ fineLog2At i t) × (r ≤ 2 ^ 32) ⌝ }
+{
+    let n = 512 + i;
+    let line = power_tables::large_height_at(i) * 4294967296 + 49570588694 / n;
+    fine_log2_by(line, 395790452196 / (n * n), i, t)
+}
+
 // log2 x + 159 in units of 2^-35, for x in units of 2^-60.
 fn fine_log2(x: u64) -> u64
     requires { ⌜ (2 ^ 58 ≤ x) × (x < 2 ^ 62) ⌝ }
@@ -57,8 +67,7 @@ fn fine_log2(x: u64) -> u64
     let z = u64::leading_zeros(x);
     let y = (x << z) / 268435456;
     let i = y / 67108864 - 512;
-    let e = power_tables::interval_at(i);
-    let f = fine_log2_by(e.0, e.1, i, y % 67108864);
+    let f = fine_log2_at(i, y % 67108864);
     ((162 - z) as u64) * 34359738368 + (f + i * 67108864)
 }
 
@@ -71,12 +80,11 @@ fn fine_arg(l: u64, c: u32) -> u64
     super::power::signed_arg(5463198400512, l, c, u)
 }
 
-// x^(2^k) in units of 2^-60, where |y| / 2^k is from 64 to 128; 0 where it is below 1/4, 2^62 where it is 4 or more.
-fn squared(b: u32, c: u32) -> u64
-    requires { ⌜ (0 < b) × (b < 0x7F800000) × (0x43000000 < c % 0x80000000) ⌝ }
-    ensures { λ r. ⌜ r ≡ Power.squared b c ⌝ }
+// x^(2^k) in units of 2^-60, from the normalized pattern of x, where |y| / 2^k is from 64 to 128; 0 where it is below 1/4, 2^62 where it is 4 or more.
+fn squared(p: u32, c: u32) -> u64
+    requires { ⌜ 0x43000000 < c % 2 ^ 31 ⌝ }
+    ensures { λ r. ⌜ r ≡ Power.squared p c ⌝ }
 {
-    let p = super::power::normalized(b);
     let k = c % 0x80000000 / 8388608 - 133;
     if p < 1317011456 {
         return 0;
@@ -112,11 +120,19 @@ fn large_arg(x: u64, c: u32) -> u64
     0
 }
 
+// 2^(z / 2^39 - 2^16 - 126), by the powers' other table.
+fn large_value(z: u64) -> f32
+    ensures { λ r. ⌜ r ≡ ofBits binary32 (exp2Bits z) ⌝ }
+{
+    let w = power_tables::large_power_at(z / 4294967296);
+    super::exp2::ranged(z, super::exp2::digits_by(w, z))
+}
+
+// x^y from the bit patterns, for x other than 1.
 pub(crate) fn large_pow(b: u32, c: u32) -> f32
-    requires { ⌜ (0 < b) × (b < 0x7F800000) × (0x43000000 < c % 0x80000000) ⌝ }
+    requires { ⌜ (0 < b) × (b < 0x7F800000) × (0x43000000 < c % 2 ^ 31) ⌝ }
     ensures { λ r. ⌜ r ≡ ofBits binary32 (largeBits b c) ⌝ }
 {
-    let x = squared(b, c);
-    let z = large_arg(x, c);
-    super::exp2::value_of(z, false)
+    let x = squared(super::power::normalized(b), c);
+    large_value(large_arg(x, c))
 }

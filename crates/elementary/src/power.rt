@@ -1,11 +1,12 @@
-// x^y = 2^(y log2 x) for a finite x above 0 and a finite y.
+// x^y = 2^(y log2 x) for a finite x above 0 and |y| up to 128.
 ghost use mathlib.Core.Path.{_≡_};
-ghost use mathlib.Core.Bool.{true, cond};
+ghost use mathlib.Core.Bool.{true, not, cond};
 ghost use Prim.Native.Nat.{_*_, _/_, _%_, _+_, _-_, _^_, _<_, _≤_};
-ghost use lib.Ieee.{binary32, ofBits};
-ghost use Rattle.elementary.specs.Power.{absDiff, product, signedArg, nearBits, powBits};
+ghost use lib.Dec.{ltb};
+ghost use lib.Ieee.{binary32, ofBits, unlike};
+ghost use Rattle.elementary.specs.Power.{absDiff, product, signedArg, nearBits};
 ghost use Rattle.elementary.specs.Power as Power;
-ghost use Rattle.elementary.specs.Quick.{Quick, ArgAsked, ArgIs};
+ghost use Rattle.elementary.specs.Quick.{Near, Quick, ArgAsked, ArgIs};
 
 // The pattern of x with 2^23 for each power of two, also below 2^-126; that of 1 is 159 2^23.
 pub(crate) fn normalized(b: u32) -> u32
@@ -28,21 +29,25 @@ pub(crate) fn abs_diff(l: u64, n: u64) -> u64
     l - n
 }
 
+// Whether y log2 x is below 0, where l is log2 x + n.
+fn is_negative(n: u64, l: u64, c: u32) -> bool
+    ensures { λ r. ⌜ r ≡ unlike (ltb l n) (not (ltb c (2 ^ 31))) ⌝ }
+{
+    if l < n {
+        return c < 0x80000000;
+    }
+    0x80000000 <= c
+}
+
 // (2^16 + 126) 2^39 and u, which is taken away where y log2 x is below 0.
 pub(crate) fn signed_arg(n: u64, l: u64, c: u32, u: u64) -> u64
     requires { ⌜ u ≤ (2 ^ 16 + 126) * 2 ^ 39 ⌝ }
     ensures { λ r. ⌜ r ≡ signedArg n l c u ⌝ }
 {
-    if l < n {
-        if c < 0x80000000 {
-            return 36098066251513856 - u;
-        }
-        return 36098066251513856 + u;
+    if is_negative(n, l, c) {
+        return 36098066251513856 - u;
     }
-    if c < 0x80000000 {
-        return 36098066251513856 + u;
-    }
-    36098066251513856 - u
+    36098066251513856 + u
 }
 
 // |y log2 x| in units of 2^-39, for |log2 x| in units of 2^-32 and |y| with the bit pattern a up to 128; 0 below 2^-47.
@@ -76,7 +81,7 @@ pub(crate) fn quick_arg(l: u64, m: u32, s: u32) -> u64
 }
 
 // Whether x is from 1 to 2^32 and y from -2 to -2^-31: two differences, each below 2^28.
-fn is_quick(b: u32, c: u32) -> bool
+pub(crate) fn is_quick(b: u32, c: u32) -> bool
     ensures { λ r. ⌜ (r ≡ true → Quick b c) ⌝ }
 {
     std::num::wrapping_sub_u32(b, 0x3F800000) / 0x10000000
@@ -100,26 +105,13 @@ fn arg_of(l: u64, c: u32, quick: bool) -> u64
     )
 }
 
-// |y| up to 128. The arm of the usual arguments is a flag, so that each table has one caller.
-fn near_pow(b: u32, c: u32, quick: bool) -> f32
-    requires { ⌜ (0 < b) × (b < 0x7F800000) × (c % 0x80000000 ≤ 0x43000000) × (quick ≡ true → Quick b c) ⌝ }
+// x^y from the bit patterns. The quick arm is a flag, so that each table has one caller.
+pub(crate) fn near_pow(b: u32, c: u32, quick: bool) -> f32
+    requires { ⌜ Near b c × (quick ≡ true → Quick b c) ⌝ }
     ensures { λ r. ⌜ r ≡ ofBits binary32 (nearBits b c) ⌝ }
 {
     let p = pattern_of(b, quick);
     let l = super::log2::log2_of(p);
     let z = arg_of(l, c, quick);
     super::exp2::value_of(z, quick)
-}
-
-pub(crate) fn pow_at(b: u32, c: u32) -> f32
-    requires { ⌜ (0 < b) × (b < 0x7F800000) ⌝ }
-    ensures { λ r. ⌜ r ≡ ofBits binary32 (powBits b c) ⌝ }
-{
-    if b == 0x3F800000 {
-        return f32::from_bits(0x3F800000);
-    }
-    if c % 0x80000000 < 0x43000001 {
-        return near_pow(b, c, is_quick(b, c));
-    }
-    super::large::large_pow(b, c)
 }

@@ -1,8 +1,12 @@
-// powf: x^y of a finite x above 0 and a finite y (power.rt), and the special cases, as in the definition.
+// powf: x^y of a finite x above 0 and a finite y (power.rt, large.rt), and the special cases, as in the definition.
 ghost use mathlib.Core.Path.{_≡_};
-ghost use Prim.Native.Nat.{_%_, _<_, _≤_};
+ghost use mathlib.Core.Bool.{true, false, not};
+ghost use Prim.Native.Nat.{_%_, _^_, _<_, _≤_};
+ghost use lib.Dec.{T};
+ghost use lib.Ieee.{nan, isNan};
 ghost use Rattle.elementary.specs.Pow.{isOdd, zeroSize, zeroBits, infBits, toInfBits, numBits, powAt, powOf};
 ghost use Rattle.elementary.specs.Accuracy.{IsPow};
+ghost use Rattle.elementary.specs.Quick.{Near, Quick, Special};
 
 // Whether |y| with the bit pattern a is an odd whole number.
 fn is_odd(a: u32) -> bool
@@ -75,7 +79,7 @@ fn special_bits(b: u32, c: u32) -> u32
 
 // All of these, with x^0, 1^y and x below 0.
 fn special(b: u32, c: u32) -> f32
-    requires { ⌜ (b % 0x80000000 ≤ 0x7F800000) × (c % 0x80000000 ≤ 0x7F800000) × (0 < b → b < 0x7F800000 → 0x7F800000 ≤ c % 0x80000000) ⌝ }
+    requires { ⌜ Special b c ⌝ }
     ensures { λ r. ⌜ r ≡ powAt b c ⌝ }
 {
     if c % 0x80000000 == 0 {
@@ -90,10 +94,55 @@ fn special(b: u32, c: u32) -> f32
     f32::from_bits(special_bits(b, c))
 }
 
-#[no_mangle]
-pub extern "C" fn powf_f32(x: f32, y: f32) -> f32
-    ensures value { λ r. ⌜ r ≡ powOf x y ⌝ }
-    ensures bound { λ r. ⌜ IsPow x y r ⌝ }
+// Whether x is finite and above 0 and |y| up to 128: as a value, so that the powers have one caller.
+fn is_near(b: u32, c: u32, quick: bool) -> bool
+    requires { ⌜ (quick ≡ true → Quick b c) ⌝ }
+    ensures { λ r. ⌜ (r ≡ true → Near b c) × (r ≡ false → Near b c → ⊥) ⌝ }
+{
+    if quick {
+        return true;
+    }
+    if 0 < b {
+        if b < 0x7F800000 {
+            return c % 0x80000000 < 0x43000001;
+        }
+    }
+    false
+}
+
+// A large exponent, or a special case.
+fn not_near(b: u32, c: u32) -> f32
+    requires { ⌜ (b % 2 ^ 31 ≤ 0x7F800000) × (c % 2 ^ 31 ≤ 0x7F800000) × (Near b c → ⊥) ⌝ }
+    ensures { λ r. ⌜ r ≡ powAt b c ⌝ }
+{
+    if 0 < b {
+        if b < 0x7F800000 {
+            if c % 0x80000000 < 0x7F800000 {
+                if b != 0x3F800000 {
+                    return super::large::large_pow(b, c);
+                }
+            }
+        }
+    }
+    special(b, c)
+}
+
+// Two numbers, by their bit patterns.
+fn of_numbers(b: u32, c: u32) -> f32
+    requires { ⌜ (b % 2 ^ 31 ≤ 0x7F800000) × (c % 2 ^ 31 ≤ 0x7F800000) ⌝ }
+    ensures { λ r. ⌜ r ≡ powAt b c ⌝ }
+{
+    let quick = super::power::is_quick(b, c);
+    if is_near(b, c, quick) {
+        return super::power::near_pow(b, c, quick);
+    }
+    not_near(b, c)
+}
+
+// x or y is a NaN.
+fn of_nan(x: f32, y: f32) -> f32
+    requires { ⌜ (T (not (isNan y)) → x ≡ nan) ⌝ }
+    ensures { λ r. ⌜ r ≡ powOf x y ⌝ }
 {
     if y != y {
         if x != x {
@@ -104,20 +153,21 @@ pub extern "C" fn powf_f32(x: f32, y: f32) -> f32
         }
         return y;
     }
-    if x != x {
-        if f32::to_bits(y) % 0x80000000 == 0 {
-            return f32::from_bits(0x3F800000);
-        }
-        return x;
+    if f32::to_bits(y) % 0x80000000 == 0 {
+        return f32::from_bits(0x3F800000);
     }
-    let b = f32::to_bits(x);
-    let c = f32::to_bits(y);
-    if 0 < b {
-        if b < 0x7F800000 {
-            if c % 0x80000000 < 0x7F800000 {
-                return super::power::pow_at(b, c);
-            }
+    x
+}
+
+#[no_mangle]
+pub extern "C" fn powf_f32(x: f32, y: f32) -> f32
+    ensures value { λ r. ⌜ r ≡ powOf x y ⌝ }
+    ensures bound { λ r. ⌜ IsPow x y r ⌝ }
+{
+    if x == x {
+        if y == y {
+            return of_numbers(f32::to_bits(x), f32::to_bits(y));
         }
     }
-    special(b, c)
+    of_nan(x, y)
 }

@@ -6,32 +6,29 @@ use native.Mathlib.Nat.{le-trans}
 use native.Mathlib.Omega.{arith}
 use borrow.Author.Tests.{lt-ltb, le-ltb}
 use lib.Dec.{ltb, lit≤}
-use Rattle.elementary.specs.Power.{normalized, squares, fineLog2, fineArg, squared, largeArg}
+use Rattle.elementary.specs.Power.{squares, fineLog2, fineArg, squared, largeArg}
 
-module _ (b c : ℕ) where
-  abbrev p : ℕ
-  p = normalized b
-
+module _ (p c : ℕ) where
   abbrev k : ℕ
   k = c % 2147483648 / 8388608 - 133
 
-  pub squared-1 : p < 1317011456 → squared b c ≡ 0
+  pub squared-1 : p < 1317011456 → squared p c ≡ 0
   unfolding squared
   squared-1 i = simp (lt-ltb p 1317011456 i)
 
-  pub squared-2 : 1317011456 ≤ p → p < 1350565888 → k ≤ 24 → squared b c ≡ squares k ((8388608 + p % 8388608) * 2 ^ (p / 8388608 - 122))
+  pub squared-2 : 1317011456 ≤ p → p < 1350565888 → k ≤ 24 → squared p c ≡ squares k ((8388608 + p % 8388608) * 2 ^ (p / 8388608 - 122))
   unfolding squared
   squared-2 i j m = simp (le-ltb p 1317011456 i, lt-ltb p 1350565888 j, le-ltb 24 k m)
 
-  pub squared-3 : 1317011456 ≤ p → p < 1333788672 → 24 < k → squared b c ≡ 0
+  pub squared-3 : 1317011456 ≤ p → p < 1333788672 → 24 < k → squared p c ≡ 0
   unfolding squared
   squared-3 i j m = simp (le-ltb p 1317011456 i, lt-ltb p 1350565888 (omega arith), lt-ltb 24 k m, lt-ltb p 1333788672 j)
 
-  pub squared-4 : 1333788672 ≤ p → p < 1350565888 → 24 < k → squared b c ≡ 4611686018427387904
+  pub squared-4 : 1333788672 ≤ p → p < 1350565888 → 24 < k → squared p c ≡ 4611686018427387904
   unfolding squared
   squared-4 i j m = simp (le-ltb p 1317011456 (le-trans (lit≤ tt) i), lt-ltb p 1350565888 j, lt-ltb 24 k m, le-ltb p 1333788672 i)
 
-  pub squared-5 : 1350565888 ≤ p → squared b c ≡ 4611686018427387904
+  pub squared-5 : 1350565888 ≤ p → squared p c ≡ 4611686018427387904
   unfolding squared
   squared-5 i = simp (le-ltb p 1317011456 (le-trans (lit≤ tt) i), le-ltb p 1350565888 i)
 

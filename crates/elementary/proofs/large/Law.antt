@@ -303,17 +303,17 @@ module _ (x y : Float) (b c : ℕ) (ex : x ≡ ofBits binary32 b) (ey : y ≡ of
           more (inr j) = over-two (p / 8388608) (8388608 + p % 8388608) (num x) (den x) j (omega arith) x-is
 
       go : (p < 1317011456) ⊎ (1317011456 ≤ p) → (p < 1350565888) ⊎ (1350565888 ≤ p) → (24 < k) ⊎ (k ≤ 24) → (p < 1333788672) ⊎ (1333788672 ≤ p)
-          → Shown x y (ofBits binary32 (exp2Bits (largeArg (squared b c) c)))
-      go (inl i) _ _ _ = rw (squared-1 b c i) (small-zero 0 (omega arith) (rw (one (num x), one (den x)) (last (num x) (den x) (quarter (p / 8388608) (8388608 + p % 8388608) (num x) (den x) (omega arith) (omega arith) x-is))))
+          → Shown x y (ofBits binary32 (exp2Bits (largeArg (squared p c) c)))
+      go (inl i) _ _ _ = rw (squared-1 p c i) (small-zero 0 (omega arith) (rw (one (num x), one (den x)) (last (num x) (den x) (quarter (p / 8388608) (8388608 + p % 8388608) (num x) (den x) (omega arith) (omega arith) x-is))))
         where
           last : (u w : ℕ) → u * 4 ≤ w → u * 4294967296 ≤ w * 1073741825
           last u w h = omega arith
-      go (inr i) (inr j) _ _ = rw (squared-5 b c j) (large-four 0 (omega arith) (rw (one (num x), one (den x)) (four (p / 8388608) (8388608 + p % 8388608) (num x) (den x) (omega arith) (omega arith) x-is)))
-      go (inr i) (inl j) (inl m) (inl o) = rw (squared-3 b c i o m) (small-zero 25 m (low-25 i o))
-      go (inr i) (inl j) (inl m) (inr o) = rw (squared-4 b c o j m) (large-four 25 m (high-25 (above-one o)))
+      go (inr i) (inr j) _ _ = rw (squared-5 p c j) (large-four 0 (omega arith) (rw (one (num x), one (den x)) (four (p / 8388608) (8388608 + p % 8388608) (num x) (den x) (omega arith) (omega arith) x-is)))
+      go (inr i) (inl j) (inl m) (inl o) = rw (squared-3 p c i o m) (small-zero 25 m (low-25 i o))
+      go (inr i) (inl j) (inl m) (inr o) = rw (squared-4 p c o j m) (large-four 25 m (high-25 (above-one o)))
       go (inr i) (inl j) (inr m) _ =
           let r = start-range (p / 8388608) (8388608 + p % 8388608) (omega arith) (omega arith) (omega arith) (omega arith) in
-          rw (squared-2 b c i j m)
+          rw (squared-2 p c i j m)
           (outcome (squares k ((8388608 + p % 8388608) * 2 ^ (p / 8388608 - 122))) m
           (subst (λ (z : ℕ). Result (num x) (den x) z (squares k ((8388608 + p % 8388608) * 2 ^ (p / 8388608 - 122)))) (zero-add k)
           (run (num x) (den x) k 0 ((8388608 + p % 8388608) * 2 ^ (p / 8388608 - 122)) (omega arith)

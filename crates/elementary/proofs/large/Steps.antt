@@ -50,6 +50,6 @@ yes c u v h = simp (lt-ltb c 2147483648 h)
 pub no′ : (c u v : ℕ) → 2147483648 ≤ c → cond (ltb c 2147483648) u v ≡ v
 no′ c u v h = simp (le-ltb c 2147483648 h)
 
-pub far-from : (b c x z : ℕ) → x ≡ squared b c → z ≡ largeArg x c → exp2Bits z ≡ largeBits b c
+pub large-from : (b c p x z : ℕ) → p ≡ normalized b → x ≡ squared p c → z ≡ largeArg x c → exp2Bits z ≡ largeBits b c
 unfolding largeBits
-far-from b c x z ex ez = ap exp2Bits (ez ∙ ap (λ (v : ℕ). largeArg v c) ex)
+large-from b c p x z ep ex ez = ap exp2Bits (ez ∙ ap (λ (v : ℕ). largeArg v c) (ex ∙ ap (λ (v : ℕ). squared v c) ep))

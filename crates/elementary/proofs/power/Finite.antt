@@ -4,8 +4,9 @@ use mathlib.Core.Logic.{_⊎_, inl, inr}
 use mathlib.Core.Bool.{Bool, true, false, cond}
 use Prim.Native.Nat.{ℕ, zero, suc, _+_, _-_, _*_, _%_, _^_, _≤_, _<_}
 use native.Mathlib.Nat.{le-trans, le-of-eq, not-le-of-lt, mul-le-mul-right, mul-le-mul-left, pow-le-pow-left}
+use native.Mathlib.Decide.{ℕ-discrete}
 use native.Mathlib.Omega.{arith}
-use borrow.Author.Tests.{lt-ltb, le-ltb, eq-eqb}
+use borrow.Author.Tests.{lt-ltb, le-ltb, eq-eqb, ne-eqb}
 use lib.Dec.{T, ltb, eqb, eqb→eq, eqb-refl, lit<, lit≤}
 use lib.Ieee.{Float, binary32, ofBits, toBits, fits}
 use lib.Ieee.Bits.{ofBits-toBits, toBits-lt}
@@ -19,7 +20,7 @@ use Rattle.elementary.specs.Accuracy.{signOf, RatioGe, RatioLe, PowGe, P
 use Rattle.elementary.proofs.power.Shown.{Shown}
 use Rattle.elementary.proofs.exp2.Words.{exp2-le}
 use Rattle.elementary.proofs.power.Law.{near-law}
-use Rattle.elementary.proofs.power.Steps.{to-zero}
+use Rattle.elementary.proofs.power.Steps.{near-one, near-to-zero}
 use Rattle.elementary.proofs.large.Law.{large-law}
 
 -- ---- 1^y
@@ -89,56 +90,52 @@ module _ (y : Float) where
   }
 
 -- ---- all
-pub is-one : (b c : ℕ) → eqb b 1065353216 ≡ true → powBits b c ≡ 1065353216
+pub is-near : (b c : ℕ) → c % 2147483648 < 1124073473 → powBits b c ≡ nearBits b c
 unfolding powBits
-is-one b c e = simp e
+is-near b c h = simp (lt-ltb (c % 2147483648) 1124073473 h)
 
-pub is-near : (b c : ℕ) → eqb b 1065353216 ≡ false → c % 2147483648 < 1124073473 → powBits b c ≡ nearBits b c
+is-one : (b c : ℕ) → 1124073473 ≤ c % 2147483648 → b ≡ 1065353216 → powBits b c ≡ 1065353216
 unfolding powBits
-is-near b c e h = simp (e, lt-ltb (c % 2147483648) 1124073473 h)
+is-one b c h e = simp (le-ltb (c % 2147483648) 1124073473 h, eq-eqb b 1065353216 e)
 
-pub is-large : (b c : ℕ) → eqb b 1065353216 ≡ false → 1124073473 ≤ c % 2147483648 → powBits b c ≡ largeBits b c
+pub is-large : (b c : ℕ) → 1124073473 ≤ c % 2147483648 → (b ≡ 1065353216 → ⊥) → powBits b c ≡ largeBits b c
 unfolding powBits
-is-large b c e h = simp (e, le-ltb (c % 2147483648) 1124073473 h)
-
-pub at-one : (b c : ℕ) → b ≡ 1065353216 → powBits b c ≡ 1065353216
-at-one b c e = is-one b c (eq-eqb b 1065353216 e)
+is-large b c h n = simp (le-ltb (c % 2147483648) 1124073473 h, ne-eqb b 1065353216 n)
 
 pub finite-law : (x y : Float) → T (fits binary32 x) → T (fits binary32 y) → Finite x y → Shown x y (ofBits binary32 (powBits (toBits binary32 x) (toBits binary32 y)))
-finite-law x y fx fy f = go (toBits binary32 x) (toBits binary32 y) (sym (ofBits-toBits binary32 x fx)) (sym (ofBits-toBits binary32 y fy)) (f .positive) (f .finite) (toBits-lt binary32 y fy) (f .number)
-    (eqb (toBits binary32 x) 1065353216) refl (lt-or-ge (toBits binary32 y % 2147483648) 1124073473)
+finite-law x y fx fy f =
+    go (toBits binary32 x) (toBits binary32 y) (sym (ofBits-toBits binary32 x fx)) (sym (ofBits-toBits binary32 y fy)) (f .positive) (f .finite) (toBits-lt binary32 y fy) (f .number)
+    (lt-or-ge (toBits binary32 y % 2147483648) 1124073473) (ℕ-discrete (toBits binary32 x) 1065353216)
   where
     go : (b c : ℕ) → x ≡ ofBits binary32 b → y ≡ ofBits binary32 c → 0 < b → b < 2139095040 → c < 4294967296 → c % 2147483648 < 2139095040
-        → (q : Bool) → eqb b 1065353216 ≡ q → (c % 2147483648 < 1124073473) ⊎ (1124073473 ≤ c % 2147483648) → Shown x y (ofBits binary32 (powBits b c))
-    go b c ex ey B h l k true e _ =
-        let i : b ≡ 1065353216 = eqb→eq b 1065353216 (subst T (sym e) tt) in
-        rw (is-one b c e) (subst (λ (z : Float). Shown z y (ofBits binary32 1065353216)) (sym (ex ∙ ap (ofBits binary32) i)) (one-law y))
-    go b c ex ey B h l k false e (inl i) = rw (is-near b c e i) (near-law x y b c ex ey B h l (omega arith))
-    go b c ex ey B h l k false e (inr i) = rw (is-large b c e i) (large-law x y b c ex ey B h l (omega arith) k differ)
-      where
-        differ : b ≡ 1065353216 → ⊥
-        differ j = subst T (ap (λ (z : ℕ). eqb z 1065353216) (sym j) ∙ e) (eqb-refl 1065353216)
+        → (c % 2147483648 < 1124073473) ⊎ (1124073473 ≤ c % 2147483648) → Dec (b ≡ 1065353216) → Shown x y (ofBits binary32 (powBits b c))
+    go b c ex ey B h l k (inl i) _ = rw (is-near b c i) (near-law x y b c ex ey B h l (omega arith))
+    go b c ex ey B h l k (inr i) (yes e) = rw (is-one b c i e) (subst (λ (z : Float). Shown z y (ofBits binary32 1065353216)) (sym (ex ∙ ap (ofBits binary32) e)) (one-law y))
+    go b c ex ey B h l k (inr i) (no n) = rw (is-large b c i n) (large-law x y b c ex ey B h l (omega arith) k n)
 
--- x^±0, and no pattern is a NaN's
-pub pow-to-zero : (b c : ℕ) → 0 < b → b < 2139095040 → c % 2147483648 ≡ 0 → powBits b c ≡ 1065353216
-pow-to-zero b c B h e = go (eqb b 1065353216) refl
+-- ---- for the code: 1^y and x^±0, and no pattern is a NaN's
+pub from-one : (b c : ℕ) → b ≡ 1065353216 → powBits b c ≡ 1065353216
+from-one b c e = go (lt-or-ge (c % 2147483648) 1124073473)
   where
-    go : (q : Bool) → eqb b 1065353216 ≡ q → powBits b c ≡ 1065353216
-    go true i = is-one b c i
-    go false i = is-near b c i (omega arith) ∙ to-zero b c B h e
+    go : (c % 2147483648 < 1124073473) ⊎ (1124073473 ≤ c % 2147483648) → powBits b c ≡ 1065353216
+    go (inl i) = is-near b c i ∙ ap (λ (n : ℕ). nearBits n c) e ∙ near-one c
+    go (inr i) = is-one b c i e
+
+pub to-zero : (b c : ℕ) → 0 < b → b < 2139095040 → c % 2147483648 ≡ 0 → powBits b c ≡ 1065353216
+to-zero b c B h e = is-near b c (omega arith) ∙ near-to-zero b c B h e
 
 near-is : (b c : ℕ) → nearBits b c ≡ exp2Bits (argOf (log2Of (normalized b)) c)
 unfolding nearBits
 near-is b c = refl
 
-large-is : (b c : ℕ) → largeBits b c ≡ exp2Bits (largeArg (squared b c) c)
+large-is : (b c : ℕ) → largeBits b c ≡ exp2Bits (largeArg (squared (normalized b) c) c)
 unfolding largeBits
 large-is b c = refl
 
 pub bits-le : (b c : ℕ) → powBits b c ≤ 2139095040
-bits-le b c = go (eqb b 1065353216) refl (lt-or-ge (c % 2147483648) 1124073473)
+bits-le b c = go (lt-or-ge (c % 2147483648) 1124073473) (ℕ-discrete b 1065353216)
   where
-    go : (q : Bool) → eqb b 1065353216 ≡ q → (c % 2147483648 < 1124073473) ⊎ (1124073473 ≤ c % 2147483648) → powBits b c ≤ 2139095040
-    go true e _ = le-trans (le-of-eq (is-one b c e)) (lit≤ tt)
-    go false e (inl i) = le-trans (le-of-eq (is-near b c e i ∙ near-is b c)) (exp2-le (argOf (log2Of (normalized b)) c))
-    go false e (inr i) = le-trans (le-of-eq (is-large b c e i ∙ large-is b c)) (exp2-le (largeArg (squared b c) c))
+    go : (c % 2147483648 < 1124073473) ⊎ (1124073473 ≤ c % 2147483648) → Dec (b ≡ 1065353216) → powBits b c ≤ 2139095040
+    go (inl i) _ = le-trans (le-of-eq (is-near b c i ∙ near-is b c)) (exp2-le (argOf (log2Of (normalized b)) c))
+    go (inr i) (yes e) = le-trans (le-of-eq (is-one b c i e)) (lit≤ tt)
+    go (inr i) (no n) = le-trans (le-of-eq (is-large b c i n ∙ large-is b c)) (exp2-le (largeArg (squared (normalized b) c) c))

@@ -3,7 +3,7 @@ use mathlib.Core.Path.{_≡_, refl, sym, ap, ap₂, _∙_, subst}
 use mathlib.Core.Logic.{_⊎_, inl, inr}
 use mathlib.Core.Bool.{Bool, true, false, not, cond, true≢false}
 use Prim.Native.Nat.{ℕ, zero, suc, _+_, _-_, _*_, _/_, _%_, _^_, _≤_, _<_}
-use native.Mathlib.Nat.{le-trans, le-of-eq, lt-of-lt-of-le, lt-of-le-of-lt, mul-pos, mul-comm, mul-le-mul, mul-le-mul-left, mul-le-mul-right, mul-lt-mul-of-pos-right, mul-div-cancel, div-div-eq-div-mul, div-eq-of-lt, div-mul-le-self}
+use native.Mathlib.Nat.{le-trans, le-of-eq, lt-of-lt-of-le, lt-of-le-of-lt, mul-pos, mul-comm, mul-le-mul, mul-le-mul-left, mul-le-mul-right, mul-lt-mul-of-pos-right, mul-div-cancel, div-div-eq-div-mul, div-eq-of-lt, div-mul-le-self, zero-mul, mul-zero, zero-div}
 use native.Mathlib.Omega.{arith}
 use borrow.Author.Tests.{lt-ltb, le-ltb}
 use lib.Dec.{T, ltb, leb, eqb, eqb→eq, leb→le, le→leb, not-T, lit<, lit≤}
@@ -141,7 +141,7 @@ quick-from b c u v U W eu ev t =
     let e : u / 268435456 + v / 268435456 ≡ 0 = eqb→eq (u / 268435456 + v / 268435456) 0 (subst T (sym t) tt) in
     record { x-low = omega arith; x-high = omega arith; y-low = omega arith; y-high = omega arith }
 
--- x^±0
+-- ---- x^±0 and 1^y
 unsigned : (n l c : ℕ) → signedArg n l c 0 ≡ 36098066251513856
 unfolding signedArg
 unsigned n l c = go (unlike (ltb l n) (not (ltb c 2147483648)))
@@ -154,11 +154,26 @@ one-is : exp2Bits 36098066251513856 ≡ 1065353216
 unfolding exp2Bits exp2Of
 one-is = refl
 
-pub to-zero : (b c : ℕ) → 0 < b → b < 2139095040 → c % 2147483648 ≡ 0 → nearBits b c ≡ 1065353216
-to-zero b c B h e =
+pub near-to-zero : (b c : ℕ) → 0 < b → b < 2139095040 → c % 2147483648 ≡ 0 → nearBits b c ≡ 1065353216
+near-to-zero b c B h e =
     let l = log2Of (normalized b) in
     let r = log-range (normalized b) (parts b B h .least) (parts b B h .most) in
     let g : absDiff l 682899800064 ≤ 639950127104 = diff-le 682899800064 l 639950127104 (omega (arith, r)) (omega (arith, r)) in
     pow-is b c
     ∙ ap exp2Bits (arg-is l c ∙ ap (signedArg 682899800064 l c) (sym (product-none (absDiff l 682899800064) (c % 2147483648) g (omega arith))) ∙ unsigned 682899800064 l c)
+    ∙ one-is
+
+log-one : log2Of (normalized 1065353216) ≡ 682899800064
+unfolding log2Of log2At normalized
+log-one = refl
+
+no-product : (a : ℕ) → product (absDiff 682899800064 682899800064) a ≡ 0
+unfolding absDiff
+no-product a = product-is 0 a ∙ ap (λ (n : ℕ). n * 2 ^ (a / 8388608) / 2 ^ 143) (mul-zero (a % 8388608 + 8388608)) ∙ ap (λ (n : ℕ). n / 2 ^ 143) (zero-mul (2 ^ (a / 8388608))) ∙ zero-div (2 ^ 143)
+
+pub near-one : (c : ℕ) → nearBits 1065353216 c ≡ 1065353216
+near-one c =
+    pow-is 1065353216 c
+    ∙ ap (λ (l : ℕ). exp2Bits (argOf l c)) log-one
+    ∙ ap exp2Bits (arg-is 682899800064 c ∙ ap (signedArg 682899800064 682899800064 c) (no-product (c % 2147483648)) ∙ unsigned 682899800064 682899800064 c)
     ∙ one-is

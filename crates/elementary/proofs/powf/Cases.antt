@@ -13,8 +13,7 @@ use lib.Pow.{pow-mono}
 use Rattle.series.proofs.Cuts.{lt-or-ge}
 use Rattle.elementary.specs.Power.{powBits}
 use Rattle.elementary.specs.Pow.{isOdd, zeroSize, zeroBits, infBits, toInfBits, numBits, powAt, powOf}
-use Rattle.elementary.proofs.power.Finite.{pow-to-zero, bits-le}
-use Rattle.elementary.proofs.power.Finite as finite
+use Rattle.elementary.proofs.power.Finite.{from-one, to-zero, bits-le}
 
 pub odd-below : (a : ℕ) → a < 1065353216 → isOdd a ≡ false
 unfolding isOdd
@@ -141,14 +140,20 @@ at-regular b c p h k = go (lt-or-ge 0 (c % 2147483648)) (lt-or-ge b 1065353216) 
     go : (0 < c % 2147483648) ⊎ (c % 2147483648 ≤ 0) → (b < 1065353216) ⊎ (1065353216 ≤ b) → (1065353216 < b) ⊎ (b ≤ 1065353216) → powAt b c ≡ ofBits binary32 (powBits b c)
     go (inr l) _ _ =
         let z : c % 2147483648 ≡ 0 = omega arith in
-        at-zero b c z ∙ ap (ofBits binary32) (sym (pow-to-zero b c p h z))
+        at-zero b c z ∙ ap (ofBits binary32) (sym (to-zero b c p h z))
     go (inl l) (inl i) _ = rest l (less i)
     go (inl l) (inr i) (inl j) = rest l (more j)
     go (inl l) (inr i) (inr j) =
         let e : b ≡ 1065353216 = omega arith in
-        at-one b c e ∙ ap (ofBits binary32) (sym (finite.at-one b c e))
+        at-one b c e ∙ ap (ofBits binary32) (sym (from-one b c e))
 
 -- ---- NaN
+pub nan-not-one : (x : Float) → x ≡ nan → toBits binary32 x ≡ 1065353216 → ⊥
+nan-not-one x e h = no (sym (ap (toBits binary32) e) ∙ h)
+  where
+    no : toBits binary32 nan ≡ 1065353216 → ⊥
+    no k = unfold toBits in omega arith
+
 pub of-nan-y : (x y : Float) → y ≡ nan → (toBits binary32 x ≡ 1065353216 → ⊥) → powOf x y ≡ nan
 unfolding powOf isNan
 of-nan-y x y e h = rw e (simp (ne-eqb (toBits binary32 x) 1065353216 h))

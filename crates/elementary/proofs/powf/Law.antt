@@ -15,7 +15,7 @@ use Rattle.elementary.specs.Accuracy.{signOf, Finite, IsZero, IsOne, IsP
 use Rattle.elementary.proofs.Common.{number-of-bits, bits-of-number, infinity-is, minus-infinity-is, zero-is}
 use Rattle.elementary.proofs.power.Shown.{Shown}
 use Rattle.elementary.proofs.power.Finite.{finite-law}
-use Rattle.elementary.proofs.powf.Cases.{zero-odd, zero-even, size-plus, size-minus, inf-plus, inf-minus, to-inf-low, to-inf-high, num-zero, num-inf, num-to-inf, at-zero, at-one, at-below, at-num, at-regular, of-nan-y, of-nan-y-one, of-nan-x, of-nan-x-zero, of-numbers}
+use Rattle.elementary.proofs.powf.Cases.{zero-odd, zero-even, size-plus, size-minus, inf-plus, inf-minus, to-inf-low, to-inf-high, num-zero, num-inf, num-to-inf, at-zero, at-one, at-below, at-num, at-regular, nan-not-one, of-nan-y, of-nan-y-one, of-nan-x, of-nan-x-zero, of-numbers}
 use Rattle.elementary.proofs.powf.Odd.{is-odd, not-odd}
 
 -- ---- NaN
@@ -36,10 +36,6 @@ minus-number nan h = absurd (no h)
     no h = omega arith
 minus-number (inf s) h = tt
 minus-number (fin s m e) h = tt
-
-nan-bits : toBits binary32 nan ≡ 2143289344
-unfolding toBits
-nan-bits = refl
 
 -- ---- the infinity with the sign of a zero
 minus-zero-is : ofBits binary32 2147483648 ≡ fin true 0 (pos 0)
@@ -184,12 +180,6 @@ module _ (x y : Float) (fx : T (fits binary32 x)) (fy : T (fits binary32 y)) whe
       nonzero z = omega arith
 
   -- ---- NaN, and x below 0
-  not-one : x ≡ nan → IsOne x → ⊥
-  not-one e o = no (sym (ap (toBits binary32) e ∙ nan-bits) ∙ o)
-    where
-      no : _≡_ {A = ℕ} 2143289344 1065353216 → ⊥
-      no k = omega arith
-
   from-nan : T (isNan x) → (IsZero y → ⊥) → powOf x y ≡ nan
   from-nan t n = go (isNan y) refl
     where
@@ -197,7 +187,7 @@ module _ (x y : Float) (fx : T (fits binary32 x)) (fy : T (fits binary32 y)) whe
       e = nan-is x t
 
       go : (s : Bool) → isNan y ≡ s → powOf x y ≡ nan
-      go true i = of-nan-y x y (nan-is y (subst T (sym i) tt)) (not-one e)
+      go true i = of-nan-y x y (nan-is y (subst T (sym i) tt)) (nan-not-one x e)
       go false i = of-nan-x x y (is-number y i) e n
 
   from-minus : IsMinus x → (IsZero y → ⊥) → powOf x y ≡ nan

@@ -1,9 +1,8 @@
-use mathlib.Core.Path.{_≡_, ap, _∙_}
-use Prim.Native.Nat.{ℕ, _-_, _*_, _/_, _%_, _^_, _<_}
+use mathlib.Core.Path.{_≡_}
+use Prim.Native.Nat.{_*_, _%_, _^_}
 use native.Mathlib.Nat.{mod-eq-of-lt}
 use native.Mathlib.Omega.{arith}
 use lib.Count.{leadingZeros}
-use Rattle.power_tables.specs.Tables.{lineWord, curvature}
 use Rattle.elementary.proofs.large.Log.{Top, top}
 use Rattle.elementary.proofs.large.Steps.{fine-from}
 use borrow.Author.Needs.{needs}
@@ -25,18 +24,11 @@ shl-y c = omega (arith, tp c .most)
 sub-i : tie.Need-sub-i
 sub-i c = omega (arith, shifted c, tp c .low)
 
-interval-at-requires : tie.Need-interval-at-requires
-interval-at-requires c κs = search needs
-
-fine-log2-by-requires : tie.Need-fine-log2-by-requires
-fine-log2-by-requires c κs =
-    let x = c .before .args .x in
-    let i = x * 2 ^ leadingZeros 64 x % 18446744073709551616 / 268435456 / 67108864 - 512 in
-    let I : i < 512 = omega arith in
-    (I, omega arith, c .interval-at .ensures .0 ∙ ap lineWord (mod-eq-of-lt I), c .interval-at .ensures .1 ∙ ap curvature (mod-eq-of-lt I))
+fine-log2-at-requires : tie.Need-fine-log2-at-requires
+fine-log2-at-requires c κs = search needs
 
 sub-result : tie.Need-sub-result
-sub-result c = omega (arith, tp (c .before .before) .most)
+sub-result c = omega (arith, tp (c .before) .most)
 
 cast-result : tie.Need-cast-result
 cast-result c = search needs
@@ -55,8 +47,8 @@ add-result-2 c = search needs
 
 returns : tie.Need-returns
 returns c =
-    let x = c .before .before .args .x in
-    fine-from x (x * 2 ^ leadingZeros 64 x % 18446744073709551616) (c .fine-log2-by .result) (shifted (c .before .before)) (c .fine-log2-by .ensures .0)
+    let x = c .before .args .x in
+    fine-from x (x * 2 ^ leadingZeros 64 x % 18446744073709551616) (c .fine-log2-at .result) (shifted (c .before)) (c .fine-log2-at .ensures .0)
 
 pub fine-log2-spec : {M : Type 1} → statement M
 fine-log2-spec =
@@ -65,8 +57,7 @@ fine-log2-spec =
     cast-y
     shl-y
     sub-i
-    interval-at-requires
-    fine-log2-by-requires
+    fine-log2-at-requires
     sub-result
     cast-result
     mul-result

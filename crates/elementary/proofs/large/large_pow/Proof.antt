@@ -1,9 +1,12 @@
 use mathlib.Core.Path.{_≡_, ap, _∙_}
 use lib.Ieee.{binary32, ofBits}
-use Rattle.elementary.proofs.large.Steps.{far-from}
 use borrow.Author.Needs.{needs}
+use Rattle.elementary.proofs.large.Steps.{large-from}
 use Rattle.elementary.proofs.large.large_pow.Statement.{statement}
 use Rattle.elementary.proofs.large.large_pow.Tie as tie
+
+normalized-requires : tie.Need-normalized-requires
+normalized-requires c κs = search needs
 
 squared-requires : tie.Need-squared-requires
 squared-requires c κs = search needs
@@ -11,13 +14,15 @@ squared-requires c κs = search needs
 large-arg-requires : tie.Need-large-arg-requires
 large-arg-requires c κs = search needs
 
-value-of-requires : tie.Need-value-of-requires
-value-of-requires c κs = search needs
+large-value-requires : tie.Need-large-value-requires
+large-value-requires c κs = search needs
 
 returns : tie.Need-returns
 returns c =
-    let s = c .before .before .before in
-    c .value-of .ensures ∙ ap (ofBits binary32) (far-from (s .args .b) (s .args .c) (c .before .before .squared .result) (c .before .large-arg .result) (c .before .before .squared .ensures) (c .before .large-arg .ensures))
+    let s = c .before .before .before .before in
+    let n = c .before .before .before .normalized in
+    let q = c .before .before .squared in
+    c .large-value .ensures ∙ ap (ofBits binary32) (large-from (s .args .b) (s .args .c) (n .result) (q .result) (c .before .large-arg .result) (n .ensures) (q .ensures) (c .before .large-arg .ensures))
 
 pub large-pow-spec : {M : Type 1} → statement M
-large-pow-spec = tie.close (tie.spec squared-requires large-arg-requires value-of-requires returns)
+large-pow-spec = tie.close (tie.spec normalized-requires squared-requires large-arg-requires large-value-requires returns)

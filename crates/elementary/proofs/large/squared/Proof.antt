@@ -10,14 +10,11 @@ use borrow.Author.Needs.{needs}
 use Rattle.elementary.proofs.large.squared.Statement.{statement}
 use Rattle.elementary.proofs.large.squared.Tie as tie
 
-normalized-requires : tie.Need-normalized-requires
-normalized-requires c κs = search needs
-
 sub-k : tie.Need-sub-k
 sub-k c = search needs
 
 returns : tie.Need-returns
-returns c = let s = c .before .before in sym (squared-1 (s .args .b) (s .args .c) (rw (c .before .normalized .ensures) at (c .if1 .taken)))
+returns c = let s = c .before in sym (squared-1 (s .args .p) (s .args .c) (c .if1 .taken))
 
 add-m : tie.Need-add-m
 add-m c = search needs
@@ -39,36 +36,25 @@ squares-requires c κs = search needs
 
 returns-2 : tie.Need-returns-2
 returns-2 c =
-    let s = c .before .before .before .before .before in
-    let p = c .before .before .before .before .normalized .result in
-    let k = s .args .c % 2147483648 / 8388608 - 133 in
+    let s = c .before .before .before .before in
+    let p = s .args .p in
     let r = start-range (p / 8388608) (8388608 + p % 8388608) (omega arith) (omega arith) (omega arith) (omega arith) in
-    let e = c .before .before .before .before .normalized .ensures in
-    c .squares .ensures ∙ ap (squares k) (mod-eq-of-lt (lt-of-lt-of-le (r .1) (lit≤ tt)))
-    ∙ rw e (sym (squared-2 (s .args .b) (s .args .c) (rw e at (c .before .before .before .if1 .left)) (rw e at (c .before .before .if2 .taken)) (c .before .if3 .taken)))
+    c .squares .ensures ∙ ap (squares (s .args .c % 2147483648 / 8388608 - 133)) (mod-eq-of-lt (lt-of-lt-of-le (r .1) (lit≤ tt)))
+    ∙ sym (squared-2 p (s .args .c) (c .before .before .before .if1 .left) (c .before .before .if2 .taken) (c .before .if3 .taken))
 
 returns-3 : tie.Need-returns-3
-returns-3 c =
-    let s = c .before .before .before .before .before in
-    let e = c .before .before .before .before .normalized .ensures in
-    sym (squared-3 (s .args .b) (s .args .c) (rw e at (c .before .before .before .if1 .left)) (rw e at (c .if4 .taken)) (c .before .if3 .left))
+returns-3 c = let s = c .before .before .before .before in sym (squared-3 (s .args .p) (s .args .c) (c .before .before .before .if1 .left) (c .if4 .taken) (c .before .if3 .left))
 
 returns-4 : tie.Need-returns-4
-returns-4 c =
-    let s = c .before .before .before .before .before in
-    let e = c .before .before .before .before .normalized .ensures in
-    sym (squared-4 (s .args .b) (s .args .c) (rw e at (c .if4 .left)) (rw e at (c .before .before .if2 .taken)) (c .before .if3 .left))
+returns-4 c = let s = c .before .before .before .before in sym (squared-4 (s .args .p) (s .args .c) (c .if4 .left) (c .before .before .if2 .taken) (c .before .if3 .left))
 
 returns-5 : tie.Need-returns-5
-returns-5 c =
-    let s = c .before .before .before in
-    sym (squared-5 (s .args .b) (s .args .c) (rw (c .before .before .normalized .ensures) at (c .if2 .left)))
+returns-5 c = let s = c .before .before in sym (squared-5 (s .args .p) (s .args .c) (c .if2 .left))
 
 pub squared-spec : {M : Type 1} → statement M
 squared-spec =
     tie.close
     (tie.spec
-    normalized-requires
     sub-k
     returns
     add-m

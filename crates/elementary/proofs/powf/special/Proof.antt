@@ -31,8 +31,9 @@ returns-3 c =
 
 special-bits-requires : tie.Need-special-bits-requires
 special-bits-requires c κs =
-    let p = c .before .before .before .pre in
-    (c .if3 .left, p .0, p .1, p .2)
+    let s = c .before .before .before in
+    let p = s .pre in
+    (c .if3 .left, p .x-number, p .y-number, λ l h. p .infinite l h (c .before .if2 .left) (c .before .before .if1 .left))
 
 float-from-bits-result-3 : tie.Need-float-from-bits-result-3
 float-from-bits-result-3 c =
