@@ -1,3 +1,4 @@
 pub mod Cases
 pub mod Odd
 pub mod Law
+pub mod Series

@@ -4,3 +4,4 @@ pub mod Power
 pub mod Quick
 pub mod Pow
 pub mod Accuracy
+pub mod Series
