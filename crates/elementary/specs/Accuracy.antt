@@ -28,10 +28,10 @@ ExpAtMost x a b = SignedLe (signOf x) (num x) (den x) a b
 -- r is right for e^x
 pub record IsExp (x r : Float) : Type 0 where
   pub of-nan : T (isNan x) → r ≡ nan
-  pub at-zero : toBits binary32 x % 0x80000000 ≡ 0 → r ≡ ofBits binary32 0x3F800000
-  pub over : T (not (isNan x)) → 0x42B17218 ≤ toBits binary32 x → toBits binary32 x < 0x80000000 → r ≡ inf false
+  pub at-zero : toBits binary32 x % 2 ^ 31 ≡ 0 → r ≡ ofBits binary32 0x3F800000
+  pub over : T (not (isNan x)) → 0x42B17218 ≤ toBits binary32 x → toBits binary32 x < 2 ^ 31 → r ≡ inf false
   pub under : T (not (isNan x)) → 0xC2AEAC50 ≤ toBits binary32 x → r ≡ fin false 0 (pos 0)
-  pub near : T (not (isNan x)) → (toBits binary32 x < 0x42B17218) ⊎ (0x80000000 ≤ toBits binary32 x) × (toBits binary32 x < 0xC2AEAC50) → Within (ExpAtLeast x) (ExpAtMost x) 1 r
+  pub near : T (not (isNan x)) → (toBits binary32 x < 0x42B17218) ⊎ (2 ^ 31 ≤ toBits binary32 x) × (toBits binary32 x < 0xC2AEAC50) → Within (ExpAtLeast x) (ExpAtMost x) 1 r
 
 -- ---- ln
 -- a / b ≤ ln x, or with the sign set a / b ≤ - ln x, for a finite x above 0: e^(a / b) is at most x, or 1 / x
@@ -54,8 +54,8 @@ pub record WithinLn (x r : Float) : Type 0 where
 -- r is right for ln x
 pub record IsLn (x r : Float) : Type 0 where
   pub of-nan : T (isNan x) → r ≡ nan
-  pub at-zero : T (not (isNan x)) → toBits binary32 x % 0x80000000 ≡ 0 → r ≡ inf true
-  pub below : T (not (isNan x)) → 0x80000000 < toBits binary32 x → r ≡ nan
+  pub at-zero : T (not (isNan x)) → toBits binary32 x % 2 ^ 31 ≡ 0 → r ≡ inf true
+  pub below : T (not (isNan x)) → 2 ^ 31 < toBits binary32 x → r ≡ nan
   pub at-one : toBits binary32 x ≡ 0x3F800000 → r ≡ fin false 0 (pos 0)
   pub at-infinity : toBits binary32 x ≡ 0x7F800000 → r ≡ inf false
   pub near : 0 < toBits binary32 x → toBits binary32 x < 0x7F800000 → WithinLn x r

@@ -10,19 +10,19 @@ use Rattle.elementary.specs.Power.{powBits}
 unfoldable pub isOdd : ℕ → Bool
 isOdd a =
     cond (ltb a 0x3F800000) false
-    (cond (ltb a 0x4B800000) (eqb ((a % 8388608 + 8388608) % (2 ^ (150 - a / 8388608) * 2)) (2 ^ (150 - a / 8388608))) false)
+    (cond (ltb a 0x4B800000) (eqb ((a % 2 ^ 23 + 2 ^ 23) % (2 ^ (150 - a / 2 ^ 23) * 2)) (2 ^ (150 - a / 2 ^ 23))) false)
 
 -- a zero to the y: 0 for y above 0, else an infinity, with the sign of the zero where y is odd
 unfoldable pub zeroSize : ℕ → ℕ
-zeroSize c = cond (ltb c 0x80000000) 0 0x7F800000
+zeroSize c = cond (ltb c (2 ^ 31)) 0 0x7F800000
 
 unfoldable pub zeroBits : ℕ → ℕ → ℕ
 unfolding isOdd zeroSize
-zeroBits b c = zeroSize c + cond (isOdd (c % 0x80000000)) b 0
+zeroBits b c = zeroSize c + cond (isOdd (c % 2 ^ 31)) b 0
 
 -- +infinity to the y, and x to an infinity
 unfoldable pub infBits : ℕ → ℕ
-infBits c = cond (ltb c 0x80000000) 0x7F800000 0
+infBits c = cond (ltb c (2 ^ 31)) 0x7F800000 0
 
 unfoldable pub toInfBits : ℕ → ℕ → ℕ
 unfolding zeroSize infBits
@@ -32,18 +32,18 @@ toInfBits b c = cond (ltb b 0x3F800000) (zeroSize c) (infBits c)
 unfoldable pub numBits : ℕ → ℕ → ℕ
 unfolding zeroBits infBits toInfBits powBits
 numBits b c =
-    cond (eqb (b % 0x80000000) 0) (zeroBits b c)
+    cond (eqb (b % 2 ^ 31) 0) (zeroBits b c)
     (cond (eqb b 0x7F800000) (infBits c)
-    (cond (eqb (c % 0x80000000) 0x7F800000) (toInfBits b c)
+    (cond (eqb (c % 2 ^ 31) 0x7F800000) (toInfBits b c)
     (powBits b c)))
 
 -- no NaN: x^0 = 1^y = 1, and NaN for x below 0
 unfoldable pub powAt : ℕ → ℕ → Float
 unfolding numBits
 powAt b c =
-    cond (eqb (c % 0x80000000) 0) (ofBits binary32 0x3F800000)
+    cond (eqb (c % 2 ^ 31) 0) (ofBits binary32 0x3F800000)
     (cond (eqb b 0x3F800000) (ofBits binary32 0x3F800000)
-    (cond (ltb 0x80000000 b) nan
+    (cond (ltb (2 ^ 31) b) nan
     (ofBits binary32 (numBits b c))))
 
 -- NaN^0 = 1^NaN = 1
@@ -51,5 +51,5 @@ unfoldable pub powOf : Float → Float → Float
 unfolding powAt
 powOf x y =
     cond (isNan y) (cond (eqb (toBits binary32 x) 0x3F800000) (ofBits binary32 0x3F800000) nan)
-    (cond (isNan x) (cond (eqb (toBits binary32 y % 0x80000000) 0) (ofBits binary32 0x3F800000) nan)
+    (cond (isNan x) (cond (eqb (toBits binary32 y % 2 ^ 31) 0) (ofBits binary32 0x3F800000) nan)
     (powAt (toBits binary32 x) (toBits binary32 y)))

@@ -7,7 +7,14 @@ ghost use Rattle.power_tables.specs.Tables.{powerWord};
 ghost use Rattle.elementary.specs.Power.{exp2Of, exp2Bits};
 ghost use Rattle.elementary.specs.Power as Power;
 
-// 2^(r / 2^39) - 1 in units of 2^-32.
+// Exponents of 2: of 2^-126.5, below which the result is 0, of 2^-126 and of 2^128.
+const ARG_ZERO: u64 = (1 << 55) - (1 << 38);
+
+const ARG_NORMAL: u64 = 1 << 55;
+
+const ARG_INFINITE: u64 = (1 << 55) + (254 << 39);
+
+// 2^(r / 2^39) - 1 in units of 2^-32: 0.6931453 r + 0.2408769 r^2, the factors in units of 2^-31 and of 2^-32.
 fn exp2m1(r: u64) -> u64
     requires { ⌜ r < 2 ^ 32 ⌝ }
     ensures { λ k. ⌜ (k ≡ Power.exp2m1 r) × (k < 2 ^ 25) ⌝ }
@@ -36,13 +43,13 @@ pub(crate) fn ranged(z: u64, d: u64) -> f32
     requires { ⌜ d + z / 2 ^ 32 % 128 * 2 ^ 56 ≡ exp2Of (z % 2 ^ 39) + 2 ^ 39 ⌝ }
     ensures { λ r. ⌜ r ≡ ofBits binary32 (exp2Bits z) ⌝ }
 {
-    if 36028797018963968 <= z {
-        if z < 36168434995691520 {
+    if ARG_NORMAL <= z {
+        if z < ARG_INFINITE {
             return f32::from_bits(normal(z / 4294967296 - 8388608, d));
         }
         return f32::from_bits(0x7F800000);
     }
-    if z < 36028522141057024 {
+    if z < ARG_ZERO {
         return 0.0;
     }
     f32::from_bits(((d / 4294967296 + z / 4294967296 % 128 * 16777216 + 128) / 512) as u32)

@@ -6,6 +6,24 @@ ghost use Rattle.power_tables.specs.Tables.{lineWord, curvature};
 ghost use Rattle.elementary.specs.Power.{exp2Bits, fineLog2At, fineLog2, fineArg, largeArg, largeBits};
 ghost use Rattle.elementary.specs.Power as Power;
 
+// 1/4 and 4 in units of 2^-60; log2 1 in units of 2^-35; exponents of 2 below and above every result.
+const QUARTER: u64 = 1 << 58;
+
+const FOUR: u64 = 1 << 62;
+
+const LOG2_ONE: u64 = 159 << 35;
+
+const ARG_LEAST: u64 = 0;
+
+const ARG_MOST: u64 = 1 << 56;
+
+// The normalized patterns of 1/4, 1 and 4.
+const PATTERN_QUARTER: u32 = 157 << 23;
+
+const PATTERN_ONE: u32 = 159 << 23;
+
+const PATTERN_FOUR: u32 = 161 << 23;
+
 // x x / 2^60, in 64 bits.
 fn square(x: u64) -> u64
     requires { ⌜ x < 2 ^ 62 ⌝ }
@@ -20,8 +38,8 @@ fn square(x: u64) -> u64
 fn square_once(x: u64) -> u64
     ensures { λ r. ⌜ r ≡ Power.squares 1 x ⌝ }
 {
-    if 288230376151711744 <= x {
-        if x < 4611686018427387904 {
+    if QUARTER <= x {
+        if x < FOUR {
             return square(x);
         }
     }
@@ -76,8 +94,8 @@ fn fine_arg(l: u64, c: u32) -> u64
     requires { ⌜ (157 * 2 ^ 35 ≤ l) × (l ≤ 161 * 2 ^ 35 + 8) ⌝ }
     ensures { λ r. ⌜ r ≡ fineArg l c ⌝ }
 {
-    let u = ((c % 8388608 + 8388608) as u64) * super::power::abs_diff(l, 5463198400512) / 8192;
-    super::power::signed_arg(5463198400512, l, c, u)
+    let u = ((c % 8388608 + 8388608) as u64) * super::power::abs_diff(l, LOG2_ONE) / 8192;
+    super::power::signed_arg(LOG2_ONE, l, c, u)
 }
 
 // x^(2^k) in units of 2^-60, from the normalized pattern of x, where |y| / 2^k is from 64 to 128; 0 where it is below 1/4, 2^62 where it is 4 or more.
@@ -86,38 +104,38 @@ fn squared(p: u32, c: u32) -> u64
     ensures { λ r. ⌜ r ≡ Power.squared p c ⌝ }
 {
     let k = c % 0x80000000 / 8388608 - 133;
-    if p < 1317011456 {
+    if p < PATTERN_QUARTER {
         return 0;
     }
-    if p < 1350565888 {
+    if p < PATTERN_FOUR {
         if k <= 24 {
             let m = (8388608 + p % 8388608) as u64;
             return squares(k, m << (p / 8388608 - 122));
         }
-        if p < 1333788672 {
+        if p < PATTERN_ONE {
             return 0;
         }
     }
-    4611686018427387904
+    FOUR
 }
 
 // The exponent of 2, or past the ends.
 fn large_arg(x: u64, c: u32) -> u64
     ensures { λ r. ⌜ r ≡ largeArg x c ⌝ }
 {
-    if x < 288230376151711744 {
+    if x < QUARTER {
         if c < 0x80000000 {
-            return 0;
+            return ARG_LEAST;
         }
-        return 72057594037927936;
+        return ARG_MOST;
     }
-    if x < 4611686018427387904 {
+    if x < FOUR {
         return fine_arg(fine_log2(x), c);
     }
     if c < 0x80000000 {
-        return 72057594037927936;
+        return ARG_MOST;
     }
-    0
+    ARG_LEAST
 }
 
 // 2^(z / 2^39 - 2^16 - 126), by the powers' other table.

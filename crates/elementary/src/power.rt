@@ -8,6 +8,11 @@ ghost use Rattle.elementary.specs.Power.{absDiff, product, signedArg, ne
 ghost use Rattle.elementary.specs.Power as Power;
 ghost use Rattle.elementary.specs.Quick.{Near, Quick, ArgAsked, ArgIs};
 
+// log2 1 as the patterns count it, in units of 2^-32, and the exponent of 2 for x^y = 1, in units of 2^-39.
+const LOG2_ONE: u64 = 159 << 32;
+
+const ARG_ONE: u64 = 65662 << 39;
+
 // The pattern of x with 2^23 for each power of two, also below 2^-126; that of 1 is 159 2^23.
 pub(crate) fn normalized(b: u32) -> u32
     requires { ⌜ (0 < b) × (b < 0x7F800000) ⌝ }
@@ -45,9 +50,9 @@ pub(crate) fn signed_arg(n: u64, l: u64, c: u32, u: u64) -> u64
     ensures { λ r. ⌜ r ≡ signedArg n l c u ⌝ }
 {
     if is_negative(n, l, c) {
-        return 36098066251513856 - u;
+        return ARG_ONE - u;
     }
-    36098066251513856 + u
+    ARG_ONE + u
 }
 
 // |y log2 x| in units of 2^-39, for |log2 x| in units of 2^-32 and |y| with the bit pattern a up to 128; 0 below 2^-47.
@@ -77,7 +82,7 @@ pub(crate) fn quick_arg(l: u64, m: u32, s: u32) -> u64
     requires { ⌜ (l ≤ 2 ^ 37) × (m < 2 ^ 24) × (16 ≤ s) × (s < 64) ⌝ }
     ensures { λ r. ⌜ r + m * l / 2 ^ s ≡ 126 * 2 ^ 39 ⌝ }
 {
-    69269232549888 - (((m as u64) * l) >> s)
+    (126 << 39) - (((m as u64) * l) >> s)
 }
 
 // Whether x is from 1 to 2^32 and y from -2 to -2^-31: two differences, each below 2^28.
@@ -98,10 +103,10 @@ fn arg_of(l: u64, c: u32, quick: bool) -> u64
         return quick_arg(l, c % 8388608 + 8388608, 399 - c / 8388608);
     }
     signed_arg(
-        682899800064,
+        LOG2_ONE,
         l,
         c,
-        product_of(abs_diff(l, 682899800064), c % 0x80000000),
+        product_of(abs_diff(l, LOG2_ONE), c % 0x80000000),
     )
 }
 

@@ -4,10 +4,10 @@ use mathlib.Core.Logic.{_⊎_, inl, inr}
 use Prim.Native.Nat.{ℕ, zero, suc, _+_, _*_, _^_, _≤_, _<_}
 use native.Mathlib.Nat.{zero-mul, suc-mul, mul-comm, pow-zero, pow-suc, le-refl, le-trans, le-of-eq, lt-irrefl, lt-of-lt-of-le, mul-le-mul, mul-le-mul-left, mul-le-mul-right, mul-pos, one-le-pow, pow-le-pow-left, pow-lt-pow-left, le-of-mul-le-mul-left, le-of-mul-le-mul-right}
 use native.Mathlib.Omega.{arith}
-use lib.Dec.{lit<}
+use lib.Dec.{lit<, lit≤}
 use lib.Pow.{pow-pos, pow-add, pow-mono}
-use Rattle.series.specs.Exp.{ExpGe, ExpLe}
-use Rattle.series.proofs.Cuts.{lt-or-ge, le-pow, ge-pow, le-two-pow, ge-two-pow, le-same, ge-same, cut, mul-pow}
+use Rattle.series.specs.Exp.{sum, scale, ExpGe, ExpLe, ln2}
+use Rattle.series.proofs.Cuts.{lt-or-ge, le-pow, ge-pow, le-two-pow, ge-two-pow, le-same, ge-same, le-by, cut, mul-pow}
 
 -- ---- powers
 pub pow-pow : (a j k : ℕ) → (a ^ j) ^ k ≡ a ^ (k * j)
@@ -135,6 +135,13 @@ two-le-whole k q = rw (one-pow q, pow-pow 2 k q) (omega arith)
 pub two-ge-whole : (k q : ℕ) → TwoGe (q * k) q (2 ^ k) 1
 unfolding TwoGe
 two-ge-whole k q = rw (one-pow q, pow-pow 2 k q) (omega arith)
+
+-- ---- ln 2
+pub ln2-le : ExpLe ln2 (2 ^ 48) 2 1
+ln2-le = le-by ln2 (2 ^ 48) 2 1 18 (lit< tt) (lit≤ tt) (unfold sum scale in lit≤ tt)
+
+pub ln2-ge : ExpGe (ln2 + 1) (2 ^ 48) 2 1
+ln2-ge = (18, unfold sum scale in lit≤ tt)
 
 -- ---- from e: where ln 2 ≤ c / s and e^(p c / (q s)) ≤ a / b
 pub two-le-exp : (c s p q a b : ℕ) → 0 < s → 0 < q → ExpGe c s 2 1 → ExpLe (p * c) (q * s) a b → TwoLe p q a b

@@ -6,15 +6,10 @@ use lib.Dec.{lit<, lit≤}
 use Rattle.series.specs.Exp.{sum, scale, ExpGe, ExpLe}
 use Rattle.elementary.specs.Exp.{mant}
 use Rattle.series.proofs.Cuts.{le-weaken, ge-weaken, le-mul, ge-mul, le-quot, ge-quot, le-two-pow, ge-two-pow, le-mono, ge-mono, le-by, cut}
+use Rattle.series.proofs.Two.{ln2-le, ln2-ge}
 use Rattle.elementary.proofs.exp.Error.{mant-ge, mant-le, mant-low}
 
--- ---- ln 2 lies between 195103586505167 / 2^48 and 195103586505168 / 2^48
-ln2-le : ExpLe 195103586505167 281474976710656 2 1
-ln2-le = le-by 195103586505167 281474976710656 2 1 18 (lit< tt) (lit≤ tt) (unfold sum scale in lit≤ tt)
-
-ln2-ge : ExpGe 195103586505168 281474976710656 2 1
-ln2-ge = (18, unfold sum scale in lit≤ tt)
-
+-- ---- powers of two
 two-le : (k : ℕ) → ExpLe (k * 195103586505167) 281474976710656 (2 ^ k) 1
 two-le = le-two-pow 281474976710656 195103586505167 (lit< tt) ln2-le
 

@@ -9,8 +9,7 @@ use lib.Pow.{pow-pos, pow-add, pow-mono}
 use lib.Count.{leadingZeros, leading-top}
 use Rattle.series.specs.Exp.{sum, scale}
 use Rattle.series.proofs.Cuts.{lt-or-ge}
-use Rattle.series.proofs.Two.{TwoLe, TwoGe, two-le-mono, two-ge-mono, two-le-weaken, two-ge-weaken, two-le-mul, two-ge-mul, two-le-whole, two-ge-whole, two-ge-exp, two-cut}
-use Rattle.power_tables.proofs.Rules.{ln2-le}
+use Rattle.series.proofs.Two.{TwoLe, TwoGe, two-le-mono, two-ge-mono, two-le-weaken, two-ge-weaken, two-le-mul, two-ge-mul, two-le-whole, two-ge-whole, two-ge-exp, two-cut, ln2-le}
 use Rattle.elementary.specs.Power.{fineLog2At, fineLog2}
 use Rattle.elementary.proofs.log2.Law.{floor}
 use Rattle.elementary.proofs.log2.Fine.{fine-below, fine-above}

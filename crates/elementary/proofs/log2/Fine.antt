@@ -7,9 +7,9 @@ use native.Mathlib.Omega.{arith}
 use lib.Dec.{lit<, lit≤}
 use Rattle.series.specs.Exp.{sum, scale, ExpGe, ExpLe}
 use Rattle.series.proofs.Cuts.{lt-or-ge, le-below, ge-above, le-by}
-use Rattle.series.proofs.Two.{TwoLe, TwoGe, two-le-mono, two-ge-mono, two-le-weaken, two-ge-weaken, two-le-mul, two-ge-mul, two-le-quot, two-le-one, two-le-up, two-ge-up, two-le-down, two-ge-down, two-le-exp, two-ge-exp}
+use Rattle.series.proofs.Two.{TwoLe, TwoGe, two-le-mono, two-ge-mono, two-le-weaken, two-ge-weaken, two-le-mul, two-ge-mul, two-le-quot, two-le-one, two-le-up, two-ge-up, two-le-down, two-ge-down, two-le-exp, two-ge-exp, ln2-le, ln2-ge}
 use Rattle.power_tables.specs.Tables.{height, slope, curvature, lineWord}
-use Rattle.power_tables.proofs.Rules.{ln2-le, ln2-ge, height-rule}
+use Rattle.power_tables.proofs.Rules.{height-rule}
 use Rattle.elementary.specs.Power.{fineLog2At}
 use Rattle.elementary.proofs.log2.Curve.{curve-le, curve-ge}
 use Rattle.elementary.proofs.log2.Law.{floor, scaled-le, scaled-ge, B-is, C-is, B-lt, B-gt, C-lt}
