@@ -1,5 +1,5 @@
 -- x^y for a finite x above 0 and a finite y, by whole numbers: x^y = 2^(y log2 x). `/` cuts down.
-use mathlib.Core.Bool.{Bool, not, cond}
+use mathlib.Core.Bool.{not, cond}
 use Prim.Native.Nat.{ℕ, zero, suc, _+_, _-_, _*_, _/_, _%_, _^_}
 use lib.Dec.{ltb, eqb}
 use lib.Count.{leadingZeros}

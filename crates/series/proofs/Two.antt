@@ -1,8 +1,8 @@
 -- 2^(p / q) against fractions, by whole numbers alone: 2^(p / q) ≤ a / b is 2^p b^q ≤ a^q. Shut, so that no power is computed.
-use mathlib.Core.Path.{_≡_, refl, sym, ap, ap₂, _∙_, subst}
+use mathlib.Core.Path.{_≡_, subst}
 use mathlib.Core.Logic.{_⊎_, inl, inr}
 use Prim.Native.Nat.{ℕ, zero, suc, _+_, _*_, _^_, _≤_, _<_}
-use native.Mathlib.Nat.{zero-mul, suc-mul, mul-comm, pow-zero, pow-suc, le-refl, le-trans, le-of-eq, lt-irrefl, lt-of-lt-of-le, mul-le-mul, mul-le-mul-left, mul-le-mul-right, mul-pos, one-le-pow, pow-le-pow-left, pow-lt-pow-left, le-of-mul-le-mul-left, le-of-mul-le-mul-right}
+use native.Mathlib.Nat.{zero-mul, suc-mul, pow-zero, pow-suc, le-trans, lt-irrefl, lt-of-lt-of-le, mul-le-mul, mul-le-mul-left, mul-le-mul-right, mul-pos, one-le-pow, pow-le-pow-left, pow-lt-pow-left, le-of-mul-le-mul-right}
 use native.Mathlib.Omega.{arith}
 use lib.Dec.{lit<, lit≤}
 use lib.Pow.{pow-pos, pow-add, pow-mono}

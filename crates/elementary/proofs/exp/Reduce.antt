@@ -1,5 +1,5 @@
 -- e^x for a fixed point x = ± X / 2^48, cut into 2^n and e^r.
-use Prim.Native.Nat.{ℕ, _+_, _-_, _*_, _/_, _^_, _≤_, _<_}
+use Prim.Native.Nat.{ℕ, _+_, _-_, _*_, _^_, _≤_, _<_}
 use native.Mathlib.Nat.{le-refl, mul-le-mul-left}
 use native.Mathlib.Omega.{arith}
 use lib.Dec.{lit<, lit≤}

@@ -1,7 +1,7 @@
 -- The law of 2^(r / 2^39) for r below 2^32: small r is at most 1 too high and 10 too low, in units of 2^-32.
-use mathlib.Core.Path.{_≡_, ap}
+use mathlib.Core.Path.{_≡_}
 use Prim.Native.Nat.{ℕ, _+_, _-_, _*_, _/_, _≤_, _<_}
-use native.Mathlib.Nat.{le-trans, mul-pos, mul-le-mul, mul-le-mul-left, mul-le-mul-right}
+use native.Mathlib.Nat.{mul-pos, mul-le-mul, mul-le-mul-left, mul-le-mul-right}
 use native.Mathlib.Omega.{arith}
 use lib.Dec.{lit<, lit≤}
 use Rattle.series.specs.Exp.{sum, scale, ExpGe, ExpLe}

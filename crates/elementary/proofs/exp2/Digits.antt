@@ -1,14 +1,14 @@
 -- The law of 2^(f / 2^39) for f below 2^39, and of its two roundings: to 24 digits within 5/8 of the last, to 23 within 9/16.
-use mathlib.Core.Path.{_≡_, refl, sym, ap, subst}
-use Prim.Native.Nat.{ℕ, _+_, _-_, _*_, _/_, _%_, _^_, _≤_, _<_}
-use native.Mathlib.Nat.{le-trans, mul-pos, mul-le-mul, mul-le-mul-left, mul-le-mul-right}
+use mathlib.Core.Path.{_≡_, subst}
+use Prim.Native.Nat.{ℕ, _+_, _-_, _*_, _/_, _%_, _≤_, _<_}
+use native.Mathlib.Nat.{mul-le-mul-left, mul-le-mul-right}
 use native.Mathlib.Omega.{arith}
 use lib.Dec.{lit<, lit≤}
 use Rattle.series.specs.Exp.{sum, scale}
 use Rattle.series.proofs.Cuts.{le-by}
-use Rattle.series.proofs.Two.{TwoLe, TwoGe, two-le-mono, two-ge-mono, two-le-weaken, two-ge-weaken, two-le-mul, two-ge-mul, two-le-up, two-ge-up, two-le-whole, two-cut, two-le-exp, ln2-ge}
+use Rattle.series.proofs.Two.{TwoLe, TwoGe, two-le-mono, two-le-weaken, two-ge-weaken, two-le-mul, two-ge-mul, two-le-up, two-ge-up, two-le-whole, two-cut, two-le-exp, ln2-ge}
 use Rattle.power_tables.specs.Tables.{power}
-use Rattle.power_tables.proofs.Rules.{Power, power-rule}
+use Rattle.power_tables.proofs.Rules.{power-rule}
 use Rattle.elementary.specs.Power.{exp2m1, exp2Of}
 use Rattle.elementary.proofs.exp2.Curve.{small-le, small-ge}
 

@@ -1,15 +1,14 @@
--- From bounds of a number by 2^(z / 2^39 - 2^16 - 126), at most 2^15 + 1 units of the exponent off, to the float with the pattern valueBits z.
-use mathlib.Core.Path.{_≡_, refl, sym, ap, _∙_, subst}
+-- From bounds of a number by 2^(z / 2^39 - 2^16 - 126), at most 2^15 + 1 units of the exponent off, to the float with the pattern exp2Bits z.
+use mathlib.Core.Path.{_≡_, refl, sym, _∙_, subst}
 use mathlib.Core.Logic.{_⊎_, inl, inr}
 use mathlib.Core.Bool.{false}
 use Prim.Native.Nat.{ℕ, zero, suc, _+_, _-_, _*_, _/_, _%_, _^_, _≤_, _<_}
-use native.Mathlib.Nat.{le-trans, le-of-eq, eq-or-lt-of-le, not-le-of-lt, mul-pos, mul-one, mul-comm, mul-sub, pow-suc, mul-le-mul, mul-le-mul-left, mul-le-mul-right, div-eq-of-lt, mod-eq-of-lt}
+use native.Mathlib.Nat.{le-trans, le-of-eq, eq-or-lt-of-le, mul-comm, mul-sub, pow-suc, mul-le-mul-left, div-eq-of-lt, mod-eq-of-lt}
 use native.Mathlib.Omega.{arith}
 use borrow.Author.Tests.{lt-ltb, le-ltb}
 use lib.Dec.{lit<, lit≤}
-use lib.Pow.{pow-pos, pow-add, pow-mono}
-use lib.IntN.{pos}
-use lib.Ieee.{Float, inf, fin, binary32, ofBits}
+use lib.Pow.{pow-add}
+use lib.Ieee.{Float, binary32, ofBits}
 use lib.Ieee.Exact.{HasValue}
 use Rattle.series.specs.Exp.{Step, Within}
 use Rattle.series.proofs.Cuts.{lt-or-ge}
@@ -19,7 +18,7 @@ use Rattle.series.proofs.Two as Two
 use Rattle.elementary.specs.Power.{exp2Of, exp2Bits}
 use Rattle.elementary.proofs.exp2.Digits.{digits, digits-low, digits-high, digits-ge, digits-le, digits-one, lesser, lesser-low, lesser-high, lesser-ge, lesser-le, width}
 
--- ---- the cases of valueBits: 36028522141057024 is 2^55 - 2^38, 36028797018963968 is 2^55, 36168434995691520 is 2^55 + 254 * 2^39
+-- ---- the cases of exp2Bits: 36028522141057024 is 2^55 - 2^38, 36028797018963968 is 2^55, 36168434995691520 is 2^55 + 254 * 2^39
 pub value-zero : (z : ℕ) → z < 36028522141057024 → exp2Bits z ≡ 0
 unfolding exp2Bits
 value-zero z h = simp (lt-ltb z 36028522141057024 h)

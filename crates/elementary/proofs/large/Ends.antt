@@ -1,13 +1,13 @@
 -- |y| above 128: an exponent that is taken from x to its squares, and results that are past both ends.
-use mathlib.Core.Path.{_≡_, refl, sym, ap, ap₂, _∙_, subst}
+use mathlib.Core.Path.{_≡_, sym, ap, ap₂, _∙_, subst}
 use mathlib.Core.Bool.{Bool, true, false}
 use Prim.Native.Nat.{ℕ, zero, suc, _+_, _-_, _*_, _^_, _≤_, _<_}
-use native.Mathlib.Nat.{le-trans, le-of-eq, le-refl, mul-comm, mul-assoc, mul-one, one-mul, mul-pos, mul-le-mul, mul-le-mul-left, mul-le-mul-right, le-of-mul-le-mul-left, le-of-mul-le-mul-right, pow-zero, pow-suc, pow-le-pow-left, one-le-pow, two-pow-succ}
+use native.Mathlib.Nat.{le-trans, le-of-eq, mul-comm, one-mul, mul-le-mul, mul-le-mul-left, mul-le-mul-right, le-of-mul-le-mul-left, le-of-mul-le-mul-right, pow-zero, pow-suc, pow-le-pow-left, one-le-pow, two-pow-succ}
 use native.Mathlib.Omega.{arith}
 use lib.Dec.{lit<, lit≤}
 use lib.Pow.{pow-pos, pow-add}
 use Rattle.series.proofs.Cuts.{mul-pow}
-use Rattle.series.proofs.Two.{pow-pow, one-pow, root}
+use Rattle.series.proofs.Two.{pow-pow, root}
 use Rattle.elementary.specs.Accuracy.{RatioGe, RatioLe}
 
 -- ---- (x^k)^(n / m) is x^(o / l), where k n / m = o / l

@@ -1,8 +1,8 @@
 -- x = a / b squared again and again, in units of 2^-60, cut down: after i squares it is at most 2^i 2^-57 of itself too low.
-use mathlib.Core.Path.{_≡_, refl, sym, ap, ap₂, _∙_, subst}
+use mathlib.Core.Path.{_≡_, refl, sym, ap, _∙_, subst}
 use mathlib.Core.Logic.{_⊎_, inl, inr}
 use Prim.Native.Nat.{ℕ, zero, suc, _+_, _-_, _*_, _/_, _%_, _^_, _≤_, _<_}
-use native.Mathlib.Nat.{le-trans, le-of-eq, add-zero, add-suc, suc-add, two-pow-succ, mul-assoc, mul-comm, mul-pos, mul-le-mul, mul-le-mul-left, mul-le-mul-right, le-of-mul-le-mul-right}
+use native.Mathlib.Nat.{le-trans, le-of-eq, add-zero, two-pow-succ, mul-assoc, mul-comm, mul-le-mul, mul-le-mul-left, mul-le-mul-right, le-of-mul-le-mul-right}
 use native.Mathlib.Omega.{arith}
 use borrow.Author.Tests.{lt-ltb, le-ltb}
 use lib.Dec.{lit<, lit≤}

@@ -1,19 +1,17 @@
 -- What the code for |y| above 128 asks.
-use mathlib.Core.Path.{_≡_, refl, sym, ap, _∙_, subst}
+use mathlib.Core.Path.{_≡_, sym, ap, _∙_}
 use mathlib.Core.Logic.{_⊎_, inl, inr}
-use mathlib.Core.Bool.{Bool, true, false, not, cond}
+use mathlib.Core.Bool.{cond}
 use Prim.Native.Nat.{ℕ, _+_, _-_, _*_, _/_, _%_, _^_, _≤_, _<_}
-use native.Mathlib.Nat.{le-trans, le-of-eq, lt-of-lt-of-le, not-le-of-lt, mul-le-mul, mul-le-mul-left, mul-le-mul-right}
+use native.Mathlib.Nat.{le-trans, mul-le-mul, mul-le-mul-left}
 use native.Mathlib.Omega.{arith}
 use borrow.Author.Tests.{lt-ltb, le-ltb}
-use lib.Dec.{T, ltb, leb, leb→le, le→leb, not-T, lit<, lit≤}
-use lib.Pow.{pow-pos, pow-mono}
+use lib.Dec.{ltb, lit≤}
+use lib.Pow.{pow-mono}
 use lib.Count.{leadingZeros}
-use lib.Ieee.{unlike}
-use lib.Ieee.Bits.{is-true, is-false}
 use Rattle.series.proofs.Cuts.{lt-or-ge}
-use Rattle.elementary.specs.Power.{normalized, exp2Bits, squares, fineLog2At, fineLog2, squared, largeArg, largeBits}
-use Rattle.elementary.proofs.large.Log.{Top, top, fine-is, w, w-lt}
+use Rattle.elementary.specs.Power.{normalized, exp2Bits, fineLog2At, fineLog2, squared, largeArg, largeBits}
+use Rattle.elementary.proofs.large.Log.{Top, top, fine-is, w-lt}
 
 -- the leading zeros of a number from 2^58 to 2^62
 pub zeros : (x : ℕ) → 288230376151711744 ≤ x → x < 4611686018427387904 → (2 ≤ leadingZeros 64 x) × (leadingZeros 64 x ≤ 5)

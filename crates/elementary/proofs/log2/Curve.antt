@@ -1,9 +1,9 @@
 -- ln (1 + t / D) against a quadratic in t / D, for 0 ≤ t / D ≤ 2^-9: the leading part of what is left is a square.
 use mathlib.Core.Path.{_≡_, ap}
 use Prim.Native.Nat.{ℕ, _+_, _-_, _*_, _≤_, _<_}
-use native.Mathlib.Nat.{le-trans, mul-pos, mul-le-mul, mul-le-mul-left, mul-le-mul-right}
+use native.Mathlib.Nat.{mul-pos, mul-le-mul, mul-le-mul-left, mul-le-mul-right}
 use native.Mathlib.Omega.{arith}
-use lib.Dec.{lit<, lit≤}
+use lib.Dec.{lit<}
 use Rattle.series.specs.Exp.{ExpGe, ExpLe}
 use Rattle.series.proofs.Cuts.{le-weaken, ge-weaken}
 use Rattle.series.proofs.Horner.{tail-ge-one, tail-ge, tail-two, tail-le, ge-tail, le-tail}

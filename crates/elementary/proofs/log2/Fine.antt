@@ -1,102 +1,18 @@
 -- A finer logarithm, for |y| above 128: of a significand of 36 digits, in units of 2^-35, at most 8 below and 8 above.
-use mathlib.Core.Path.{_≡_, refl, sym, ap, _∙_, subst}
+use mathlib.Core.Path.{_≡_, refl, ap, _∙_}
 use mathlib.Core.Logic.{_⊎_, inl, inr}
-use Prim.Native.Nat.{ℕ, _+_, _-_, _*_, _/_, _%_, _^_, _≤_, _<_}
-use native.Mathlib.Nat.{le-trans, le-of-eq, mul-pos, mul-le-mul, mul-le-mul-left, mul-le-mul-right}
+use Prim.Native.Nat.{ℕ, _+_, _-_, _*_, _/_, _%_, _≤_, _<_}
+use native.Mathlib.Nat.{mul-pos, mul-le-mul, mul-le-mul-right}
 use native.Mathlib.Omega.{arith}
-use lib.Dec.{lit<, lit≤}
-use Rattle.series.specs.Exp.{sum, scale, ExpGe, ExpLe}
-use Rattle.series.proofs.Cuts.{lt-or-ge, le-below, ge-above, le-by}
-use Rattle.series.proofs.Two.{TwoLe, TwoGe, two-le-mono, two-ge-mono, two-le-weaken, two-ge-weaken, two-le-mul, two-ge-mul, two-le-quot, two-le-one, two-le-up, two-ge-up, two-le-down, two-ge-down, two-le-exp, two-ge-exp, ln2-le, ln2-ge}
+use lib.Dec.{lit<}
+use Rattle.series.specs.Exp.{sum}
+use Rattle.series.proofs.Cuts.{lt-or-ge}
+use Rattle.series.proofs.Two.{TwoLe, TwoGe, two-le-mono, two-ge-mono, two-le-weaken, two-ge-weaken, two-le-mul, two-ge-mul, two-le-up, two-ge-up, two-le-down, two-ge-down}
 use Rattle.power_tables.specs.Tables.{height, slope, curvature, lineWord}
 use Rattle.power_tables.proofs.Rules.{height-rule}
 use Rattle.elementary.specs.Power.{fineLog2At}
-use Rattle.elementary.proofs.log2.Curve.{curve-le, curve-ge}
-use Rattle.elementary.proofs.log2.Law.{floor, scaled-le, scaled-ge, B-is, C-is, B-lt, B-gt, C-lt}
-
--- 2^(3888119808 / 2^67) ≥ 1 + 2^-36, and 2^(12 / 2^35) ≥ 1 + 8.25 / 2^35
-spare : TwoGe 3888119808 147573952589676412928 68719476737 68719476736
-spare = two-ge-exp 195103586505167 281474976710656 3888119808 147573952589676412928 68719476737 68719476736 (lit< tt) (lit< tt) ln2-le (1, unfold sum scale in lit≤ tt)
-
-room : TwoGe 51539607552 147573952589676412928 137438953505 137438953472
-room = two-ge-exp 195103586505167 281474976710656 51539607552 147573952589676412928 137438953505 137438953472 (lit< tt) (lit< tt) ln2-le (1, unfold sum scale in lit≤ tt)
-
-covers : (t D c : ℕ) → c + D ≡ 4294967296 * (D + t) → (D + t) * (4294967296 * D * 137438953472) ≤ c * 137438953505 * D
-covers t D c e = le-trans (le-of-eq (left t D)) (mul-le-mul-right D (go t D c e))
-  where
-    go : (t D c : ℕ) → c + D ≡ 4294967296 * (D + t) → 590295810358705651712 * (D + t) ≤ c * 137438953505
-    go t D c e = omega arith
-
-    left : (t D : ℕ) → (D + t) * (4294967296 * D * 137438953472) ≡ 590295810358705651712 * (D + t) * D
-    left t D = omega arith
-
--- ---- the quadratic w at d = t / D, of any number of digits
-module _ (t D w : ℕ) (small : t * 512 ≤ D) (D-pos : 0 < D) where
-  line-below : w * (D * D) + 395790452196 * 268435456 * (t * t) ≤ 49570588694 * 4294967296 * (t * D) → TwoLe (w - 3888119808) 147573952589676412928 (D + t) D
-  line-below h = go (lt-or-ge w 3888119808)
-    where
-      p : ℕ
-      p = 1073741056 * (t * D) - 535822336 * (t * t)
-
-      ep : p + 535822336 * (t * t) ≡ 1073741056 * (t * D)
-      ep = omega (arith, mul-le-mul-left t small)
-
-      order : w * 195103586505168 * (1073741824 * (D * D)) ≤ p * 41538374868278621028243970633760768
-      order =
-          last (w * (D * D)) (t * D) (t * t) 41538374868278621028243970633760768
-          (scaled-le (w * (D * D)) (t * D) (t * t) (49570588694 * 4294967296) (395790452196 * 268435456) (1073741824 * 195103586505168) (1073741056 * 41538374868278621028243970633760768) (535822336 * 41538374868278621028243970633760768) h (lit≤ tt) (lit≤ tt))
-          ep (omega arith)
-        where
-          last : (U a b h : ℕ) → 1073741824 * 195103586505168 * U + 535822336 * h * b ≤ 1073741056 * h * a → p + 535822336 * b ≡ 1073741056 * a
-              → w * 195103586505168 * (1073741824 * (D * D)) ≡ 1073741824 * 195103586505168 * U → w * 195103586505168 * (1073741824 * (D * D)) ≤ p * h
-          last U a b h g e k = rw k (omega (arith, ap (λ (z : ℕ). z * h) e))
-
-      by-two : TwoLe w 147573952589676412928 (68719476736 * (D + t) + D) (68719476736 * D)
-      by-two = two-le-exp 195103586505168 281474976710656 w 147573952589676412928 (68719476736 * (D + t) + D) (68719476736 * D) (lit< tt) (lit< tt) ln2-ge
-          (le-below (w * 195103586505168) 41538374868278621028243970633760768 p (1073741824 * (D * D)) (68719476736 * (D + t) + D) (68719476736 * D) (lit< tt) (mul-pos (lit< tt) (mul-pos D-pos D-pos))
-          order (curve-le t D small D-pos p ep))
-
-      go : (w < 3888119808) ⊎ (3888119808 ≤ w) → TwoLe (w - 3888119808) 147573952589676412928 (D + t) D
-      go (inl l) = subst (λ (z : ℕ). TwoLe z 147573952589676412928 (D + t) D) (none l) (two-le-one 147573952589676412928 (D + t) D (omega arith))
-        where
-          none : w < 3888119808 → 0 ≡ w - 3888119808
-          none l = omega arith
-      go (inr l) =
-          two-le-weaken (w - 3888119808) 147573952589676412928 ((68719476736 * (D + t) + D) * 68719476736) (68719476736 * D * 68719476737) (D + t) D (mul-pos (mul-pos (lit< tt) D-pos) (lit< tt)) (flat t D)
-          (two-le-quot 147573952589676412928 (w - 3888119808) 3888119808 (68719476736 * (D + t) + D) (68719476736 * D) 68719476737 68719476736
-          (subst (λ (z : ℕ). TwoLe z 147573952589676412928 (68719476736 * (D + t) + D) (68719476736 * D)) (whole l) by-two) spare)
-        where
-          whole : 3888119808 ≤ w → w ≡ w - 3888119808 + 3888119808
-          whole l = omega arith
-
-          flat : (t D : ℕ) → (68719476736 * (D + t) + D) * 68719476736 * D ≤ (D + t) * (68719476736 * D * 68719476737)
-          flat t D = omega arith
-
-  line-above : 49570588694 * 4294967296 * (t * D) ≤ w * (D * D) + 395790452196 * 268435456 * (t * t) → TwoGe (w + 51539607552) 147573952589676412928 (D + t) D
-  line-above h =
-      let c = 4294967296 * (D + t) - D in
-      two-ge-weaken (w + 51539607552) 147573952589676412928 (c * 137438953505) (4294967296 * D * 137438953472) (D + t) D (mul-pos (mul-pos (lit< tt) D-pos) (lit< tt)) (covers t D c (omega arith))
-      (two-ge-mul 147573952589676412928 w 51539607552 c (4294967296 * D) 137438953505 137438953472
-      (two-ge-exp 195103586505167 281474976710656 w 147573952589676412928 c (4294967296 * D) (lit< tt) (lit< tt) ln2-le
-      (ge-above (w * 195103586505167) 41538374868278621028243970633760768 p (1073741824 * (D * D)) c (4294967296 * D) (lit< tt) (mul-pos (lit< tt) (mul-pos D-pos D-pos))
-      order (curve-ge t D small D-pos p ep)))
-      room)
-    where
-      p : ℕ
-      p = 1073741055 * (t * D) - 535822337 * (t * t)
-
-      ep : p + 535822337 * (t * t) ≡ 1073741055 * (t * D)
-      ep = omega (arith, mul-le-mul-left t small)
-
-      order : p * 41538374868278621028243970633760768 ≤ w * 195103586505167 * (1073741824 * (D * D))
-      order =
-          last (w * (D * D)) (t * D) (t * t) 41538374868278621028243970633760768
-          (scaled-ge (w * (D * D)) (t * D) (t * t) (49570588694 * 4294967296) (395790452196 * 268435456) (1073741824 * 195103586505167) (1073741055 * 41538374868278621028243970633760768) (535822337 * 41538374868278621028243970633760768) h (lit≤ tt) (lit≤ tt))
-          ep (omega arith)
-        where
-          last : (U a b h : ℕ) → 1073741055 * h * a ≤ 1073741824 * 195103586505167 * U + 535822337 * h * b → p + 535822337 * b ≡ 1073741055 * a
-              → w * 195103586505167 * (1073741824 * (D * D)) ≡ 1073741824 * 195103586505167 * U → p * h ≤ w * 195103586505167 * (1073741824 * (D * D))
-          last U a b h g e k = rw k (omega (arith, ap (λ (z : ℕ). z * h) e))
+use Rattle.elementary.proofs.log2.Line.{line-below, line-above}
+use Rattle.elementary.proofs.log2.Law.{floor, B-is, C-is, B-lt, B-gt, C-lt}
 
 -- ---- with the table: t below 2^26
 module _ (i t n D q : ℕ) (I : i < 512) (Small : t < 67108864) (en : n ≡ 512 + i) (eD : D ≡ n * 67108864) (lo : q * 16777216 ≤ t * t) (hi : t * t < (q + 1) * 16777216) where
@@ -160,7 +76,7 @@ module _ (i t n D q : ℕ) (I : i < 512) (Small : t < 67108864) (en : n ≡ 512 
       go : t * t ≤ 67108864 * 67108864 → q ≤ 268435456
       go h = omega arith
 
-  -- the bend's part is the smaller, but at t = 0
+  -- the curvature's part is the smaller, but at t = 0
   curvature-lt : 0 < t → (curvature i + 1) * (q + 1) ≤ slope i * t * 64
   curvature-lt T = go (curvature i) (slope i) (C-lt i 0 n (n * 16384) I (lit< tt) en refl) (B-gt i 0 n (n * 16384) I (lit< tt) en refl)
     where

@@ -1,6 +1,6 @@
 -- What the code of log2 asks: that its words hold the numbers of the definition, and that nothing passes 64 bits.
 use mathlib.Core.Path.{_≡_, refl, ap, _∙_}
-use Prim.Native.Nat.{ℕ, _+_, _-_, _*_, _/_, _%_, _^_, _≤_, _<_}
+use Prim.Native.Nat.{ℕ, _+_, _-_, _*_, _/_, _%_, _≤_, _<_}
 use native.Mathlib.Nat.{mul-le-mul}
 use native.Mathlib.Omega.{arith}
 use Rattle.power_tables.specs.Tables.{height, slope, curvature, lineWord}

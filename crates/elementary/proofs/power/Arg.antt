@@ -1,16 +1,11 @@
 -- The product |y log2 x| in units of 2^-39, for |y| ≤ 128.
-use mathlib.Core.Path.{_≡_, refl, sym, ap, _∙_, subst}
+use mathlib.Core.Path.{_≡_, refl, sym, ap, subst}
 use mathlib.Core.Logic.{_⊎_, inl, inr}
-use mathlib.Core.Bool.{Bool, true, false, not, cond}
 use Prim.Native.Nat.{ℕ, zero, suc, _+_, _-_, _*_, _/_, _%_, _^_, _≤_, _<_}
-use native.Mathlib.Nat.{le-trans, le-of-eq, mul-pos, mul-le-mul, mul-le-mul-left, mul-le-mul-right, le-of-mul-le-mul-right, pow-suc, pow-zero, div-eq-of-lt, lt-of-lt-of-le}
+use native.Mathlib.Nat.{le-trans, le-of-eq, mul-le-mul, mul-le-mul-left, mul-le-mul-right, le-of-mul-le-mul-right, pow-suc, div-eq-of-lt, lt-of-lt-of-le}
 use native.Mathlib.Omega.{arith}
-use borrow.Author.Tests.{lt-ltb, le-ltb}
-use lib.Dec.{ltb, lit<, lit≤}
+use lib.Dec.{lit≤}
 use lib.Pow.{pow-pos, pow-mono}
-use lib.Ieee.{Float, unlike}
-use lib.Ieee.Exact.{HasValue}
-use lib.Ieee.Positive.{num, den, den-pos}
 use Rattle.series.proofs.Cuts.{lt-or-ge}
 use Rattle.series.proofs.Value.{units}
 use Rattle.elementary.specs.Power.{product}

@@ -1,13 +1,13 @@
 -- For every finite y: within two steps from 2^-126 to 2^127, 0 below 2^-127, +infinity from 2^129.
 use mathlib.Core.Path.{_≡_, refl, sym, ap, _∙_, subst}
 use mathlib.Core.Logic.{_⊎_, inl, inr}
-use mathlib.Core.Bool.{Bool, true, false, cond}
-use Prim.Native.Nat.{ℕ, zero, suc, _+_, _-_, _*_, _%_, _^_, _≤_, _<_}
-use native.Mathlib.Nat.{le-trans, le-of-eq, not-le-of-lt, mul-le-mul-right, mul-le-mul-left, pow-le-pow-left}
+use mathlib.Core.Bool.{Bool, true, false}
+use Prim.Native.Nat.{ℕ, _+_, _-_, _*_, _%_, _^_, _≤_, _<_}
+use native.Mathlib.Nat.{le-trans, le-of-eq, not-le-of-lt, pow-le-pow-left}
 use native.Mathlib.Decide.{ℕ-discrete}
 use native.Mathlib.Omega.{arith}
 use borrow.Author.Tests.{lt-ltb, le-ltb, eq-eqb, ne-eqb}
-use lib.Dec.{T, ltb, eqb, eqb→eq, eqb-refl, lit<, lit≤}
+use lib.Dec.{T, lit<, lit≤}
 use lib.Ieee.{Float, binary32, ofBits, toBits, fits}
 use lib.Ieee.Bits.{ofBits-toBits, toBits-lt}
 use lib.Ieee.Exact.{HasValue}

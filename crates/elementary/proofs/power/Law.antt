@@ -1,10 +1,10 @@
 -- The recipe for |y| up to 128 is right for x^y.
-use mathlib.Core.Path.{_≡_, refl, sym, ap, _∙_, subst}
+use mathlib.Core.Path.{_≡_, sym, subst}
 use mathlib.Core.Bool.{Bool, true, false}
 use Prim.Native.Nat.{ℕ, _+_, _-_, _*_, _/_, _%_, _^_, _≤_, _<_}
 use native.Mathlib.Nat.{mul-le-mul, le-of-mul-le-mul-right}
 use native.Mathlib.Omega.{arith}
-use lib.Dec.{ltb, lit<}
+use lib.Dec.{ltb}
 use lib.Ieee.{Float, binary32, unlike, ofBits}
 use lib.Ieee.Positive.{num, den, den-pos}
 use Rattle.series.proofs.Value.{units}

@@ -1,13 +1,13 @@
 -- From bounds of log2 x to bounds of x^y, by the signs of y and of log2 x. log2 x + 159 is l in units of 2^-35, at most 8 too high
 -- and 16 too low, and z is y log2 x + 2^16 + 126 in units of 2^-39.
-use mathlib.Core.Path.{_≡_, refl, sym, ap, _∙_, subst}
+use mathlib.Core.Path.{_≡_, refl, sym, ap, _∙_}
 use mathlib.Core.Bool.{Bool, true, false, not, cond}
-use Prim.Native.Nat.{ℕ, zero, suc, _+_, _-_, _*_, _/_, _%_, _^_, _≤_, _<_}
+use Prim.Native.Nat.{ℕ, _+_, _-_, _*_, _^_, _≤_, _<_}
 use mathlib.Core.Logic.{_⊎_, inl, inr}
 use native.Mathlib.Nat.{mul-le-mul-left}
 use native.Mathlib.Omega.{arith}
 use borrow.Author.Tests.{lt-ltb, le-ltb}
-use lib.Dec.{ltb, lit<, lit≤}
+use lib.Dec.{ltb, lit<}
 use lib.Ieee.{unlike}
 use Rattle.series.proofs.Cuts.{lt-or-ge}
 use Rattle.series.proofs.Two.{TwoLe, TwoGe}

@@ -1,12 +1,12 @@
 -- What is shown of a result for x^y, from bounds of the exponent of 2 or from a bound beyond an end.
-use mathlib.Core.Path.{_≡_, refl, sym, ap, _∙_, subst}
+use mathlib.Core.Path.{_≡_, sym, ap, _∙_, subst}
 use mathlib.Core.Logic.{_⊎_, inl, inr}
 use mathlib.Core.Bool.{Bool, true, false, not}
 use Prim.Native.Nat.{ℕ, zero, suc, _+_, _-_, _*_, _/_, _%_, _^_, _≤_, _<_}
 use native.Mathlib.Nat.{not-le-of-lt, mul-pos, mul-le-mul-left, mul-le-mul-right, le-of-mul-le-mul-right, one-le-pow, pow-le-pow-left}
 use native.Mathlib.Omega.{arith}
 use borrow.Author.Tests.{lt-ltb, le-ltb}
-use lib.Dec.{T, ltb, lit<, lit≤}
+use lib.Dec.{ltb, lit<, lit≤}
 use lib.IntN.{pos}
 use lib.Ieee.{Float, inf, fin, binary32, ofBits}
 use lib.Ieee.Exact.{HasValue}

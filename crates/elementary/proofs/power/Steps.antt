@@ -1,20 +1,16 @@
--- What the code of powf asks: the unrolled pattern, the product with y, and the usual arm, which counts from 1.
+-- What the code of powf asks: the normalized pattern, the product with y, and the quick arm, which counts from 1.
 use mathlib.Core.Path.{_≡_, refl, sym, ap, ap₂, _∙_, subst}
-use mathlib.Core.Logic.{_⊎_, inl, inr}
 use mathlib.Core.Bool.{Bool, true, false, not, cond, true≢false}
-use Prim.Native.Nat.{ℕ, zero, suc, _+_, _-_, _*_, _/_, _%_, _^_, _≤_, _<_}
-use native.Mathlib.Nat.{le-trans, le-of-eq, lt-of-lt-of-le, lt-of-le-of-lt, mul-pos, mul-comm, mul-le-mul, mul-le-mul-left, mul-le-mul-right, mul-lt-mul-of-pos-right, mul-div-cancel, div-div-eq-div-mul, div-eq-of-lt, div-mul-le-self, zero-mul, mul-zero, zero-div}
+use Prim.Native.Nat.{ℕ, _+_, _-_, _*_, _/_, _%_, _^_, _≤_, _<_}
+use native.Mathlib.Nat.{le-trans, le-of-eq, lt-of-le-of-lt, mul-le-mul, mul-le-mul-left, mul-div-cancel, div-div-eq-div-mul, div-eq-of-lt, div-mul-le-self, zero-mul, mul-zero, zero-div}
 use native.Mathlib.Omega.{arith}
-use borrow.Author.Tests.{lt-ltb, le-ltb}
-use lib.Dec.{T, ltb, leb, eqb, eqb→eq, leb→le, le→leb, not-T, lit<, lit≤}
-use lib.Ieee.Bits.{is-true, is-false}
+use borrow.Author.Tests.{le-ltb}
+use lib.Dec.{T, ltb, eqb, eqb→eq, lit<, lit≤}
 use lib.Pow.{pow-pos, pow-add, pow-mono}
-use lib.Count.{leadingZeros, leading-top}
-use lib.Ieee.{Float, nan, inf, fin, binary32, isNan, unlike, toBits}
-use Rattle.series.proofs.Cuts.{lt-or-ge}
+use lib.Ieee.{unlike}
 use Rattle.elementary.specs.Power.{normalized, log2At, log2Of, absDiff, signedArg, product, argOf, exp2Of, exp2Bits, nearBits}
 use Rattle.elementary.specs.Quick.{Quick, ArgAsked, ArgIs}
-use Rattle.elementary.proofs.power.Parts.{normalized-normal, is, w, w-le, parts, log-range}
+use Rattle.elementary.proofs.power.Parts.{normalized-normal, is, w-le, parts, log-range}
 use Rattle.elementary.proofs.power.Order.{diff-le}
 use Rattle.elementary.proofs.power.Arg.{product-is}
 

@@ -1,4 +1,4 @@
-use mathlib.Core.Path.{_≡_, sym, ap, _∙_}
+use mathlib.Core.Path.{ap, _∙_}
 use native.Mathlib.Nat.{le-trans, le-of-eq}
 use lib.Ieee.{binary32, ofBits}
 use borrow.Author.Needs.{needs}

@@ -1,5 +1,5 @@
-use mathlib.Core.Path.{_≡_, sym, ap, _∙_}
-use Prim.Native.Nat.{ℕ, _+_, _*_, _/_, _%_, _≤_}
+use mathlib.Core.Path.{sym, ap, _∙_}
+use Prim.Native.Nat.{_+_, _*_, _/_, _%_, _≤_}
 use native.Mathlib.Nat.{le-trans, le-of-eq}
 use lib.Dec.{lit≤}
 use lib.Ieee.{binary32, ofBits}

@@ -1,6 +1,6 @@
-use mathlib.Core.Path.{_≡_, sym, ap, _∙_, subst}
+use mathlib.Core.Path.{sym, ap, _∙_, subst}
 use Prim.Native.Nat.{ℕ, _≤_}
-use Rattle.elementary.specs.Power.{fineLog2, fineArg}
+use Rattle.elementary.specs.Power.{fineArg}
 use Rattle.elementary.proofs.large.Cases.{arg-low, arg-mid, arg-high}
 use Rattle.elementary.proofs.large.Steps.{fine-tight, yes, no′}
 use borrow.Author.Needs.{needs}

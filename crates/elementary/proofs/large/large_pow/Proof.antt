@@ -1,4 +1,4 @@
-use mathlib.Core.Path.{_≡_, ap, _∙_}
+use mathlib.Core.Path.{ap, _∙_}
 use lib.Ieee.{binary32, ofBits}
 use borrow.Author.Needs.{needs}
 use Rattle.elementary.proofs.large.Steps.{large-from}

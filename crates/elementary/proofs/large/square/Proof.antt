@@ -1,5 +1,5 @@
 use native.Mathlib.Omega.{arith}
-use Prim.Native.Nat.{ℕ, _/_, _%_}
+use Prim.Native.Nat.{_/_, _%_}
 use Rattle.elementary.proofs.large.Squaring.{SquareFits, square-is}
 use Rattle.elementary.proofs.large.square.Statement.{statement}
 use Rattle.elementary.proofs.large.square.Tie as tie

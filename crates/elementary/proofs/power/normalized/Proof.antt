@@ -1,4 +1,4 @@
-use mathlib.Core.Path.{_≡_, sym, ap, _∙_}
+use mathlib.Core.Path.{_≡_, sym, _∙_}
 use Prim.Native.Nat.{ℕ, _+_, _-_, _*_, _^_, _%_, _≤_}
 use native.Mathlib.Nat.{mod-eq-of-lt, lt-of-lt-of-le}
 use native.Mathlib.Omega.{arith}

@@ -1,6 +1,6 @@
-use mathlib.Core.Path.{_≡_, sym, subst}
-use mathlib.Core.Bool.{Bool, true, false, not, true≢false}
-use Prim.Native.Nat.{ℕ, _%_, _≤_, _<_}
+use mathlib.Core.Path.{sym, subst}
+use mathlib.Core.Bool.{Bool, not, true≢false}
+use Prim.Native.Nat.{ℕ, _%_}
 use native.Mathlib.Omega.{arith}
 use lib.Dec.{T, ltb→lt, nltb→le}
 use Rattle.elementary.specs.Quick.{Near, Quick}

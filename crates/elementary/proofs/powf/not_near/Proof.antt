@@ -1,11 +1,11 @@
-use mathlib.Core.Path.{_≡_, sym, ap, _∙_}
+use mathlib.Core.Path.{sym, ap, _∙_}
 use mathlib.Core.Logic.{_⊎_, inl, inr}
 use Prim.Native.Nat.{ℕ, _%_, _≤_, _<_}
 use native.Mathlib.Omega.{arith}
 use borrow.Author.Needs.{needs}
 use lib.Ieee.{binary32, ofBits}
 use Rattle.series.proofs.Cuts.{lt-or-ge}
-use Rattle.elementary.specs.Quick.{Near, Special}
+use Rattle.elementary.specs.Quick.{Near}
 use Rattle.elementary.proofs.power.Finite.{is-large}
 use Rattle.elementary.proofs.powf.Cases.{at-regular}
 use Rattle.elementary.proofs.powf.not_near.Statement.{statement}
