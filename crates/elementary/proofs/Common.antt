@@ -45,11 +45,15 @@ number-of-bits (fin s m e) h = tt
 pub bits-of-number : (x : Float) → T (fits binary32 x) → T (not (isNan x)) → toBits binary32 x % 2147483648 ≤ 2139095040
 bits-of-number x f h =
     let b = toBits binary32 x in
-    let e : isNan x ≡ ltb 2139095040 (b % 2147483648) = ap isNan (sym (ofBits-toBits binary32 x f)) ∙ sym (nanBits-is binary32 b) ∙ nanBits-above binary32 b in
+    let e : isNan x ≡ ltb 2139095040 (b % 2147483648) = ap isNan (sym (ofBits-toBits binary32 x f))
+    ∙ sym (nanBits-is binary32 b) ∙ nanBits-above binary32 b in
     nltb→le 2139095040 (b % 2147483648) (subst (λ (t : Bool). T (not t)) e h)
 
 pub no-nan-bits : (n : ℕ) → n % 2147483648 ≤ 2139095040 → T (not (nanBits binary32 n))
-no-nan-bits n h = subst (λ (t : Bool). T (not t)) (sym (nanBits-above binary32 n)) (not-T (ltb 2139095040 (n % 2147483648)) (λ (u : T (ltb 2139095040 (n % 2147483648))). no (ltb→lt 2139095040 (n % 2147483648) u)))
+no-nan-bits n h =
+    subst (λ (t : Bool). T (not t)) (sym (nanBits-above binary32 n))
+    (not-T (ltb 2139095040 (n % 2147483648)) (λ (u : T (ltb 2139095040 (n % 2147483648))). no
+    (ltb→lt 2139095040 (n % 2147483648) u)))
   where
     no : 2139095040 < n % 2147483648 → ⊥
     no u = omega arith

@@ -1,6 +1,6 @@
--- How near exp, ln and powf are to the exact values, and their results at the ends of their ranges.
--- The exact values of exp and ln are those of the series (Rattle.series.specs.Exp), that of x^y is by whole-number powers; a
--- finite float is num / den, with a sign.
+-- How near exp, ln and powf are to the exact values, and their results at the ends of their ranges. The exact values of
+-- exp and ln are those of the series (Rattle.series.specs.Exp), that of x^y is by whole-number powers; a finite float
+-- is num / den, with a sign.
 use mathlib.Core.Path.{_≡_}
 use mathlib.Core.Logic.{_⊎_}
 use mathlib.Core.Bool.{Bool, true, false, not}
@@ -31,7 +31,9 @@ pub record IsExp (x r : Float) : Type 0 where
   pub at-zero : toBits binary32 x % 2 ^ 31 ≡ 0 → r ≡ ofBits binary32 0x3F800000
   pub over : T (not (isNan x)) → 0x42B17218 ≤ toBits binary32 x → toBits binary32 x < 2 ^ 31 → r ≡ inf false
   pub under : T (not (isNan x)) → 0xC2AEAC50 ≤ toBits binary32 x → r ≡ fin false 0 (pos 0)
-  pub near : T (not (isNan x)) → (toBits binary32 x < 0x42B17218) ⊎ (2 ^ 31 ≤ toBits binary32 x) × (toBits binary32 x < 0xC2AEAC50) → Within (ExpAtLeast x) (ExpAtMost x) 1 r
+  pub near : T (not (isNan x))
+      → (toBits binary32 x < 0x42B17218) ⊎ (2 ^ 31 ≤ toBits binary32 x) × (toBits binary32 x < 0xC2AEAC50)
+      → Within (ExpAtLeast x) (ExpAtMost x) 1 r
 
 -- ---- ln
 -- a / b ≤ ln x, or with the sign set a / b ≤ - ln x, for a finite x above 0: e^(a / b) is at most x, or 1 / x
@@ -61,8 +63,10 @@ pub record IsLn (x r : Float) : Type 0 where
   pub near : 0 < toBits binary32 x → toBits binary32 x < 0x7F800000 → WithinLn x r
 
 -- ---- powf
--- What x^y is needs no series: x is a fraction a / b and |y| a fraction n / m, and c / d is at most (a / b)^(n / m) just where
--- (c / d)^m is at most (a / b)^n. So at each c / d one of the two bounds holds, also where x^y is c / d itself.
+-- What x^y is needs no series: x is a fraction a / b and |y| a fraction n / m, and c / d is at most (a / b)^(n / m)
+-- just where (c / d)^m is at most (a / b)^n. So at each c / d one of the two bounds holds, also where x^y is c / d
+-- itself.
+
 -- c / d ≤ (a / b)^(n / m), or with the sign set c / d ≤ (a / b)^(- n / m) = (b / a)^(n / m)
 abbrev pub RatioGe : Bool → ℕ → ℕ → ℕ → ℕ → ℕ → ℕ → Type 0
 RatioGe false a b n m c d = c ^ m * b ^ n ≤ a ^ n * d ^ m
@@ -107,7 +111,8 @@ IsOdd y = (k : ℕ) × HasValue y (signOf y) (2 * k + 1) 1
 
 -- r is right for x^y
 pub record IsPow (x y r : Float) : Type 0 where
-  -- a finite x above 0 and a finite y: within two steps from 2^-126 to 2^127, both included; 0 below 2^-127; +infinity from 2^129
+  -- a finite x above 0 and a finite y: within two steps from 2^-126 to 2^127, both included; 0 below 2^-127; +infinity
+  -- from 2^129
   pub near : Finite x y → PowGe x y 1 (2 ^ 126) → PowLe x y (2 ^ 127) 1 → Within (PowGe x y) (PowLe x y) 2 r
   pub under : Finite x y → (PowGe x y 1 (2 ^ 127) → ⊥) → r ≡ fin false 0 (pos 0)
   pub over : Finite x y → PowGe x y (2 ^ 129) 1 → r ≡ inf false
@@ -121,9 +126,12 @@ pub record IsPow (x y r : Float) : Type 0 where
   pub of-one : IsOne x → r ≡ ofBits binary32 0x3F800000
   pub to-zero : IsZero y → r ≡ ofBits binary32 0x3F800000
   -- pow(x, ±infinity) for x from +0 to 1, and above 1
-  pub small-to-minus-infinity : IsPlus x → toBits binary32 x < 0x3F800000 → toBits binary32 y ≡ 0xFF800000 → r ≡ inf false
-  pub large-to-minus-infinity : IsPlus x → 0x3F800000 < toBits binary32 x → toBits binary32 y ≡ 0xFF800000 → r ≡ fin false 0 (pos 0)
-  pub small-to-infinity : IsPlus x → toBits binary32 x < 0x3F800000 → toBits binary32 y ≡ 0x7F800000 → r ≡ fin false 0 (pos 0)
+  pub small-to-minus-infinity : IsPlus x → toBits binary32 x < 0x3F800000 → toBits binary32 y ≡ 0xFF800000
+      → r ≡ inf false
+  pub large-to-minus-infinity : IsPlus x → 0x3F800000 < toBits binary32 x → toBits binary32 y ≡ 0xFF800000
+      → r ≡ fin false 0 (pos 0)
+  pub small-to-infinity : IsPlus x → toBits binary32 x < 0x3F800000 → toBits binary32 y ≡ 0x7F800000
+      → r ≡ fin false 0 (pos 0)
   pub large-to-infinity : IsPlus x → 0x3F800000 < toBits binary32 x → toBits binary32 y ≡ 0x7F800000 → r ≡ inf false
   -- pow(+infinity, y): +0 below 0, +infinity above 0
   pub infinity-to-minus : toBits binary32 x ≡ 0x7F800000 → IsMinus y → r ≡ fin false 0 (pos 0)

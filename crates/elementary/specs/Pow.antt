@@ -1,5 +1,6 @@
--- powf: the value at each pair of f32. For a finite x above 0 and a finite y it is powBits (specs/Power); here are the special
--- cases. b and c are the bit patterns of x and y, 0x3F800000 is that of 1, 0x7F800000 that of +infinity, and the sign's bit is 2^31.
+-- powf: the value at each pair of f32. For a finite x above 0 and a finite y it is powBits (specs/Power); here are the
+-- special cases. b and c are the bit patterns of x and y, 0x3F800000 is that of 1, 0x7F800000 that of +infinity, and
+-- the sign's bit is 2^31.
 use mathlib.Core.Bool.{Bool, false, cond}
 use Prim.Native.Nat.{ℕ, _+_, _-_, _*_, _/_, _%_, _^_}
 use lib.Dec.{ltb, eqb}
@@ -10,7 +11,8 @@ use Rattle.elementary.specs.Power.{powBits}
 unfoldable pub isOdd : ℕ → Bool
 isOdd a =
     cond (ltb a 0x3F800000) false
-    (cond (ltb a 0x4B800000) (eqb ((a % 2 ^ 23 + 2 ^ 23) % (2 ^ (150 - a / 2 ^ 23) * 2)) (2 ^ (150 - a / 2 ^ 23))) false)
+    (cond (ltb a 0x4B800000) (eqb ((a % 2 ^ 23 + 2 ^ 23) % (2 ^ (150 - a / 2 ^ 23) * 2)) (2 ^ (150 - a / 2 ^ 23)))
+    false)
 
 -- a zero to the y: 0 for y above 0, else an infinity, with the sign of the zero where y is odd
 unfoldable pub zeroSize : ℕ → ℕ

@@ -8,7 +8,8 @@ use Rattle.power_tables.specs.Tables.{height, slope, curvature, power}
 use Rattle.elementary.specs.Ln.{exponent, significand}
 
 -- ---- log2 x
--- the bit pattern of x, where one with leading zeros has them shifted out: 2^23 for each power of two, and 159 * 2^23 for 1
+-- the bit pattern of x, where one with leading zeros has them shifted out: 2^23 for each power of two, and 159 * 2^23
+-- for 1
 unfoldable pub normalized : ℕ → ℕ
 unfolding exponent significand
 normalized b = (exponent b - 1) * 2 ^ 23 + significand b
@@ -27,13 +28,14 @@ log2Of p = p / 2 ^ 14 * 2 ^ 23 + log2At (p / 2 ^ 14 % 512) (p % 2 ^ 14)
 unfoldable pub absDiff : ℕ → ℕ → ℕ
 absDiff l n = cond (ltb l n) (n - l) (l - n)
 
--- y log2 x + 2^16 + 126 in units of 2^-39, where u is |y log2 x|, l is log2 x + 159 and n is 159, both in the same units, and c is
--- the bit pattern of y: the sign's bit is 2^31
+-- y log2 x + 2^16 + 126 in units of 2^-39, where u is |y log2 x|, l is log2 x + 159 and n is 159, both in the same
+-- units, and c is the bit pattern of y: the sign's bit is 2^31
 unfoldable pub signedArg : ℕ → ℕ → ℕ → ℕ → ℕ
-signedArg n l c u = cond (unlike (ltb l n) (not (ltb c (2 ^ 31)))) ((2 ^ 16 + 126) * 2 ^ 39 - u) ((2 ^ 16 + 126) * 2 ^ 39 + u)
+signedArg n l c u =
+    cond (unlike (ltb l n) (not (ltb c (2 ^ 31)))) ((2 ^ 16 + 126) * 2 ^ 39 - u) ((2 ^ 16 + 126) * 2 ^ 39 + u)
 
--- |y log2 x| in units of 2^-39, where g is |log2 x| in units of 2^-32 and a the bit pattern of |y|; the leading digit of a
--- subnormal y makes no difference
+-- |y log2 x| in units of 2^-39, where g is |log2 x| in units of 2^-32 and a the bit pattern of |y|; the leading digit
+-- of a subnormal y makes no difference
 unfoldable pub product : ℕ → ℕ → ℕ
 product g a = (a % 2 ^ 23 + 2 ^ 23) * g * 2 ^ (a / 2 ^ 23) / 2 ^ 143
 
@@ -42,8 +44,8 @@ unfolding absDiff signedArg product
 argOf l c = signedArg (159 * 2 ^ 32) l c (product (absDiff l (159 * 2 ^ 32)) (c % 2 ^ 31))
 
 -- ---- 2^(z / 2^39 - 2^16 - 126)
--- 2^(r / 2^39) - 1 in units of 2^-32, for r below 2^32: 1488518144 is ln 2 (1 - 3 ln2^2 / 2^19) = 0.69314... in units of 2^-31,
--- 1034558604 is ln2^2 / 2 (1 + ln2 / 256) = 0.24087... in units of 2^-32
+-- 2^(r / 2^39) - 1 in units of 2^-32, for r below 2^32: 1488518144 is ln 2 (1 - 3 ln2^2 / 2^19) = 0.6931453 in units
+-- of 2^-31, 1034558604 is ln2^2 / 2 (1 + ln2 / 256) = 0.2408769 in units of 2^-32
 unfoldable pub exp2m1 : ℕ → ℕ
 exp2m1 r = r * (1488518144 + r * 1034558604 / 2 ^ 40) / 2 ^ 38
 
@@ -85,19 +87,21 @@ fineLog2 x =
     let y = x * 2 ^ z / 2 ^ 28 in
     (162 - z) * 2 ^ 35 + (fineLog2At (y / 2 ^ 26 - 512) (y % 2 ^ 26) + (y / 2 ^ 26 - 512) * 2 ^ 26)
 
--- y log2 x + 2^16 + 126 in units of 2^-39, where y has the digits and the sign of the bit pattern c and is from 64 to 128 in size
+-- y log2 x + 2^16 + 126 in units of 2^-39, where y has the digits and the sign of the bit pattern c and is from 64 to
+-- 128 in size
 unfoldable pub fineArg : ℕ → ℕ → ℕ
 unfolding absDiff signedArg
 fineArg l c = signedArg (159 * 2 ^ 35) l c ((c % 2 ^ 23 + 2 ^ 23) * absDiff l (159 * 2 ^ 35) / 2 ^ 13)
 
--- x^(2^k) in units of 2^-60, from the normalized pattern p of x, where |y| / 2^k is from 64 to 128; 0 where it is below 1/4, 2^62 where it is 4 or more.
--- (From |y| = 2^31 on it is one or the other for every x but 1.)
+-- x^(2^k) in units of 2^-60, from the normalized pattern p of x, where |y| / 2^k is from 64 to 128; 0 where it is below
+-- 1/4, 2^62 where it is 4 or more. (From |y| = 2^31 on it is one or the other for every x but 1.)
 unfoldable pub squared : ℕ → ℕ → ℕ
 unfolding squares
 squared p c =
     let k = c % 2 ^ 31 / 2 ^ 23 - 133 in
     cond (ltb p (157 * 2 ^ 23)) 0
-    (cond (ltb p (161 * 2 ^ 23)) (cond (ltb 24 k) (cond (ltb p (159 * 2 ^ 23)) 0 (2 ^ 62)) (squares k ((2 ^ 23 + p % 2 ^ 23) * 2 ^ (p / 2 ^ 23 - 122))))
+    (cond (ltb p (161 * 2 ^ 23))
+    (cond (ltb 24 k) (cond (ltb p (159 * 2 ^ 23)) 0 (2 ^ 62)) (squares k ((2 ^ 23 + p % 2 ^ 23) * 2 ^ (p / 2 ^ 23 - 122))))
     (2 ^ 62))
 
 unfoldable pub largeArg : ℕ → ℕ → ℕ

@@ -3,7 +3,8 @@ use mathlib.Core.List.{List, [], _∷_}
 use Prim.Native.Nat.{ℕ, _+_, _-_, _*_, _/_, _^_}
 use lib.ListN.{getD}
 
--- entry i, i < 512: log2 (1 + i / 512) - i / 512 in units of 2^-35, cut down, and 7 more, for the rounding of the logarithm
+-- entry i, i < 512: log2 (1 + i / 512) - i / 512 in units of 2^-35, cut down, and 7 more, for the rounding of the
+-- logarithm
 unfoldable pub heights : List ℕ
 heights =
     7 ∷ 29614342 ∷ 59040317 ∷ 88278664 ∷ 117330109 ∷ 146195378 ∷ 174875190 ∷ 203370259 ∷
@@ -99,8 +100,9 @@ unfoldable pub power : ℕ → ℕ
 unfolding powers
 power i = getD powers i 0
 
--- log2 (1 + d) is about (1 - 3 / 2^22) / ln 2 * d - (1 - 2^-9) / (2 ln 2) * d^2 for d = t / ((512 + i) 2^14) below 2^-9;
--- 49570588694 is the first factor, 1.44269400.., in units of 2^-35, 395790452196 the second, 0.71993863.., in units of 2^-39
+-- log2 (1 + d) is about (1 - 3 / 2^22) / ln 2 * d - (1 - 2^-9) / (2 ln 2) * d^2 for d = t / ((512 + i) 2^14) below
+-- 2^-9; 49570588694 is the first factor, 1.44269400.., in units of 2^-35, 395790452196 the second, 0.71993863.., in
+-- units of 2^-39
 unfoldable pub slope : ℕ → ℕ
 slope i = 49570588694 / (512 + i)
 

@@ -1,4 +1,5 @@
--- 2^(p / q) against fractions, by whole numbers alone: 2^(p / q) ≤ a / b is 2^p b^q ≤ a^q. Shut, so that no power is computed.
+-- 2^(p / q) against fractions, by whole numbers alone: 2^(p / q) ≤ a / b is 2^p b^q ≤ a^q. Shut, so that no power is
+-- computed.
 use mathlib.Core.Path.{_≡_, subst}
 use mathlib.Core.Logic.{_⊎_, inl, inr}
 use Prim.Native.Nat.{ℕ, zero, suc, _+_, _*_, _^_, _≤_, _<_}
@@ -49,7 +50,8 @@ two-ge-mono p r q a b h f = le-trans f (mul-le-mul-right (b ^ q) (pow-mono {i = 
 pub two-le-weaken : (p q a b c d : ℕ) → 0 < b → a * d ≤ c * b → TwoLe p q a b → TwoLe p q c d
 unfolding TwoLe
 two-le-weaken p q a b c d B h f =
-    go (2 ^ p) (a ^ q) (b ^ q) (c ^ q) (d ^ q) (one-le-pow q b B) f (subst (λ (z : ℕ). z ≤ c ^ q * b ^ q) (mul-pow a d q) (rw (mul-pow c b q) at (pow-le-pow-left h q)))
+    go (2 ^ p) (a ^ q) (b ^ q) (c ^ q) (d ^ q) (one-le-pow q b B) f
+    (subst (λ (z : ℕ). z ≤ c ^ q * b ^ q) (mul-pow a d q) (rw (mul-pow c b q) at (pow-le-pow-left h q)))
   where
     go : (t x y z w : ℕ) → 0 < y → t * y ≤ x → x * w ≤ z * y → t * w ≤ z
     go t x y z w Y g k = le-of-mul-le-mul-right {k = y} (omega (arith, mul-le-mul-right w g)) Y
@@ -57,7 +59,8 @@ two-le-weaken p q a b c d B h f =
 pub two-ge-weaken : (p q a b c d : ℕ) → 0 < b → c * b ≤ a * d → TwoGe p q a b → TwoGe p q c d
 unfolding TwoGe
 two-ge-weaken p q a b c d B h f =
-    go (2 ^ p) (a ^ q) (b ^ q) (c ^ q) (d ^ q) (one-le-pow q b B) f (subst (λ (z : ℕ). z ≤ a ^ q * d ^ q) (mul-pow c b q) (rw (mul-pow a d q) at (pow-le-pow-left h q)))
+    go (2 ^ p) (a ^ q) (b ^ q) (c ^ q) (d ^ q) (one-le-pow q b B) f
+    (subst (λ (z : ℕ). z ≤ a ^ q * d ^ q) (mul-pow c b q) (rw (mul-pow a d q) at (pow-le-pow-left h q)))
   where
     go : (t x y z w : ℕ) → 0 < y → x ≤ t * y → z * y ≤ x * w → z ≤ t * w
     go t x y z w Y g k = le-of-mul-le-mul-right {k = y} (omega (arith, mul-le-mul-right w g)) Y
@@ -65,14 +68,16 @@ two-ge-weaken p q a b c d B h f =
 -- 2^(x + y) = 2^x 2^y
 pub two-le-mul : (q x y a b c d : ℕ) → TwoLe x q a b → TwoLe y q c d → TwoLe (x + y) q (a * c) (b * d)
 unfolding TwoLe
-two-le-mul q x y a b c d f g = rw (pow-add 2 x y, mul-pow a c q, mul-pow b d q) (go (2 ^ x) (2 ^ y) (a ^ q) (b ^ q) (c ^ q) (d ^ q) f g)
+two-le-mul q x y a b c d f g =
+    rw (pow-add 2 x y, mul-pow a c q, mul-pow b d q) (go (2 ^ x) (2 ^ y) (a ^ q) (b ^ q) (c ^ q) (d ^ q) f g)
   where
     go : (t u a b c d : ℕ) → t * b ≤ a → u * d ≤ c → t * u * (b * d) ≤ a * c
     go t u a b c d f g = omega (arith, mul-le-mul f g)
 
 pub two-ge-mul : (q x y a b c d : ℕ) → TwoGe x q a b → TwoGe y q c d → TwoGe (x + y) q (a * c) (b * d)
 unfolding TwoGe
-two-ge-mul q x y a b c d f g = rw (pow-add 2 x y, mul-pow a c q, mul-pow b d q) (go (2 ^ x) (2 ^ y) (a ^ q) (b ^ q) (c ^ q) (d ^ q) f g)
+two-ge-mul q x y a b c d f g =
+    rw (pow-add 2 x y, mul-pow a c q, mul-pow b d q) (go (2 ^ x) (2 ^ y) (a ^ q) (b ^ q) (c ^ q) (d ^ q) f g)
   where
     go : (t u a b c d : ℕ) → a ≤ t * b → c ≤ u * d → a * c ≤ t * u * (b * d)
     go t u a b c d f g = omega (arith, mul-le-mul f g)
@@ -80,14 +85,18 @@ two-ge-mul q x y a b c d f g = rw (pow-add 2 x y, mul-pow a c q, mul-pow b d q) 
 -- 2^x = 2^(x + y) / 2^y
 pub two-ge-quot : (q x y a b c d : ℕ) → TwoGe (x + y) q a b → TwoLe y q c d → TwoGe x q (a * d) (b * c)
 unfolding TwoGe TwoLe
-two-ge-quot q x y a b c d f g = rw (mul-pow a d q, mul-pow b c q) (go (2 ^ x) (2 ^ y) (a ^ q) (b ^ q) (c ^ q) (d ^ q) (pow-pos y) (rw (pow-add 2 x y) at f) g)
+two-ge-quot q x y a b c d f g =
+    rw (mul-pow a d q, mul-pow b c q) (go (2 ^ x) (2 ^ y) (a ^ q) (b ^ q) (c ^ q) (d ^ q) (pow-pos y)
+    (rw (pow-add 2 x y) at f) g)
   where
     go : (t u a b c d : ℕ) → 0 < u → a ≤ t * u * b → u * d ≤ c → a * d ≤ t * (b * c)
     go t u a b c d U f g = omega (arith, mul-le-mul-right d f, mul-le-mul-left (t * b) g)
 
 pub two-le-quot : (q x y a b c d : ℕ) → TwoLe (x + y) q a b → TwoGe y q c d → TwoLe x q (a * d) (b * c)
 unfolding TwoGe TwoLe
-two-le-quot q x y a b c d f g = rw (mul-pow a d q, mul-pow b c q) (go (2 ^ x) (2 ^ y) (a ^ q) (b ^ q) (c ^ q) (d ^ q) (pow-pos y) (rw (pow-add 2 x y) at f) g)
+two-le-quot q x y a b c d f g =
+    rw (mul-pow a d q, mul-pow b c q) (go (2 ^ x) (2 ^ y) (a ^ q) (b ^ q) (c ^ q) (d ^ q) (pow-pos y)
+    (rw (pow-add 2 x y) at f) g)
   where
     go : (t u a b c d : ℕ) → 0 < u → t * u * b ≤ a → c ≤ u * d → t * (b * c) ≤ a * d
     go t u a b c d U f g = omega (arith, mul-le-mul-right d f, mul-le-mul-left (t * b) g)
@@ -113,19 +122,23 @@ two-cut p q a b c d Q f g =
 -- p / q = (k p) / (k q)
 pub two-le-up : (k p q a b : ℕ) → TwoLe p q a b → TwoLe (k * p) (k * q) a b
 unfolding TwoLe
-two-le-up k p q a b f = rw (← pow-pow 2 p k, ← pow-pow a q k, ← pow-pow b q k, ← mul-pow (2 ^ p) (b ^ q) k) (pow-le-pow-left f k)
+two-le-up k p q a b f =
+    rw (← pow-pow 2 p k, ← pow-pow a q k, ← pow-pow b q k, ← mul-pow (2 ^ p) (b ^ q) k) (pow-le-pow-left f k)
 
 pub two-ge-up : (k p q a b : ℕ) → TwoGe p q a b → TwoGe (k * p) (k * q) a b
 unfolding TwoGe
-two-ge-up k p q a b f = rw (← pow-pow 2 p k, ← pow-pow a q k, ← pow-pow b q k, ← mul-pow (2 ^ p) (b ^ q) k) (pow-le-pow-left f k)
+two-ge-up k p q a b f =
+    rw (← pow-pow 2 p k, ← pow-pow a q k, ← pow-pow b q k, ← mul-pow (2 ^ p) (b ^ q) k) (pow-le-pow-left f k)
 
 pub two-le-down : (k p q a b : ℕ) → 0 < k → TwoLe (k * p) (k * q) a b → TwoLe p q a b
 unfolding TwoLe
-two-le-down k p q a b K f = root (2 ^ p * b ^ q) (a ^ q) k K (rw (mul-pow (2 ^ p) (b ^ q) k, pow-pow 2 p k, pow-pow a q k, pow-pow b q k) f)
+two-le-down k p q a b K f =
+    root (2 ^ p * b ^ q) (a ^ q) k K (rw (mul-pow (2 ^ p) (b ^ q) k, pow-pow 2 p k, pow-pow a q k, pow-pow b q k) f)
 
 pub two-ge-down : (k p q a b : ℕ) → 0 < k → TwoGe (k * p) (k * q) a b → TwoGe p q a b
 unfolding TwoGe
-two-ge-down k p q a b K f = root (a ^ q) (2 ^ p * b ^ q) k K (rw (mul-pow (2 ^ p) (b ^ q) k, pow-pow 2 p k, pow-pow a q k, pow-pow b q k) f)
+two-ge-down k p q a b K f =
+    root (a ^ q) (2 ^ p * b ^ q) k K (rw (mul-pow (2 ^ p) (b ^ q) k, pow-pow 2 p k, pow-pow a q k, pow-pow b q k) f)
 
 -- 2^k itself
 pub two-le-whole : (k q : ℕ) → TwoLe (q * k) q (2 ^ k) 1
@@ -149,7 +162,8 @@ unfolding TwoLe
 two-le-exp c s p q a b S Q f g =
     go (2 ^ p) (b ^ q) (a ^ q)
     (cut (p * c) s (2 ^ p) 1 (a ^ q) (b ^ q) S (ge-two-pow s c S f p)
-    (le-same (q * (p * c)) (q * s) (p * c) s (a ^ q) (b ^ q) (mul-pos Q S) (same q (p * c) s) (le-pow (q * s) (p * c) a b (mul-pos Q S) g q)))
+    (le-same (q * (p * c)) (q * s) (p * c) s (a ^ q) (b ^ q) (mul-pos Q S) (same q (p * c) s)
+    (le-pow (q * s) (p * c) a b (mul-pos Q S) g q)))
   where
     same : (q x s : ℕ) → q * x * s ≡ x * (q * s)
     same q x s = omega arith
@@ -163,7 +177,8 @@ unfolding TwoGe
 two-ge-exp c s p q a b S Q f g =
     go (2 ^ p) (b ^ q) (a ^ q)
     (cut (p * c) s (a ^ q) (b ^ q) (2 ^ p) 1 S
-    (ge-same (q * (p * c)) (q * s) (p * c) s (a ^ q) (b ^ q) (mul-pos Q S) (same q (p * c) s) (ge-pow (q * s) (p * c) a b (mul-pos Q S) g q))
+    (ge-same (q * (p * c)) (q * s) (p * c) s (a ^ q) (b ^ q) (mul-pos Q S) (same q (p * c) s)
+    (ge-pow (q * s) (p * c) a b (mul-pos Q S) g q))
     (le-two-pow s c S f p))
   where
     same : (q x s : ℕ) → q * x * s ≡ x * (q * s)

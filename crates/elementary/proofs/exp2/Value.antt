@@ -1,4 +1,5 @@
--- From bounds of a number by 2^(z / 2^39 - 2^16 - 126), at most 2^15 + 1 units of the exponent off, to the float with the pattern exp2Bits z.
+-- From bounds of a number by 2^(z / 2^39 - 2^16 - 126), at most 2^15 + 1 units of the exponent off, to the float with
+-- the pattern exp2Bits z.
 use mathlib.Core.Path.{_≡_, refl, sym, _∙_, subst}
 use mathlib.Core.Logic.{_⊎_, inl, inr}
 use mathlib.Core.Bool.{false}
@@ -23,17 +24,26 @@ pub value-zero : (z : ℕ) → z < 36028522141057024 → exp2Bits z ≡ 0
 unfolding exp2Bits
 value-zero z h = simp (lt-ltb z 36028522141057024 h)
 
-pub value-sub : (z : ℕ) → 36028522141057024 ≤ z → z < 36028797018963968 → exp2Bits z ≡ (exp2Of (z % 549755813888) + 1099511627776) / 2199023255552
+pub value-sub : (z : ℕ) → 36028522141057024 ≤ z → z < 36028797018963968
+    → exp2Bits z ≡ (exp2Of (z % 549755813888) + 1099511627776) / 2199023255552
 unfolding exp2Bits
 value-sub z h k = simp (le-ltb z 36028522141057024 h, lt-ltb z 36028797018963968 k)
 
-pub value-normal : (z : ℕ) → 36028797018963968 ≤ z → z < 36168434995691520 → exp2Bits z ≡ (z / 549755813888 - 65536) * 8388608 + (exp2Of (z % 549755813888) + 549755813888) / 1099511627776
+pub value-normal : (z : ℕ) → 36028797018963968 ≤ z → z < 36168434995691520
+    → exp2Bits z ≡ (z / 549755813888 - 65536) * 8388608 + (exp2Of (z % 549755813888) + 549755813888) / 1099511627776
 unfolding exp2Bits
-value-normal z h k = simp (le-ltb z 36028522141057024 (le-trans (lit≤ tt) h), le-ltb z 36028797018963968 h, lt-ltb z 36168434995691520 k)
+value-normal z h k =
+    simp (le-ltb z 36028522141057024 (le-trans (lit≤ tt) h), le-ltb z 36028797018963968 h, lt-ltb z 36168434995691520 k)
 
 pub value-inf : (z : ℕ) → 36168434995691520 ≤ z → exp2Bits z ≡ 2139095040
 unfolding exp2Bits
-value-inf z h = simp (le-ltb z 36028522141057024 (le-trans (lit≤ tt) h), le-ltb z 36028797018963968 (le-trans (lit≤ tt) h), le-ltb z 36168434995691520 h)
+value-inf z h =
+    simp (
+      le-ltb z 36028522141057024 (le-trans (lit≤ tt) h),
+      le-ltb z 36028797018963968 (le-trans (lit≤ tt) h),
+      le-ltb z
+          36168434995691520 h,
+    )
 
 tiny-value : (b : ℕ) → b ≤ 8388608 → HasValue (ofBits binary32 b) false b (2 ^ 149)
 tiny-value b h = go (eq-or-lt-of-le h)
@@ -43,10 +53,15 @@ tiny-value b h = go (eq-or-lt-of-le h)
 
     go : (b ≡ 8388608) ⊎ (b < 8388608) → HasValue (ofBits binary32 b) false b (2 ^ 149)
     go (inl e) = subst (λ (n : ℕ). HasValue (ofBits binary32 n) false n (2 ^ 149)) (sym e) (value-pos 8388608 (lit< tt))
-    go (inr l) = subst (λ (n : ℕ). HasValue (ofBits binary32 b) false n (2 ^ 149)) (one b) (rw (div-eq-of-lt l, mod-eq-of-lt l) at (value-pos b (omega arith)))
+    go (inr l) =
+        subst (λ (n : ℕ). HasValue (ofBits binary32 b) false n (2 ^ 149)) (one b)
+        (rw (div-eq-of-lt l, mod-eq-of-lt l) at (value-pos b (omega arith)))
 
-normal-value : (e m : ℕ) → 8388608 ≤ m → m ≤ 16777216 → e * 8388608 + m < 2139095040 → HasValue (ofBits binary32 (e * 8388608 + m)) false (m * 2 ^ e) (2 ^ 149)
-normal-value e m lo hi h = subst (λ (n : ℕ). HasValue (ofBits binary32 (e * 8388608 + m)) false n (2 ^ 149)) (packed-units e m lo hi) (value-pos (e * 8388608 + m) h)
+normal-value : (e m : ℕ) → 8388608 ≤ m → m ≤ 16777216 → e * 8388608 + m < 2139095040
+    → HasValue (ofBits binary32 (e * 8388608 + m)) false (m * 2 ^ e) (2 ^ 149)
+normal-value e m lo hi h =
+    subst (λ (n : ℕ). HasValue (ofBits binary32 (e * 8388608 + m)) false n (2 ^ 149)) (packed-units e m lo hi)
+    (value-pos (e * 8388608 + m) h)
 
 -- 2^(3/4) ≥ 3/2, 2^(9/16) ≤ 3/2
 three-quarters : TwoGe 412316860416 549755813888 3 2
@@ -56,21 +71,26 @@ nine-sixteenths : TwoLe 309237645312 549755813888 3 2
 nine-sixteenths = two-le-up 34359738368 9 16 3 2 (unfold TwoLe in lit≤ tt)
 
 -- in units of 2^-149, with 2^127
-units-ge : (p a b c : ℕ) → 0 < b → c * b ≤ a * 4194304 → TwoGe p 549755813888 a b → TwoGe p 549755813888 (2 ^ 127 * c) (2 ^ 149)
+units-ge : (p a b c : ℕ) → 0 < b → c * b ≤ a * 4194304 → TwoGe p 549755813888 a b
+    → TwoGe p 549755813888 (2 ^ 127 * c) (2 ^ 149)
 units-ge p a b c B h = two-ge-weaken p 549755813888 a b (2 ^ 127 * c) (2 ^ 149) B (go (2 ^ 127))
   where
     go : (t : ℕ) → t * c * b ≤ a * (t * 4194304)
     go t = omega (arith, mul-le-mul-left t h)
 
-units-le : (p a b c : ℕ) → 0 < b → a * 4194304 ≤ c * b → TwoLe p 549755813888 a b → TwoLe p 549755813888 (2 ^ 127 * c) (2 ^ 149)
+units-le : (p a b c : ℕ) → 0 < b → a * 4194304 ≤ c * b → TwoLe p 549755813888 a b
+    → TwoLe p 549755813888 (2 ^ 127 * c) (2 ^ 149)
 units-le p a b c B h = two-le-weaken p 549755813888 a b (2 ^ 127 * c) (2 ^ 149) B (go (2 ^ 127))
   where
     go : (t : ℕ) → a * (t * 4194304) ≤ t * c * b
     go t = omega (arith, mul-le-mul-left t h)
 
 -- the width off
-less : (v a b : ℕ) → 32769 ≤ v → TwoGe v 549755813888 a b → TwoGe (v - 32769) 549755813888 (a * 167772160) (b * 167772167)
-less v a b h g = two-ge-quot 549755813888 (v - 32769) 32769 a b 167772167 167772160 (subst (λ (n : ℕ). TwoGe n 549755813888 a b) whole g) width
+less : (v a b : ℕ) → 32769 ≤ v → TwoGe v 549755813888 a b
+    → TwoGe (v - 32769) 549755813888 (a * 167772160) (b * 167772167)
+less v a b h g =
+    two-ge-quot 549755813888 (v - 32769) 32769 a b 167772167 167772160
+    (subst (λ (n : ℕ). TwoGe n 549755813888 a b) whole g) width
   where
     whole : v ≡ v - 32769 + 32769
     whole = omega arith
@@ -87,14 +107,17 @@ minus m k y = mul-comm (m - k) y ∙ mul-sub y m k ∙ rest
 plus : (m k y : ℕ) → (m + k) * y ≡ m * y + k * y
 plus m k y = omega arith
 
--- a number that is at least c / d where 2^127 c / d ≤ 2^((v - 32769) / 2^39), for any v from 32769 on with (2^16 - 1) 2^39 + v ≤ z;
--- and so from above
+-- a number that is at least c / d where 2^127 c / d ≤ 2^((v - 32769) / 2^39), for any v from 32769 on with (2^16 - 1)
+-- 2^39 + v ≤ z; and so from above
 module _ (A B : ℕ → ℕ → Type 0) (z : ℕ)
     (low : (v c d : ℕ) → 32769 ≤ v → 36028247263150080 + v ≤ z → TwoGe (v - 32769) 549755813888 (2 ^ 127 * c) d → A c d)
     (high : (v c d : ℕ) → z ≤ 36028247263150080 + v → TwoLe (v + 32769) 549755813888 (2 ^ 127 * c) d → B c d) where
   -- ---- the ends
   pub not-under : 36028522141057024 ≤ z → A 1 (2 ^ 127)
-  not-under h = low 274877906944 1 (2 ^ 127) (lit≤ tt) (omega arith) (two-ge-mono 0 (274877906944 - 32769) 549755813888 (2 ^ 127 * 1) (2 ^ 127) (lit≤ tt) (two-ge-one 549755813888 (2 ^ 127 * 1) (2 ^ 127) (lit≤ tt)))
+  not-under h =
+      low 274877906944 1 (2 ^ 127) (lit≤ tt) (omega arith)
+      (two-ge-mono 0 (274877906944 - 32769) 549755813888 (2 ^ 127 * 1) (2 ^ 127) (lit≤ tt)
+      (two-ge-one 549755813888 (2 ^ 127 * 1) (2 ^ 127) (lit≤ tt)))
 
   pub is-under : z < 36028522141057024 → B 3 (2 ^ 128)
   is-under h = high 274877906944 3 (2 ^ 128) (omega arith)
@@ -103,15 +126,21 @@ module _ (A B : ℕ → ℕ → Type 0) (z : ℕ)
 
   pub is-over : 36168434995691520 ≤ z → A (3 * 2 ^ 126) 1
   is-over h = low 140187732541440 (3 * 2 ^ 126) 1 (lit≤ tt) (omega arith)
-      (two-ge-mono (549755813888 * 254 + 412316860416) (140187732541440 - 32769) 549755813888 (2 ^ 127 * (3 * 2 ^ 126)) 1 (lit≤ tt)
-      (two-ge-weaken (549755813888 * 254 + 412316860416) 549755813888 (2 ^ 254 * 3) (1 * 2) (2 ^ 127 * (3 * 2 ^ 126)) 1 (lit< tt) (lit≤ tt)
-      (two-ge-mul 549755813888 (549755813888 * 254) 412316860416 (2 ^ 254) 1 3 2 (two-ge-whole 254 549755813888) three-quarters)))
+      (two-ge-mono (549755813888 * 254 + 412316860416) (140187732541440 - 32769) 549755813888 (2 ^ 127 * (3 * 2 ^ 126))
+      1 (lit≤ tt)
+      (two-ge-weaken (549755813888 * 254 + 412316860416) 549755813888 (2 ^ 254 * 3) (1 * 2) (2 ^ 127 * (3 * 2 ^ 126)) 1
+      (lit< tt) (lit≤ tt)
+      (two-ge-mul 549755813888 (549755813888 * 254) 412316860416 (2 ^ 254) 1 3 2 (two-ge-whole 254 549755813888)
+      three-quarters)))
 
   pub not-over : z < 36168434995691520 → B (3 * 2 ^ 127) 1
   not-over h = high 140187732541440 (3 * 2 ^ 127) 1 (omega arith)
-      (two-le-mono (140187732541440 + 32769) (549755813888 * 255 + 309237645312) 549755813888 (2 ^ 127 * (3 * 2 ^ 127)) 1 (lit≤ tt)
-      (two-le-weaken (549755813888 * 255 + 309237645312) 549755813888 (2 ^ 255 * 3) (1 * 2) (2 ^ 127 * (3 * 2 ^ 127)) 1 (lit< tt) (lit≤ tt)
-      (two-le-mul 549755813888 (549755813888 * 255) 309237645312 (2 ^ 255) 1 3 2 (two-le-whole 255 549755813888) nine-sixteenths)))
+      (two-le-mono (140187732541440 + 32769) (549755813888 * 255 + 309237645312) 549755813888 (2 ^ 127 * (3 * 2 ^ 127))
+      1 (lit≤ tt)
+      (two-le-weaken (549755813888 * 255 + 309237645312) 549755813888 (2 ^ 255 * 3) (1 * 2) (2 ^ 127 * (3 * 2 ^ 127)) 1
+      (lit< tt) (lit≤ tt)
+      (two-le-mul 549755813888 (549755813888 * 255) 309237645312 (2 ^ 255) 1 3 2 (two-le-whole 255 549755813888)
+      nine-sixteenths)))
 
   -- ---- next below 2^-126
   pub sub-near : 36028522141057024 ≤ z → z < 36028797018963968 → Within A B 2 (ofBits binary32 (exp2Bits z))
@@ -128,57 +157,75 @@ module _ (A B : ℕ → ℕ → Type 0) (z : ℕ)
         near = record {
           units = s;
           value = tiny-value s S;
-          low = low f (s - 2) (2 ^ 149) (omega arith) (omega arith) (units-ge (f - 32769) ((16 * s - 9) * 167772160) (67108864 * 167772167) (s - 2) (lit< tt) (below s S S′) (less f (16 * s - 9) 67108864 (omega arith) (lesser-ge f F)));
-          high = high f (s + 2) (2 ^ 149) (omega arith) (units-le (f + 32769) ((16 * s + 9) * 167772167) (67108864 * 167772160) (s + 2) (lit< tt) (above s S) (more f (16 * s + 9) 67108864 (lesser-le f F)));
+          low =
+              low f (s - 2) (2 ^ 149) (omega arith) (omega arith)
+              (units-ge (f - 32769) ((16 * s - 9) * 167772160) (67108864 * 167772167) (s - 2) (lit< tt) (below s S S′)
+              (less f (16 * s - 9) 67108864 (omega arith) (lesser-ge f F)));
+          high =
+              high f (s + 2) (2 ^ 149) (omega arith)
+              (units-le (f + 32769) ((16 * s + 9) * 167772167) (67108864 * 167772160) (s + 2) (lit< tt) (above s S)
+              (more f (16 * s + 9) 67108864 (lesser-le f F)));
         };
       }
     where
-      below : (s : ℕ) → s ≤ 8388608 → 4194304 ≤ s → (s - 2) * (67108864 * 167772167) ≤ (16 * s - 9) * 167772160 * 4194304
+      below : (s : ℕ) → s ≤ 8388608 → 4194304 ≤ s
+          → (s - 2) * (67108864 * 167772167) ≤ (16 * s - 9) * 167772160 * 4194304
       below s S S′ = omega arith
 
       above : (s : ℕ) → s ≤ 8388608 → (16 * s + 9) * 167772167 * 4194304 ≤ (s + 2) * (67108864 * 167772160)
       above s S = omega arith
 
   -- ---- from 2^-126 on: the number is near 2^(e + 1) 2^(f / 2^39) / 2^127, and the float is s 2^e units
-  module _ (e f s : ℕ) (F : f < 549755813888) (S : 8388608 ≤ s) (S′ : s ≤ 16777216) (at : z ≡ 36028247263150080 + (549755813888 * suc e + f))
+  module _ (e f s : ℕ) (F : f < 549755813888) (S : 8388608 ≤ s) (S′ : s ≤ 16777216)
+      (at : z ≡ 36028247263150080 + (549755813888 * suc e + f))
       (ge : TwoGe f 549755813888 (8 * s - 5) 67108864) (le : TwoLe f 549755813888 (8 * s + 5) 67108864) where
     v-ge : TwoGe (549755813888 * suc e + f) 549755813888 (2 ^ suc e * (8 * s - 5)) (1 * 67108864)
-    v-ge = two-ge-mul 549755813888 (549755813888 * suc e) f (2 ^ suc e) 1 (8 * s - 5) 67108864 (two-ge-whole (suc e) 549755813888) ge
+    v-ge =
+        two-ge-mul 549755813888 (549755813888 * suc e) f (2 ^ suc e) 1 (8 * s - 5) 67108864
+        (two-ge-whole (suc e) 549755813888) ge
 
     v-le : TwoLe (549755813888 * suc e + f) 549755813888 (2 ^ suc e * (8 * s + 5)) (1 * 67108864)
-    v-le = two-le-mul 549755813888 (549755813888 * suc e) f (2 ^ suc e) 1 (8 * s + 5) 67108864 (two-le-whole (suc e) 549755813888) le
+    v-le =
+        two-le-mul 549755813888 (549755813888 * suc e) f (2 ^ suc e) 1 (8 * s + 5) 67108864
+        (two-le-whole (suc e) 549755813888) le
 
     -- at least a power of two
     whole-low : (i : ℕ) → 549755813888 * suc i + 32769 ≤ 549755813888 * suc e + f → A (2 ^ (23 + i)) (2 ^ 149)
     whole-low i h = low (549755813888 * suc e + f) (2 ^ (23 + i)) (2 ^ 149) (omega arith) (le-of-eq (sym at))
         (units-ge (549755813888 * suc e + f - 32769) (2 ^ suc i) 1 (2 ^ (23 + i)) (lit< tt) (le-of-eq (same i))
-        (two-ge-mono (549755813888 * suc i) (549755813888 * suc e + f - 32769) 549755813888 (2 ^ suc i) 1 (omega arith) (two-ge-whole (suc i) 549755813888)))
+        (two-ge-mono (549755813888 * suc i) (549755813888 * suc e + f - 32769) 549755813888 (2 ^ suc i) 1 (omega arith)
+        (two-ge-whole (suc i) 549755813888)))
       where
         same : (i : ℕ) → 2 ^ (23 + i) * 1 ≡ 2 ^ suc i * 4194304
         same i = rw (pow-add 2 23 i, pow-suc 2 i) (omega arith)
 
     two-low : A ((s - 2) * 2 ^ e) (2 ^ 149)
     two-low = low (549755813888 * suc e + f) ((s - 2) * 2 ^ e) (2 ^ 149) (omega arith) (le-of-eq (sym at))
-        (units-ge (549755813888 * suc e + f - 32769) (2 ^ suc e * (8 * s - 5) * 167772160) (1 * 67108864 * 167772167) ((s - 2) * 2 ^ e) (lit< tt)
+        (units-ge (549755813888 * suc e + f - 32769) (2 ^ suc e * (8 * s - 5) * 167772160) (1 * 67108864 * 167772167)
+        ((s - 2) * 2 ^ e) (lit< tt)
         (rw (pow-suc 2 e) (go (2 ^ e) (s - 2) (8 * s - 5) (base s S S′)))
         (less (549755813888 * suc e + f) (2 ^ suc e * (8 * s - 5)) (1 * 67108864) (omega arith) v-ge))
       where
-        base : (s : ℕ) → 8388608 ≤ s → s ≤ 16777216 → (s - 2) * (67108864 * 167772167) ≤ 2 * (8 * s - 5) * 167772160 * 4194304
+        base : (s : ℕ) → 8388608 ≤ s → s ≤ 16777216
+            → (s - 2) * (67108864 * 167772167) ≤ 2 * (8 * s - 5) * 167772160 * 4194304
         base s S S′ = omega arith
 
-        go : (y a b : ℕ) → a * (67108864 * 167772167) ≤ 2 * b * 167772160 * 4194304 → a * y * (1 * 67108864 * 167772167) ≤ y * 2 * b * 167772160 * 4194304
+        go : (y a b : ℕ) → a * (67108864 * 167772167) ≤ 2 * b * 167772160 * 4194304
+            → a * y * (1 * 67108864 * 167772167) ≤ y * 2 * b * 167772160 * 4194304
         go y a b h = omega (arith, mul-le-mul-left y h)
 
     two-high : B ((s + 2) * 2 ^ e) (2 ^ 149)
     two-high = high (549755813888 * suc e + f) ((s + 2) * 2 ^ e) (2 ^ 149) (le-of-eq at)
-        (units-le (549755813888 * suc e + f + 32769) (2 ^ suc e * (8 * s + 5) * 167772167) (1 * 67108864 * 167772160) ((s + 2) * 2 ^ e) (lit< tt)
+        (units-le (549755813888 * suc e + f + 32769) (2 ^ suc e * (8 * s + 5) * 167772167) (1 * 67108864 * 167772160)
+        ((s + 2) * 2 ^ e) (lit< tt)
         (rw (pow-suc 2 e) (go (2 ^ e) (s + 2) (8 * s + 5) (base s S′)))
         (more (549755813888 * suc e + f) (2 ^ suc e * (8 * s + 5)) (1 * 67108864) v-le))
       where
         base : (s : ℕ) → s ≤ 16777216 → 2 * (8 * s + 5) * 167772167 * 4194304 ≤ (s + 2) * (67108864 * 167772160)
         base s S′ = omega arith
 
-        go : (y a b : ℕ) → 2 * b * 167772167 * 4194304 ≤ a * (67108864 * 167772160) → y * 2 * b * 167772167 * 4194304 ≤ a * y * (1 * 67108864 * 167772160)
+        go : (y a b : ℕ) → 2 * b * 167772167 * 4194304 ≤ a * (67108864 * 167772160)
+            → y * 2 * b * 167772167 * 4194304 ≤ a * y * (1 * 67108864 * 167772160)
         go y a b h = omega (arith, mul-le-mul-left y h)
 
     -- within two steps of 2^e units
@@ -198,19 +245,24 @@ module _ (A B : ℕ → ℕ → Type 0) (z : ℕ)
     module _ (i : ℕ) (ei : e ≡ suc i) (small : f < 32769) (one : s ≡ 8388608) where
       half-low : A (8388607 * 2 ^ e) (2 ^ 149)
       half-low = low (549755813888 * suc e + f) (8388607 * 2 ^ e) (2 ^ 149) (omega arith) (le-of-eq (sym at))
-          (units-ge (549755813888 * suc e + f - 32769) (2 ^ suc e * 167772160) (1 * 167772167) (8388607 * 2 ^ e) (lit< tt)
+          (units-ge (549755813888 * suc e + f - 32769) (2 ^ suc e * 167772160) (1 * 167772167) (8388607 * 2 ^ e)
+          (lit< tt)
           (rw (pow-suc 2 e) (go (2 ^ e)))
-          (less (549755813888 * suc e + f) (2 ^ suc e) 1 (omega arith) (two-ge-mono (549755813888 * suc e) (549755813888 * suc e + f) 549755813888 (2 ^ suc e) 1 (omega arith) (two-ge-whole (suc e) 549755813888))))
+          (less (549755813888 * suc e + f) (2 ^ suc e) 1 (omega arith)
+          (two-ge-mono (549755813888 * suc e) (549755813888 * suc e + f) 549755813888 (2 ^ suc e) 1 (omega arith)
+          (two-ge-whole (suc e) 549755813888))))
         where
           go : (y : ℕ) → 8388607 * y * (1 * 167772167) ≤ y * 2 * 167772160 * 4194304
           go y = omega arith
 
       half-high : B (8388609 * 2 ^ e) (2 ^ 149)
       half-high = high (549755813888 * suc e + f) (8388609 * 2 ^ e) (2 ^ 149) (le-of-eq at)
-          (units-le (549755813888 * suc e + f + 32769) (2 ^ suc e * 167772167 * 167772167) (1 * 167772160 * 167772160) (8388609 * 2 ^ e) (lit< tt)
+          (units-le (549755813888 * suc e + f + 32769) (2 ^ suc e * 167772167 * 167772167) (1 * 167772160 * 167772160)
+          (8388609 * 2 ^ e) (lit< tt)
           (rw (pow-suc 2 e) (go (2 ^ e)))
           (more (549755813888 * suc e + f) (2 ^ suc e * 167772167) (1 * 167772160)
-          (two-le-mono (549755813888 * suc e + f) (549755813888 * suc e + 32769) 549755813888 (2 ^ suc e * 167772167) (1 * 167772160) (omega arith)
+          (two-le-mono (549755813888 * suc e + f) (549755813888 * suc e + 32769) 549755813888 (2 ^ suc e * 167772167)
+          (1 * 167772160) (omega arith)
           (more (549755813888 * suc e) (2 ^ suc e) 1 (two-le-whole (suc e) 549755813888)))))
         where
           go : (y : ℕ) → y * 2 * 167772167 * 167772167 * 4194304 ≤ 8388609 * y * (1 * 167772160 * 167772160)
@@ -243,28 +295,38 @@ module _ (A B : ℕ → ℕ → Type 0) (z : ℕ)
         go (inl l) (suc i) ek = half-step i ek l (one l) r h
 
   -- the pattern is that of a number, or x^y is above 3/2 * 2^127
-  pub normal-near : 36028797018963968 ≤ z → z < 36168434995691520 → Within A B 2 (ofBits binary32 (exp2Bits z)) ⊎ A (3 * 2 ^ 126) 1
+  pub normal-near : 36028797018963968 ≤ z → z < 36168434995691520
+      → Within A B 2 (ofBits binary32 (exp2Bits z)) ⊎ A (3 * 2 ^ 126) 1
   normal-near h k =
       let f = z % 549755813888 in
       let F : f < 549755813888 = omega arith in
       let e = z / 549755813888 - 65536 in
       let s = digits f F in
       let at : z ≡ 36028247263150080 + (549755813888 * suc e + f) = omega arith in
-      go e f s F (digits-low f F) (digits-high f F) at (digits-ge f F) (digits-le f F) (digits-one f F) (omega arith) (value-normal z h k) (lt-or-ge (e * 8388608 + s) 2139095040)
+      go e f s F (digits-low f F) (digits-high f F) at (digits-ge f F) (digits-le f F) (digits-one f F) (omega arith)
+      (value-normal z h k) (lt-or-ge (e * 8388608 + s) 2139095040)
     where
-      go : (e f s : ℕ) → f < 549755813888 → 8388608 ≤ s → s ≤ 16777216 → z ≡ 36028247263150080 + (549755813888 * suc e + f)
-          → TwoGe f 549755813888 (8 * s - 5) 67108864 → TwoLe f 549755813888 (8 * s + 5) 67108864 → (f < 32769 → s ≡ 8388608) → e < 254
+      go : (e f s : ℕ) → f < 549755813888 → 8388608 ≤ s → s ≤ 16777216
+          → z ≡ 36028247263150080 + (549755813888 * suc e + f)
+          → TwoGe f 549755813888 (8 * s - 5) 67108864 → TwoLe f 549755813888 (8 * s + 5) 67108864
+          → (f < 32769 → s ≡ 8388608) → e < 254
           → exp2Bits z ≡ e * 8388608 + s → (e * 8388608 + s < 2139095040) ⊎ (2139095040 ≤ e * 8388608 + s)
           → Within A B 2 (ofBits binary32 (exp2Bits z)) ⊎ A (3 * 2 ^ 126) 1
-      go e f s F S S′ at ge le one E bits (inl l) = inl (rw bits (normal-within e f s F S S′ at ge le (ofBits binary32 (e * 8388608 + s)) (normal-value e s S S′ l) one))
+      go e f s F S S′ at ge le one E bits (inl l) =
+          inl (rw bits (normal-within e f s F S S′ at ge le (ofBits binary32 (e * 8388608 + s))
+          (normal-value e s S S′ l) one))
       go e f s F S S′ at ge le one E bits (inr l) = inr (full e f s F S S′ at ge le E l)
         where
-          full : (e f s : ℕ) → f < 549755813888 → 8388608 ≤ s → s ≤ 16777216 → z ≡ 36028247263150080 + (549755813888 * suc e + f)
-              → TwoGe f 549755813888 (8 * s - 5) 67108864 → TwoLe f 549755813888 (8 * s + 5) 67108864 → e < 254 → 2139095040 ≤ e * 8388608 + s → A (3 * 2 ^ 126) 1
+          full : (e f s : ℕ) → f < 549755813888 → 8388608 ≤ s → s ≤ 16777216
+              → z ≡ 36028247263150080 + (549755813888 * suc e + f)
+              → TwoGe f 549755813888 (8 * s - 5) 67108864 → TwoLe f 549755813888 (8 * s + 5) 67108864 → e < 254
+              → 2139095040 ≤ e * 8388608 + s → A (3 * 2 ^ 126) 1
           full e f s F S S′ at ge le E l =
               let ee : e ≡ 253 = omega arith in
               let es : s ≡ 16777216 = omega arith in
               low (549755813888 * suc e + f) (3 * 2 ^ 126) 1 (omega arith) (le-of-eq (sym at))
-              (two-ge-weaken (549755813888 * suc e + f - 32769) 549755813888 (2 ^ suc e * (8 * s - 5) * 167772160) (1 * 67108864 * 167772167) (2 ^ 127 * (3 * 2 ^ 126)) 1 (lit< tt)
+              (two-ge-weaken (549755813888 * suc e + f - 32769) 549755813888 (2 ^ suc e * (8 * s - 5) * 167772160)
+              (1 * 67108864 * 167772167) (2 ^ 127 * (3 * 2 ^ 126)) 1 (lit< tt)
               (rw (ee, es) (lit≤ tt))
-              (less (549755813888 * suc e + f) (2 ^ suc e * (8 * s - 5)) (1 * 67108864) (omega arith) (v-ge e f s F S S′ at ge le)))
+              (less (549755813888 * suc e + f) (2 ^ suc e * (8 * s - 5)) (1 * 67108864) (omega arith)
+              (v-ge e f s F S S′ at ge le)))

@@ -16,17 +16,20 @@ module _ (p c : ℕ) where
   unfolding squared
   squared-1 i = simp (lt-ltb p 1317011456 i)
 
-  pub squared-2 : 1317011456 ≤ p → p < 1350565888 → k ≤ 24 → squared p c ≡ squares k ((8388608 + p % 8388608) * 2 ^ (p / 8388608 - 122))
+  pub squared-2 : 1317011456 ≤ p → p < 1350565888 → k ≤ 24
+      → squared p c ≡ squares k ((8388608 + p % 8388608) * 2 ^ (p / 8388608 - 122))
   unfolding squared
   squared-2 i j m = simp (le-ltb p 1317011456 i, lt-ltb p 1350565888 j, le-ltb 24 k m)
 
   pub squared-3 : 1317011456 ≤ p → p < 1333788672 → 24 < k → squared p c ≡ 0
   unfolding squared
-  squared-3 i j m = simp (le-ltb p 1317011456 i, lt-ltb p 1350565888 (omega arith), lt-ltb 24 k m, lt-ltb p 1333788672 j)
+  squared-3 i j m =
+      simp (le-ltb p 1317011456 i, lt-ltb p 1350565888 (omega arith), lt-ltb 24 k m, lt-ltb p 1333788672 j)
 
   pub squared-4 : 1333788672 ≤ p → p < 1350565888 → 24 < k → squared p c ≡ 4611686018427387904
   unfolding squared
-  squared-4 i j m = simp (le-ltb p 1317011456 (le-trans (lit≤ tt) i), lt-ltb p 1350565888 j, lt-ltb 24 k m, le-ltb p 1333788672 i)
+  squared-4 i j m =
+      simp (le-ltb p 1317011456 (le-trans (lit≤ tt) i), lt-ltb p 1350565888 j, lt-ltb 24 k m, le-ltb p 1333788672 i)
 
   pub squared-5 : 1350565888 ≤ p → squared p c ≡ 4611686018427387904
   unfolding squared

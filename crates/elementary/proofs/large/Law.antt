@@ -42,7 +42,11 @@ one x = pow-suc x 0 ∙ ap (λ (z : ℕ). z * x) (pow-zero x) ∙ omega arith
 
 -- ---- x as a / b, by its exponent e and its significand m: 2^e m b = a 2^182
 quarter : (e m a b : ℕ) → e ≤ 156 → m < 16777216 → 2 ^ e * m * b ≡ a * 2 ^ 159 * 8388608 → a * 4 ≤ b
-quarter e m a b E M h = le-of-mul-le-mul-right {k = 2 ^ 180} (le-trans (le-of-eq (left a (2 ^ 159))) (le-trans (le-of-eq (sym h)) (le-trans (mul-le-mul-right b (mul-le-mul {n₂ = 2 ^ 156} {m₂ = 16777216} (pow-mono {i = e} {j = 156} E) (lt-le m M))) (le-of-eq (mul-comm (2 ^ 156 * 16777216) b))))) (pow-pos 180)
+quarter e m a b E M h =
+    le-of-mul-le-mul-right {k = 2 ^ 180} (le-trans (le-of-eq (left a (2 ^ 159)))
+    (le-trans (le-of-eq (sym h)) (le-trans (mul-le-mul-right b
+    (mul-le-mul {n₂ = 2 ^ 156} {m₂ = 16777216} (pow-mono {i = e} {j = 156} E) (lt-le m M)))
+    (le-of-eq (mul-comm (2 ^ 156 * 16777216) b))))) (pow-pos 180)
   where
     left : (a t : ℕ) → a * 4 * (t * 2097152) ≡ a * t * 8388608
     left a t = omega arith
@@ -51,13 +55,21 @@ quarter e m a b E M h = le-of-mul-le-mul-right {k = 2 ^ 180} (le-trans (le-of-eq
     lt-le m h = omega arith
 
 four : (e m a b : ℕ) → 161 ≤ e → 8388608 ≤ m → 2 ^ e * m * b ≡ a * 2 ^ 159 * 8388608 → 4 * b ≤ a
-four e m a b E M h = le-of-mul-le-mul-right {k = 2 ^ 182} (le-trans (le-of-eq (left b (2 ^ 182))) (le-trans (mul-le-mul-right b (mul-le-mul {n₁ = 2 ^ 161} {m₁ = 8388608} (pow-mono {i = 161} {j = e} E) M)) (le-trans (le-of-eq h) (le-of-eq (mul-assoc a (2 ^ 159) 8388608))))) (pow-pos 182)
+four e m a b E M h =
+    le-of-mul-le-mul-right {k = 2 ^ 182} (le-trans (le-of-eq (left b (2 ^ 182)))
+    (le-trans (mul-le-mul-right b (mul-le-mul {n₁ = 2 ^ 161} {m₁ = 8388608} (pow-mono {i = 161} {j = e} E) M))
+    (le-trans (le-of-eq h) (le-of-eq (mul-assoc a (2 ^ 159) 8388608))))) (pow-pos 182)
   where
     left : (b t : ℕ) → 4 * b * t ≡ t * 4 * b
     left b t = omega arith
 
-under-one : (e m a b : ℕ) → e ≤ 158 → m < 16777216 → 2 ^ e * m * b ≡ a * 2 ^ 159 * 8388608 → a * (2 ^ 24 + 1) ≤ b * 2 ^ 24
-under-one e m a b E M h = go (le-of-mul-le-mul-right {k = 2 ^ 158} (le-trans (le-of-eq (left a (2 ^ 158))) (le-trans (le-of-eq (sym h)) (le-trans (mul-le-mul-right b (mul-le-mul {n₂ = 2 ^ 158} {m₂ = 16777215} (pow-mono {i = e} {j = 158} E) (lt-le m M))) (le-of-eq (right b (2 ^ 158)))))) (pow-pos 158))
+under-one : (e m a b : ℕ) → e ≤ 158 → m < 16777216 → 2 ^ e * m * b ≡ a * 2 ^ 159 * 8388608
+    → a * (2 ^ 24 + 1) ≤ b * 2 ^ 24
+under-one e m a b E M h =
+    go (le-of-mul-le-mul-right {k = 2 ^ 158} (le-trans (le-of-eq (left a (2 ^ 158)))
+    (le-trans (le-of-eq (sym h)) (le-trans (mul-le-mul-right b
+    (mul-le-mul {n₂ = 2 ^ 158} {m₂ = 16777215} (pow-mono {i = e} {j = 158} E) (lt-le m M)))
+    (le-of-eq (right b (2 ^ 158)))))) (pow-pos 158))
   where
     left : (a t : ℕ) → a * 16777216 * t ≡ a * (t * 2) * 8388608
     left a t = omega arith
@@ -72,7 +84,10 @@ under-one e m a b E M h = go (le-of-mul-le-mul-right {k = 2 ^ 158} (le-trans (le
     go h = omega arith
 
 over-one : (e m a b : ℕ) → 159 ≤ e → 8388609 ≤ m → 2 ^ e * m * b ≡ a * 2 ^ 159 * 8388608 → b * (2 ^ 24 + 1) ≤ a * 2 ^ 24
-over-one e m a b E M h = go (le-of-mul-le-mul-right {k = 2 ^ 159} (le-trans (le-of-eq (left b (2 ^ 159))) (le-trans (mul-le-mul-right b (mul-le-mul {n₁ = 2 ^ 159} {m₁ = 8388609} (pow-mono {i = 159} {j = e} E) M)) (le-trans (le-of-eq h) (le-of-eq (right a (2 ^ 159)))))) (pow-pos 159))
+over-one e m a b E M h =
+    go (le-of-mul-le-mul-right {k = 2 ^ 159} (le-trans (le-of-eq (left b (2 ^ 159)))
+    (le-trans (mul-le-mul-right b (mul-le-mul {n₁ = 2 ^ 159} {m₁ = 8388609} (pow-mono {i = 159} {j = e} E) M))
+    (le-trans (le-of-eq h) (le-of-eq (right a (2 ^ 159)))))) (pow-pos 159))
   where
     left : (b t : ℕ) → 8388609 * b * t ≡ t * 8388609 * b
     left b t = omega arith
@@ -84,7 +99,10 @@ over-one e m a b E M h = go (le-of-mul-le-mul-right {k = 2 ^ 159} (le-trans (le-
     go h = omega arith
 
 over-two : (e m a b : ℕ) → 160 ≤ e → 8388608 ≤ m → 2 ^ e * m * b ≡ a * 2 ^ 159 * 8388608 → b * (2 ^ 24 + 1) ≤ a * 2 ^ 24
-over-two e m a b E M h = go (le-of-mul-le-mul-right {k = 2 ^ 182} (le-trans (le-of-eq (left b (2 ^ 182))) (le-trans (mul-le-mul-right b (mul-le-mul {n₁ = 2 ^ 160} {m₁ = 8388608} (pow-mono {i = 160} {j = e} E) M)) (le-trans (le-of-eq h) (le-of-eq (mul-assoc a (2 ^ 159) 8388608))))) (pow-pos 182))
+over-two e m a b E M h =
+    go (le-of-mul-le-mul-right {k = 2 ^ 182} (le-trans (le-of-eq (left b (2 ^ 182)))
+    (le-trans (mul-le-mul-right b (mul-le-mul {n₁ = 2 ^ 160} {m₁ = 8388608} (pow-mono {i = 160} {j = e} E) M))
+    (le-trans (le-of-eq h) (le-of-eq (mul-assoc a (2 ^ 159) 8388608))))) (pow-pos 182))
   where
     left : (b t : ℕ) → 2 * b * t ≡ t * 2 * b
     left b t = omega arith
@@ -93,7 +111,8 @@ over-two e m a b E M h = go (le-of-mul-le-mul-right {k = 2 ^ 182} (le-trans (le-
     go h = omega arith
 
 -- the fixed point number is x itself
-start-is : (e m a b : ℕ) → 157 ≤ e → 2 ^ e * m * b ≡ a * 2 ^ 159 * 8388608 → m * 2 ^ (e - 122) * b ≡ a * 1152921504606846976
+start-is : (e m a b : ℕ) → 157 ≤ e → 2 ^ e * m * b ≡ a * 2 ^ 159 * 8388608
+    → m * 2 ^ (e - 122) * b ≡ a * 1152921504606846976
 start-is e m a b E h =
     let s : e - 122 + 122 ≡ e = omega arith in
     let p : 2 ^ (e - 122) * 2 ^ 122 ≡ 2 ^ e = sym (pow-add 2 (e - 122) 122) ∙ ap (λ (i : ℕ). 2 ^ i) s in
@@ -106,7 +125,8 @@ start-is e m a b E h =
     right : (a t : ℕ) → a * (t * 137438953472) * 8388608 ≡ a * 1152921504606846976 * t
     right a t = omega arith
 
-pub start-range : (e m : ℕ) → 157 ≤ e → e ≤ 160 → 8388608 ≤ m → m < 16777216 → (288230376151711744 ≤ m * 2 ^ (e - 122)) × (m * 2 ^ (e - 122) < 4611686018427387904)
+pub start-range : (e m : ℕ) → 157 ≤ e → e ≤ 160 → 8388608 ≤ m → m < 16777216
+    → (288230376151711744 ≤ m * 2 ^ (e - 122)) × (m * 2 ^ (e - 122) < 4611686018427387904)
 start-range e m E E′ M M′ =
     let lo : 2 ^ 35 ≤ 2 ^ (e - 122) = pow-mono {i = 35} {j = e - 122} (omega arith) in
     let hi : 2 ^ (e - 122) ≤ 2 ^ 38 = pow-mono {i = e - 122} {j = 38} (omega arith) in
@@ -121,7 +141,9 @@ start-range e m E E′ M M′ =
 start-state : (a b X : ℕ) → 288230376151711744 ≤ X → X * b ≡ a * 1152921504606846976 → State a b 0 X
 start-state a b X l e = record {
   low = rw (one a, one b) (le-of-eq e);
-  high = λ _ g eg. rw (one a, one b) (le-trans (le-of-eq (ap (λ (z : ℕ). z * 144115188075855872) (sym e))) (mul-le-mul-left (X * b) (more g)));
+  high =
+      λ _ g eg. rw (one a, one b) (le-trans (le-of-eq (ap (λ (z : ℕ). z * 144115188075855872) (sym e)))
+      (mul-le-mul-left (X * b) (more g)));
   small = λ k. absurd (not-le-of-lt k l);
 }
   where
@@ -129,7 +151,8 @@ start-state a b X l e = record {
     more g = omega arith
 
 -- ---- the law
-module _ (x y : Float) (b c : ℕ) (ex : x ≡ ofBits binary32 b) (ey : y ≡ ofBits binary32 c) (B : 0 < b) (h : b < 2139095040) (l : c < 4294967296)
+module _ (x y : Float) (b c : ℕ) (ex : x ≡ ofBits binary32 b) (ey : y ≡ ofBits binary32 c) (B : 0 < b)
+    (h : b < 2139095040) (l : c < 4294967296)
     (k-low : 1124073472 < c % 2147483648) (k-high : c % 2147483648 < 2139095040) where
   y-is : Sign y c
   y-is = sign y c ey l k-high
@@ -148,7 +171,8 @@ module _ (x y : Float) (b c : ℕ) (ex : x ≡ ofBits binary32 b) (ey : y ≡ of
       digits : c % 2147483648 % 8388608 ≡ c % 8388608
       digits = omega arith
 
-      go : (f t : ℕ) → 134 ≤ f → t ≡ c % 8388608 → num y * 2 ^ 149 ≡ units f t * den y → 131072 * num y ≡ den y * ((c % 8388608 + 8388608) * 2 ^ (f - 133))
+      go : (f t : ℕ) → 134 ≤ f → t ≡ c % 8388608 → num y * 2 ^ 149 ≡ units f t * den y
+          → 131072 * num y ≡ den y * ((c % 8388608 + 8388608) * 2 ^ (f - 133))
       go zero t F e v = absurd (no F)
         where
           no : 134 ≤ 0 → ⊥
@@ -156,8 +180,10 @@ module _ (x y : Float) (b c : ℕ) (ex : x ≡ ofBits binary32 b) (ey : y ≡ of
       go (suc f) t F e v =
           let s : f ≡ (suc f - 133) + 132 = omega arith in
           let p : 2 ^ f ≡ 2 ^ (suc f - 133) * 2 ^ 132 = ap (λ (i : ℕ). 2 ^ i) s ∙ pow-add 2 (suc f - 133) 132 in
-          eq-of-mul-eq-mul-right (2 ^ 132) (pow-pos 132) (131072 * num y) (den y * ((c % 8388608 + 8388608) * 2 ^ (suc f - 133)))
-          (left (num y) (2 ^ 132) ∙ v ∙ ap₂ (λ (i j : ℕ). (8388608 + i) * j * den y) e p ∙ right (c % 8388608) (2 ^ (suc f - 133)) (2 ^ 132) (den y))
+          eq-of-mul-eq-mul-right (2 ^ 132) (pow-pos 132) (131072 * num y)
+          (den y * ((c % 8388608 + 8388608) * 2 ^ (suc f - 133)))
+          (left (num y) (2 ^ 132) ∙ v ∙ ap₂ (λ (i j : ℕ). (8388608 + i) * j * den y) e p
+          ∙ right (c % 8388608) (2 ^ (suc f - 133)) (2 ^ 132) (den y))
         where
           left : (n t : ℕ) → 131072 * n * t ≡ n * (t * 131072)
           left n t = omega arith
@@ -193,24 +219,37 @@ module _ (x y : Float) (b c : ℕ) (ex : x ≡ ofBits binary32 b) (ey : y ≡ of
       go true t e = ap not e
       go false t e = ap not e
 
-  above : (j : ℕ) → j ≤ k → 4 * den x ^ (2 ^ j) ≤ num x ^ (2 ^ j) → Shown x y (ofBits binary32 (exp2Bits (cond (ltb c 2147483648) 72057594037927936 0)))
+  above : (j : ℕ) → j ≤ k → 4 * den x ^ (2 ^ j) ≤ num x ^ (2 ^ j)
+      → Shown x y (ofBits binary32 (exp2Bits (cond (ltb c 2147483648) 72057594037927936 0)))
   unfolding PowGe PowLe
   above j J f = go (y-is .t) refl
     where
-      go : (t : Bool) → y-is .t ≡ t → Shown x y (ofBits binary32 (exp2Bits (cond (ltb c 2147483648) 72057594037927936 0)))
-      go false e = rw (not-lt false (y-is .is ∙ e)) (is-inf x y x-pos (ofBits binary32 (exp2Bits 72057594037927936)) inf-is (rw (sign-y ∙ e) (above-ge (num x) (den x) j (num y) (den y) f (far j J))))
-      go true e = rw (not-lt true (y-is .is ∙ e)) (is-zero x y x-pos (ofBits binary32 (exp2Bits 0)) none-is (rw (sign-y ∙ e) (above-le (num x) (den x) j (num y) (den y) f (far j J))))
+      go : (t : Bool) → y-is .t ≡ t → Shown x y
+          (ofBits binary32 (exp2Bits (cond (ltb c 2147483648) 72057594037927936 0)))
+      go false e =
+          rw (not-lt false (y-is .is ∙ e)) (is-inf x y x-pos (ofBits binary32 (exp2Bits 72057594037927936)) inf-is
+          (rw (sign-y ∙ e) (above-ge (num x) (den x) j (num y) (den y) f (far j J))))
+      go true e =
+          rw (not-lt true (y-is .is ∙ e)) (is-zero x y x-pos (ofBits binary32 (exp2Bits 0)) none-is
+          (rw (sign-y ∙ e) (above-le (num x) (den x) j (num y) (den y) f (far j J))))
 
-  below : (j : ℕ) → j ≤ k → num x ^ (2 ^ j) * 4294967296 ≤ den x ^ (2 ^ j) * 1073741825 → Shown x y (ofBits binary32 (exp2Bits (cond (ltb c 2147483648) 0 72057594037927936)))
+  below : (j : ℕ) → j ≤ k → num x ^ (2 ^ j) * 4294967296 ≤ den x ^ (2 ^ j) * 1073741825
+      → Shown x y (ofBits binary32 (exp2Bits (cond (ltb c 2147483648) 0 72057594037927936)))
   unfolding PowGe PowLe
   below j J f = go (y-is .t) refl
     where
-      go : (t : Bool) → y-is .t ≡ t → Shown x y (ofBits binary32 (exp2Bits (cond (ltb c 2147483648) 0 72057594037927936)))
-      go false e = rw (not-lt false (y-is .is ∙ e)) (is-zero x y x-pos (ofBits binary32 (exp2Bits 0)) none-is (rw (sign-y ∙ e) (below-le (num x) (den x) j (num y) (den y) f (far j J))))
-      go true e = rw (not-lt true (y-is .is ∙ e)) (is-inf x y x-pos (ofBits binary32 (exp2Bits 72057594037927936)) inf-is (rw (sign-y ∙ e) (below-ge (num x) (den x) j (num y) (den y) f (far j J))))
+      go : (t : Bool) → y-is .t ≡ t → Shown x y
+          (ofBits binary32 (exp2Bits (cond (ltb c 2147483648) 0 72057594037927936)))
+      go false e =
+          rw (not-lt false (y-is .is ∙ e)) (is-zero x y x-pos (ofBits binary32 (exp2Bits 0)) none-is
+          (rw (sign-y ∙ e) (below-le (num x) (den x) j (num y) (den y) f (far j J))))
+      go true e =
+          rw (not-lt true (y-is .is ∙ e)) (is-inf x y x-pos (ofBits binary32 (exp2Bits 72057594037927936)) inf-is
+          (rw (sign-y ∙ e) (below-ge (num x) (den x) j (num y) (den y) f (far j J))))
 
   -- ---- within: the squares stayed from 1/4 to 4
-  module _ (X : ℕ) (lo : 288230376151711744 ≤ X) (hi : X < 4611686018427387904) (K : k ≤ 24) (s : State (num x) (den x) k X) where
+  module _ (X : ℕ) (lo : 288230376151711744 ≤ X) (hi : X < 4611686018427387904) (K : k ≤ 24)
+      (s : State (num x) (den x) k X) where
     abbrev L : ℕ
     L = fineLog2 X
 
@@ -231,26 +270,34 @@ module _ (x y : Float) (b c : ℕ) (ex : x ≡ ofBits binary32 b) (ey : y ≡ of
 
     around : Around (unlike (ltb L 5463198400512) (y-is .t)) (fineArg L c) U
     unfolding fineArg
-    around = subst (λ (w : Bool). Around (unlike (ltb L 5463198400512) w) (fineArg L c) U) (y-is .is) (arg-around 5463198400512 L c U u-le)
+    around =
+        subst (λ (w : Bool). Around (unlike (ltb L 5463198400512) w) (fineArg L c) U) (y-is .is)
+        (arg-around 5463198400512 L c U u-le)
 
     n-le : n ≤ 128 * 131072
     n-le = omega arith
 
-    low : (v p q : ℕ) → 32769 ≤ v → 36028247263150080 + v ≤ fineArg L c → TwoGe (v - 32769) 549755813888 (2 ^ 127 * p) q → PowGe x y p q
+    low : (v p q : ℕ) → 32769 ≤ v → 36028247263150080 + v ≤ fineArg L c → TwoGe (v - 32769) 549755813888 (2 ^ 127 * p) q
+        → PowGe x y p q
     unfolding PowGe
     low v p q i j e =
         subst (λ (w : Bool). RatioGe w (num x) (den x) (num y) (den y) p q) (sym sign-y)
         (ge-of-squares (num x) (den x) (2 ^ k) n 131072 (num y) (den y) p q (lit< tt) n-is (y-is .t)
-        (low-at (num x ^ (2 ^ k)) (den x ^ (2 ^ k)) n 131072 L (absDiff L 5463198400512) U (fineArg L c) (ltb L 5463198400512) (y-is .t) (sized n (absDiff L 5463198400512)) n-le (side 5463198400512 L) (L-range .0)
-        (power-low (num x) (den x) k X K (den-pos x) lo hi s) (power-high (num x) (den x) k X K (den-pos x) lo hi s) around v p q i j e))
+        (low-at (num x ^ (2 ^ k)) (den x ^ (2 ^ k)) n 131072 L (absDiff L 5463198400512) U (fineArg L c)
+        (ltb L 5463198400512) (y-is .t) (sized n (absDiff L 5463198400512)) n-le (side 5463198400512 L) (L-range .0)
+        (power-low (num x) (den x) k X K (den-pos x) lo hi s) (power-high (num x) (den x) k X K (den-pos x) lo hi s)
+        around v p q i j e))
 
-    high : (v p q : ℕ) → fineArg L c ≤ 36028247263150080 + v → TwoLe (v + 32769) 549755813888 (2 ^ 127 * p) q → PowLe x y p q
+    high : (v p q : ℕ) → fineArg L c ≤ 36028247263150080 + v → TwoLe (v + 32769) 549755813888 (2 ^ 127 * p) q
+        → PowLe x y p q
     unfolding PowLe
     high v p q j e =
         subst (λ (w : Bool). RatioLe w (num x) (den x) (num y) (den y) p q) (sym sign-y)
         (le-of-squares (num x) (den x) (2 ^ k) n 131072 (num y) (den y) p q (lit< tt) n-is (y-is .t)
-        (high-at (num x ^ (2 ^ k)) (den x ^ (2 ^ k)) n 131072 L (absDiff L 5463198400512) U (fineArg L c) (ltb L 5463198400512) (y-is .t) (sized n (absDiff L 5463198400512)) n-le (side 5463198400512 L) (L-range .0)
-        (power-low (num x) (den x) k X K (den-pos x) lo hi s) (power-high (num x) (den x) k X K (den-pos x) lo hi s) around v p q j e))
+        (high-at (num x ^ (2 ^ k)) (den x ^ (2 ^ k)) n 131072 L (absDiff L 5463198400512) U (fineArg L c)
+        (ltb L 5463198400512) (y-is .t) (sized n (absDiff L 5463198400512)) n-le (side 5463198400512 L) (L-range .0)
+        (power-low (num x) (den x) k X K (den-pos x) lo hi s) (power-high (num x) (den x) k X K (den-pos x) lo hi s)
+        around v p q j e))
 
     within : Shown x y (ofBits binary32 (exp2Bits (fineArg L c)))
     within = S.shown x y x-pos (fineArg L c) low high
@@ -260,10 +307,12 @@ module _ (x y : Float) (b c : ℕ) (ex : x ≡ ofBits binary32 b) (ey : y ≡ of
   outcome X K (Q.above i j J f) = rw (arg-high X c i) (above j J f)
   outcome X K (Q.below i j J f) = rw (arg-low X c i) (below j J f)
 
-  small-zero : (j : ℕ) → j ≤ k → num x ^ (2 ^ j) * 4294967296 ≤ den x ^ (2 ^ j) * 1073741825 → Shown x y (ofBits binary32 (exp2Bits (largeArg 0 c)))
+  small-zero : (j : ℕ) → j ≤ k → num x ^ (2 ^ j) * 4294967296 ≤ den x ^ (2 ^ j) * 1073741825
+      → Shown x y (ofBits binary32 (exp2Bits (largeArg 0 c)))
   small-zero j J f = rw (arg-low 0 c (lit< tt)) (below j J f)
 
-  large-four : (j : ℕ) → j ≤ k → 4 * den x ^ (2 ^ j) ≤ num x ^ (2 ^ j) → Shown x y (ofBits binary32 (exp2Bits (largeArg 4611686018427387904 c)))
+  large-four : (j : ℕ) → j ≤ k → 4 * den x ^ (2 ^ j) ≤ num x ^ (2 ^ j)
+      → Shown x y (ofBits binary32 (exp2Bits (largeArg 4611686018427387904 c)))
   large-four j J f = rw (arg-high 4611686018427387904 c (lit≤ tt)) (above j J f)
 
   abbrev p : ℕ
@@ -290,7 +339,10 @@ module _ (x y : Float) (b c : ℕ) (ex : x ≡ ofBits binary32 b) (ey : y ≡ of
 
       -- four times, after 25 squares
       low-25 : 1317011456 ≤ p → p < 1333788672 → num x ^ (2 ^ 25) * 4294967296 ≤ den x ^ (2 ^ 25) * 1073741825
-      low-25 i j = last (num x ^ (2 ^ 25)) (den x ^ (2 ^ 25)) (four-times (den x) (num x) 24 (under-one (p / 8388608) (8388608 + p % 8388608) (num x) (den x) (omega arith) (omega arith) x-is))
+      low-25 i j =
+          last (num x ^ (2 ^ 25)) (den x ^ (2 ^ 25))
+          (four-times (den x) (num x) 24 (under-one (p / 8388608) (8388608 + p % 8388608) (num x) (den x) (omega arith)
+          (omega arith) x-is))
         where
           last : (u w : ℕ) → 4 * u ≤ w → u * 4294967296 ≤ w * 1073741825
           last u w h = omega arith
@@ -302,20 +354,29 @@ module _ (x y : Float) (b c : ℕ) (ex : x ≡ ofBits binary32 b) (ey : y ≡ of
           more (inl j) = over-one (p / 8388608) (8388608 + p % 8388608) (num x) (den x) (omega arith) (omega arith) x-is
           more (inr j) = over-two (p / 8388608) (8388608 + p % 8388608) (num x) (den x) j (omega arith) x-is
 
-      go : (p < 1317011456) ⊎ (1317011456 ≤ p) → (p < 1350565888) ⊎ (1350565888 ≤ p) → (24 < k) ⊎ (k ≤ 24) → (p < 1333788672) ⊎ (1333788672 ≤ p)
+      go : (p < 1317011456) ⊎ (1317011456 ≤ p) → (p < 1350565888) ⊎ (1350565888 ≤ p) → (24 < k) ⊎ (k ≤ 24)
+          → (p < 1333788672) ⊎ (1333788672 ≤ p)
           → Shown x y (ofBits binary32 (exp2Bits (largeArg (squared p c) c)))
-      go (inl i) _ _ _ = rw (squared-1 p c i) (small-zero 0 (omega arith) (rw (one (num x), one (den x)) (last (num x) (den x) (quarter (p / 8388608) (8388608 + p % 8388608) (num x) (den x) (omega arith) (omega arith) x-is))))
+      go (inl i) _ _ _ =
+          rw (squared-1 p c i) (small-zero 0 (omega arith)
+          (rw (one (num x), one (den x)) (last (num x) (den x)
+          (quarter (p / 8388608) (8388608 + p % 8388608) (num x) (den x) (omega arith) (omega arith) x-is))))
         where
           last : (u w : ℕ) → u * 4 ≤ w → u * 4294967296 ≤ w * 1073741825
           last u w h = omega arith
-      go (inr i) (inr j) _ _ = rw (squared-5 p c j) (large-four 0 (omega arith) (rw (one (num x), one (den x)) (four (p / 8388608) (8388608 + p % 8388608) (num x) (den x) (omega arith) (omega arith) x-is)))
+      go (inr i) (inr j) _ _ =
+          rw (squared-5 p c j) (large-four 0 (omega arith)
+          (rw (one (num x), one (den x)) (four (p / 8388608) (8388608 + p % 8388608) (num x) (den x) (omega arith)
+          (omega arith) x-is)))
       go (inr i) (inl j) (inl m) (inl o) = rw (squared-3 p c i o m) (small-zero 25 m (low-25 i o))
       go (inr i) (inl j) (inl m) (inr o) = rw (squared-4 p c o j m) (large-four 25 m (high-25 (above-one o)))
       go (inr i) (inl j) (inr m) _ =
-          let r = start-range (p / 8388608) (8388608 + p % 8388608) (omega arith) (omega arith) (omega arith) (omega arith) in
+          let r = start-range (p / 8388608) (8388608 + p % 8388608) (omega arith) (omega arith) (omega arith)
+          (omega arith) in
           rw (squared-2 p c i j m)
           (outcome (squares k ((8388608 + p % 8388608) * 2 ^ (p / 8388608 - 122))) m
-          (subst (λ (z : ℕ). Result (num x) (den x) z (squares k ((8388608 + p % 8388608) * 2 ^ (p / 8388608 - 122)))) (zero-add k)
+          (subst (λ (z : ℕ). Result (num x) (den x) z (squares k ((8388608 + p % 8388608) * 2 ^ (p / 8388608 - 122))))
+          (zero-add k)
           (run (num x) (den x) k 0 ((8388608 + p % 8388608) * 2 ^ (p / 8388608 - 122)) (omega arith)
           (start-state (num x) (den x) ((8388608 + p % 8388608) * 2 ^ (p / 8388608 - 122)) (r .0)
           (start-is (p / 8388608) (8388608 + p % 8388608) (num x) (den x) (omega arith) x-is)))))

@@ -17,27 +17,35 @@ use Rattle.elementary.proofs.large.Squaring.{State}
 
 -- 2^(8 / 2^35) ≥ (1 + 2^-35) (1 + 2^-33)
 slack : TwoGe 8 34359738368 (34359738369 * 8589934593) (34359738368 * 8589934592)
-slack = two-ge-exp 195103586505167 281474976710656 8 34359738368 (34359738369 * 8589934593) (34359738368 * 8589934592) (lit< tt) (lit< tt) ln2-le (1, unfold sum scale in lit≤ tt)
+slack =
+    two-ge-exp 195103586505167 281474976710656 8 34359738368 (34359738369 * 8589934593) (34359738368 * 8589934592)
+    (lit< tt) (lit< tt) ln2-le (1, unfold sum scale in lit≤ tt)
 
 -- a significand y of 36 digits
-sig-below : (y : ℕ) → 34359738368 ≤ y → y < 68719476736 → TwoLe (fineLog2At (y / 67108864 - 512) (y % 67108864) + (y / 67108864 - 512) * 67108864 - 8) 34359738368 y 34359738368
+sig-below : (y : ℕ) → 34359738368 ≤ y → y < 68719476736
+    → TwoLe (fineLog2At (y / 67108864 - 512) (y % 67108864) + (y / 67108864 - 512) * 67108864 - 8) 34359738368 y
+    34359738368
 sig-below y lo hi =
     let i = y / 67108864 - 512 in
     let t = y % 67108864 in
     let f = floor (t * t) 16777216 (lit< tt) in
     subst (λ (z : ℕ). TwoLe (fineLog2At i t + i * 67108864 - 8) 34359738368 z 34359738368) whole
-    (fine-below i t (512 + i) ((512 + i) * 67108864) (t * t / 16777216) (omega arith) (omega arith) refl refl (f .0) (f .1))
+    (fine-below i t (512 + i) ((512 + i) * 67108864) (t * t / 16777216) (omega arith) (omega arith) refl refl (f .0)
+    (f .1))
   where
     whole : (512 + (y / 67108864 - 512)) * 67108864 + y % 67108864 ≡ y
     whole = omega arith
 
-sig-above : (y : ℕ) → 34359738368 ≤ y → y < 68719476736 → TwoGe (fineLog2At (y / 67108864 - 512) (y % 67108864) + (y / 67108864 - 512) * 67108864 + 8) 34359738368 y 34359738368
+sig-above : (y : ℕ) → 34359738368 ≤ y → y < 68719476736
+    → TwoGe (fineLog2At (y / 67108864 - 512) (y % 67108864) + (y / 67108864 - 512) * 67108864 + 8) 34359738368 y
+    34359738368
 sig-above y lo hi =
     let i = y / 67108864 - 512 in
     let t = y % 67108864 in
     let f = floor (t * t) 16777216 (lit< tt) in
     subst (λ (z : ℕ). TwoGe (fineLog2At i t + i * 67108864 + 8) 34359738368 z 34359738368) whole
-    (fine-above i t (512 + i) ((512 + i) * 67108864) (t * t / 16777216) (omega arith) (omega arith) refl refl (f .0) (f .1))
+    (fine-above i t (512 + i) ((512 + i) * 67108864) (t * t / 16777216) (omega arith) (omega arith) refl refl (f .0)
+    (f .1))
   where
     whole : (512 + (y / 67108864 - 512)) * 67108864 + y % 67108864 ≡ y
     whole = omega arith
@@ -65,7 +73,10 @@ top x X h =
           high = lt-of-lt-of-le (mul-lt-mul-of-pos-right hi (pow-pos z)) (le-of-eq c);
         }
 
-pub fine-is : (x : ℕ) → fineLog2 x ≡ (162 - leadingZeros 64 x) * 34359738368 + (fineLog2At (x * 2 ^ leadingZeros 64 x / 268435456 / 67108864 - 512) (x * 2 ^ leadingZeros 64 x / 268435456 % 67108864) + (x * 2 ^ leadingZeros 64 x / 268435456 / 67108864 - 512) * 67108864)
+pub fine-is : (x : ℕ) → fineLog2 x ≡ (162 - leadingZeros 64 x) * 34359738368 + (fineLog2At
+    (x * 2 ^ leadingZeros 64 x / 268435456 / 67108864 - 512)
+    (x * 2 ^ leadingZeros 64 x / 268435456 % 67108864) + (x * 2 ^ leadingZeros 64
+    x / 268435456 / 67108864 - 512) * 67108864)
 unfolding fineLog2
 fine-is x = refl
 
@@ -102,7 +113,9 @@ module _ (x : ℕ) (X : 0 < x) (h : x < 18446744073709551616) where
 
       go : (w < 34359738376) ⊎ (34359738376 ≤ w) → w < 34359738376
       go (inl k) = k
-      go (inr k) = absurd (no (two-cut 34359738368 34359738368 2 1 y 34359738368 (lit< tt) (two-ge-whole 1 34359738368) (two-le-mono 34359738368 (w - 8) 34359738368 y 34359738368 (omega arith) (sig-below y y-low y-high))))
+      go (inr k) =
+          absurd (no (two-cut 34359738368 34359738368 2 1 y 34359738368 (lit< tt) (two-ge-whole 1 34359738368)
+          (two-le-mono 34359738368 (w - 8) 34359738368 y 34359738368 (omega arith) (sig-below y y-low y-high))))
 
   pub fine-range : (8 ≤ fineLog2 x) × (fineLog2 x ≤ 5600637354000)
   fine-range = (omega (arith, fine-is x, T .most), omega (arith, fine-is x, w-lt))
@@ -111,24 +124,35 @@ module _ (x : ℕ) (X : 0 < x) (h : x < 18446744073709551616) where
   fine-low =
       let e = 162 - z in
       two-le-mono (fineLog2 x - 8) (34359738368 * e + (w - 8)) 34359738368 (x * 2 ^ 99) 1 (omega (arith, fine-is x))
-      (two-le-weaken (34359738368 * e + (w - 8)) 34359738368 (2 ^ e * y) (1 * 34359738368) (x * 2 ^ 99) 1 (lit< tt) (go (2 ^ e) (2 ^ z) y (2 ^ 99) all (omega arith))
-      (two-le-mul 34359738368 (34359738368 * e) (w - 8) (2 ^ e) 1 y 34359738368 (two-le-whole e 34359738368) (sig-below y y-low y-high)))
+      (two-le-weaken (34359738368 * e + (w - 8)) 34359738368 (2 ^ e * y) (1 * 34359738368) (x * 2 ^ 99) 1 (lit< tt)
+      (go (2 ^ e) (2 ^ z) y (2 ^ 99) all (omega arith))
+      (two-le-mul 34359738368 (34359738368 * e) (w - 8) (2 ^ e) 1 y 34359738368 (two-le-whole e 34359738368)
+      (sig-below y y-low y-high)))
     where
-      go : (e z y k : ℕ) → e * z ≡ k * 34359738368 * 268435456 → y * 268435456 ≤ x * z → e * y * 1 ≤ x * k * (1 * 34359738368)
-      go e z y k p l = le-of-mul-le-mul-right {k = 268435456} (omega (arith, mul-le-mul-left e l, ap (λ (i : ℕ). x * i) p)) (lit< tt)
+      go : (e z y k : ℕ) → e * z ≡ k * 34359738368 * 268435456 → y * 268435456 ≤ x * z
+          → e * y * 1 ≤ x * k * (1 * 34359738368)
+      go e z y k p l =
+          le-of-mul-le-mul-right {k = 268435456} (omega (arith, mul-le-mul-left e l, ap (λ (i : ℕ). x * i) p)) (lit< tt)
 
   pub fine-high : TwoGe (fineLog2 x + 8) 34359738368 (x * 2 ^ 99 * 34359738368) 34359738369
   fine-high =
       let e = 162 - z in
-      two-ge-mono (34359738368 * e + (w + 8)) (fineLog2 x + 8) 34359738368 (x * 2 ^ 99 * 34359738368) 34359738369 (omega (arith, fine-is x))
-      (two-ge-weaken (34359738368 * e + (w + 8)) 34359738368 (2 ^ e * y) (1 * 34359738368) (x * 2 ^ 99 * 34359738368) 34359738369 (lit< tt) (go (2 ^ e) (2 ^ z) y (2 ^ 99) all (omega arith) y-low)
-      (two-ge-mul 34359738368 (34359738368 * e) (w + 8) (2 ^ e) 1 y 34359738368 (two-ge-whole e 34359738368) (sig-above y y-low y-high)))
+      two-ge-mono (34359738368 * e + (w + 8)) (fineLog2 x + 8) 34359738368 (x * 2 ^ 99 * 34359738368) 34359738369
+      (omega (arith, fine-is x))
+      (two-ge-weaken (34359738368 * e + (w + 8)) 34359738368 (2 ^ e * y) (1 * 34359738368) (x * 2 ^ 99 * 34359738368)
+      34359738369 (lit< tt) (go (2 ^ e) (2 ^ z) y (2 ^ 99) all (omega arith) y-low)
+      (two-ge-mul 34359738368 (34359738368 * e) (w + 8) (2 ^ e) 1 y 34359738368 (two-ge-whole e 34359738368)
+      (sig-above y y-low y-high)))
     where
-      go : (e z y k : ℕ) → e * z ≡ k * 34359738368 * 268435456 → x * z ≤ (y + 1) * 268435456 → 34359738368 ≤ y → x * k * 34359738368 * (1 * 34359738368) ≤ e * y * 34359738369
-      go e z y k p l m = le-of-mul-le-mul-right {k = 268435456} (omega (arith, mul-le-mul-left e l, ap (λ (i : ℕ). x * i) p, mul-le-mul-left e m)) (lit< tt)
+      go : (e z y k : ℕ) → e * z ≡ k * 34359738368 * 268435456 → x * z ≤ (y + 1) * 268435456 → 34359738368 ≤ y
+          → x * k * 34359738368 * (1 * 34359738368) ≤ e * y * 34359738369
+      go e z y k p l m =
+          le-of-mul-le-mul-right {k = 268435456} (omega
+          (arith, mul-le-mul-left e l, ap (λ (i : ℕ). x * i) p, mul-le-mul-left e m)) (lit< tt)
 
 -- ---- of a / b after n squares, n ≤ 24
-module _ (a b n x : ℕ) (N : n ≤ 24) (B : 0 < b) (lo : 288230376151711744 ≤ x) (hi : x < 4611686018427387904) (s : State a b n x) where
+module _ (a b n x : ℕ) (N : n ≤ 24) (B : 0 < b) (lo : 288230376151711744 ≤ x) (hi : x < 4611686018427387904)
+    (s : State a b n x) where
   x-pos : 0 < x
   x-pos = omega arith
 
@@ -142,11 +166,14 @@ module _ (a b n x : ℕ) (N : n ≤ 24) (B : 0 < b) (lo : 288230376151711744 ≤
       let E : 2 ^ n ≤ 16777216 = pow-mono {i = n} {j = 24} N in
       go (a ^ (2 ^ n)) (x * b ^ (2 ^ n)) e (omega arith) (s .high lo e ee)
     where
-      go : (A Y e : ℕ) → e ≤ 16777216 → A * 1152921504606846976 * 144115188075855872 ≤ Y * (144115188075855872 + e) → A * 1152921504606846976 * 8589934592 ≤ Y * 8589934593
+      go : (A Y e : ℕ) → e ≤ 16777216 → A * 1152921504606846976 * 144115188075855872 ≤ Y * (144115188075855872 + e)
+          → A * 1152921504606846976 * 8589934592 ≤ Y * 8589934593
       go A Y e l h = le-of-mul-le-mul-right {k = 16777216} (omega (arith, mul-le-mul-left Y l)) (lit< tt)
 
   pub power-low : TwoLe (fineLog2 x - 8) 34359738368 (a ^ (2 ^ n) * 2 ^ 159) (b ^ (2 ^ n))
-  power-low = two-le-weaken (fineLog2 x - 8) 34359738368 (x * 2 ^ 99) 1 (a ^ (2 ^ n) * 2 ^ 159) (b ^ (2 ^ n)) (lit< tt) (go (a ^ (2 ^ n)) (b ^ (2 ^ n)) (2 ^ 99) (s .low)) (fine-low x x-pos x-lt)
+  power-low =
+      two-le-weaken (fineLog2 x - 8) 34359738368 (x * 2 ^ 99) 1 (a ^ (2 ^ n) * 2 ^ 159) (b ^ (2 ^ n)) (lit< tt)
+      (go (a ^ (2 ^ n)) (b ^ (2 ^ n)) (2 ^ 99) (s .low)) (fine-low x x-pos x-lt)
     where
       go : (A C k : ℕ) → x * C ≤ A * 1152921504606846976 → x * k * C ≤ A * (k * 1152921504606846976) * 1
       go A C k h = omega (arith, mul-le-mul-left k h)
@@ -154,19 +181,26 @@ module _ (a b n x : ℕ) (N : n ≤ 24) (B : 0 < b) (lo : 288230376151711744 ≤
   pub power-high : TwoGe (fineLog2 x + 16) 34359738368 (a ^ (2 ^ n) * 2 ^ 159) (b ^ (2 ^ n))
   power-high =
       subst (λ (l : ℕ). TwoGe l 34359738368 (a ^ (2 ^ n) * 2 ^ 159) (b ^ (2 ^ n))) (eight (fineLog2 x))
-      (two-ge-weaken (fineLog2 x + 8 + 8) 34359738368 (x * 2 ^ 99 * 34359738368 * (34359738369 * 8589934593)) (34359738369 * (34359738368 * 8589934592)) (a ^ (2 ^ n) * 2 ^ 159) (b ^ (2 ^ n)) (lit< tt)
+      (two-ge-weaken (fineLog2 x + 8 + 8) 34359738368 (x * 2 ^ 99 * 34359738368 * (34359738369 * 8589934593))
+      (34359738369 * (34359738368 * 8589934592)) (a ^ (2 ^ n) * 2 ^ 159) (b ^ (2 ^ n)) (lit< tt)
       (go (a ^ (2 ^ n)) (b ^ (2 ^ n)) (2 ^ 99) close)
-      (two-ge-mul 34359738368 (fineLog2 x + 8) 8 (x * 2 ^ 99 * 34359738368) 34359738369 (34359738369 * 8589934593) (34359738368 * 8589934592) (fine-high x x-pos x-lt) slack))
+      (two-ge-mul 34359738368 (fineLog2 x + 8) 8 (x * 2 ^ 99 * 34359738368) 34359738369 (34359738369 * 8589934593)
+      (34359738368 * 8589934592) (fine-high x x-pos x-lt) slack))
     where
       eight : (l : ℕ) → l + 8 + 8 ≡ l + 16
       eight l = omega arith
 
-      go : (A C k : ℕ) → A * 1152921504606846976 * 8589934592 ≤ x * C * 8589934593 → A * (k * 1152921504606846976) * (34359738369 * (34359738368 * 8589934592)) ≤ x * k * 34359738368 * (34359738369 * 8589934593) * C
+      go : (A C k : ℕ) → A * 1152921504606846976 * 8589934592 ≤ x * C * 8589934593
+          → A * (k * 1152921504606846976) * (34359738369 * (34359738368 * 8589934592)) ≤ x * k * 34359738368
+          * (34359738369 * 8589934593) * C
       go A C k h =
-          le-trans (le-of-eq (left A k)) (le-trans (mul-le-mul-left (k * (34359738368 * 34359738369)) h) (le-of-eq (right (x * C) x C k)))
+          le-trans (le-of-eq (left A k)) (le-trans (mul-le-mul-left (k * (34359738368 * 34359738369)) h)
+          (le-of-eq (right (x * C) x C k)))
         where
-          left : (A k : ℕ) → A * (k * 1152921504606846976) * (34359738369 * (34359738368 * 8589934592)) ≡ k * (34359738368 * 34359738369) * (A * 1152921504606846976 * 8589934592)
+          left : (A k : ℕ) → A * (k * 1152921504606846976) * (34359738369 * (34359738368 * 8589934592)) ≡ k
+              * (34359738368 * 34359738369) * (A * 1152921504606846976 * 8589934592)
           left A k = simp (mul-assoc, mul-comm, mul-left-comm)
 
-          right : (v x C k : ℕ) → k * (34359738368 * 34359738369) * (x * C * 8589934593) ≡ x * k * 34359738368 * (34359738369 * 8589934593) * C
+          right : (v x C k : ℕ) → k * (34359738368 * 34359738369) * (x * C * 8589934593) ≡ x * k * 34359738368
+              * (34359738369 * 8589934593) * C
           right v x C k = simp (mul-assoc, mul-comm, mul-left-comm)

@@ -1,4 +1,5 @@
--- x = a / b squared again and again, in units of 2^-60, cut down: after i squares it is at most 2^i 2^-57 of itself too low.
+-- x = a / b squared again and again, in units of 2^-60, cut down: after i squares it is at most 2^i 2^-57 of itself too
+-- low.
 use mathlib.Core.Path.{_≡_, refl, sym, ap, _∙_, subst}
 use mathlib.Core.Logic.{_⊎_, inl, inr}
 use Prim.Native.Nat.{ℕ, zero, suc, _+_, _-_, _*_, _/_, _%_, _^_, _≤_, _<_}
@@ -16,10 +17,13 @@ low-step : (A B X Y q : ℕ) → 0 < q → Y * q ≤ X * X → X * B ≤ A * q �
 low-step A B X Y q Q y h = le-of-mul-le-mul-right {k = q} (omega (arith, mul-le-mul-right (B * B) y, mul-le-mul h h)) Q
 
 -- (A^2) against (Y + 1) B^2 (t + e)^2
-wide : (A B X Y q t e : ℕ) → 0 < q → X * X ≤ (Y + 1) * q → A * q * t ≤ X * B * (t + e) → A * A * q * (t * t) ≤ (Y + 1) * (B * B) * ((t + e) * (t + e))
+wide : (A B X Y q t e : ℕ) → 0 < q → X * X ≤ (Y + 1) * q → A * q * t ≤ X * B * (t + e)
+    → A * A * q * (t * t) ≤ (Y + 1) * (B * B) * ((t + e) * (t + e))
 wide A B X Y q t e Q y h =
     le-of-mul-le-mul-right {k = q}
-    (le-trans (le-of-eq (one A q t)) (le-trans (mul-le-mul h h) (le-trans (le-of-eq (two X B (t + e))) (le-trans (mul-le-mul-right (B * B * ((t + e) * (t + e))) y) (le-of-eq (three (Y + 1) q (B * B) ((t + e) * (t + e)))))))) Q
+    (le-trans (le-of-eq (one A q t)) (le-trans (mul-le-mul h h)
+    (le-trans (le-of-eq (two X B (t + e))) (le-trans (mul-le-mul-right (B * B * ((t + e) * (t + e))) y)
+    (le-of-eq (three (Y + 1) q (B * B) ((t + e) * (t + e)))))))) Q
   where
     one : (A q t : ℕ) → A * A * q * (t * t) * q ≡ A * q * t * (A * q * t)
     one A q t = omega arith
@@ -31,7 +35,8 @@ wide A B X Y q t e Q y h =
     three y q b s = omega arith
 
 -- (Y + 1) (t + e)^2 ≤ Y t (t + 2 e + 1), where Y is from 2 t on and 4 e^2 ≤ t
-enough : (Y t e : ℕ) → 2 * t ≤ Y → 4 * (e * e) ≤ t → 8 * e ≤ t → (Y + 1) * ((t + e) * (t + e)) ≤ Y * (t * (t + (2 * e + 1)))
+enough : (Y t e : ℕ) → 2 * t ≤ Y → 4 * (e * e) ≤ t → 8 * e ≤ t
+    → (Y + 1) * ((t + e) * (t + e)) ≤ Y * (t * (t + (2 * e + 1)))
 enough Y t e y h k =
     let a : Y * (4 * (e * e)) ≤ Y * t = mul-le-mul-left Y h in
     let b : 2 * t * t ≤ Y * t = mul-le-mul-right t y in
@@ -42,10 +47,13 @@ enough Y t e y h k =
     le-of : (e t : ℕ) → 8 * e ≤ t → e ≤ t
     le-of e t k = omega arith
 
-high-step : (A B X Y q t e : ℕ) → 0 < q → 0 < t → X * X ≤ (Y + 1) * q → 2 * t ≤ Y → 4 * (e * e) ≤ t → 8 * e ≤ t → A * q * t ≤ X * B * (t + e) → A * A * q * t ≤ Y * (B * B) * (t + (2 * e + 1))
+high-step : (A B X Y q t e : ℕ) → 0 < q → 0 < t → X * X ≤ (Y + 1) * q → 2 * t ≤ Y → 4 * (e * e) ≤ t → 8 * e ≤ t
+    → A * q * t ≤ X * B * (t + e) → A * A * q * t ≤ Y * (B * B) * (t + (2 * e + 1))
 high-step A B X Y q t e Q P y l h k f =
     le-of-mul-le-mul-right {k = t}
-    (le-trans (le-of-eq (one (A * A * q) t)) (le-trans (wide A B X Y q t e Q y f) (le-trans (le-of-eq (two (Y + 1) (B * B) ((t + e) * (t + e)))) (le-trans (mul-le-mul-left (B * B) (enough Y t e l h k)) (le-of-eq (three (B * B) Y t (t + (2 * e + 1)))))))) P
+    (le-trans (le-of-eq (one (A * A * q) t)) (le-trans (wide A B X Y q t e Q y f)
+    (le-trans (le-of-eq (two (Y + 1) (B * B) ((t + e) * (t + e))))
+    (le-trans (mul-le-mul-left (B * B) (enough Y t e l h k)) (le-of-eq (three (B * B) Y t (t + (2 * e + 1)))))))) P
   where
     one : (x t : ℕ) → x * t * t ≡ x * (t * t)
     one x t = omega arith
@@ -59,7 +67,8 @@ high-step A B X Y q t e Q P y l h k f =
 -- ---- the state after i squares: 2^60 is 1152921504606846976, 2^57 144115188075855872, 2^58 288230376151711744
 pub record State (a b i X : ℕ) : Type 0 where
   pub low : X * b ^ (2 ^ i) ≤ a ^ (2 ^ i) * 1152921504606846976
-  pub high : 288230376151711744 ≤ X → (e : ℕ) → e + 1 ≡ 2 ^ i → a ^ (2 ^ i) * 1152921504606846976 * 144115188075855872 ≤ X * b ^ (2 ^ i) * (144115188075855872 + e)
+  pub high : 288230376151711744 ≤ X → (e : ℕ) → e + 1 ≡ 2 ^ i
+      → a ^ (2 ^ i) * 1152921504606846976 * 144115188075855872 ≤ X * b ^ (2 ^ i) * (144115188075855872 + e)
   pub small : X < 288230376151711744 → a ^ (2 ^ i) * 4294967296 ≤ b ^ (2 ^ i) * 1073741825
 
 double : (a i : ℕ) → a ^ (2 ^ suc i) ≡ a ^ (2 ^ i) * a ^ (2 ^ i)
@@ -83,7 +92,8 @@ step a b i X I l s =
     record {
       low = rw (double a i, double b i) (low-step A B X Y q (lit< tt) (f .0) (s .low));
       high = λ k g eg. rw (double a i, double b i)
-          (subst (λ (n : ℕ). A * A * q * t ≤ Y * (B * B) * (t + n)) (next e g ee eg) (high-step A B X Y q t e (lit< tt) (lit< tt) up k e2 (omega arith) h));
+          (subst (λ (n : ℕ). A * A * q * t ≤ Y * (B * B) * (t + n)) (next e g ee eg)
+          (high-step A B X Y q t e (lit< tt) (lit< tt) up k e2 (omega arith) h));
       small = λ k. rw (double a i, double b i) (last A B Y e k e1 (wide A B X Y q t e (lit< tt) up h));
     }
   where
@@ -93,21 +103,27 @@ step a b i X I l s =
     next : (e g : ℕ) → e + 1 ≡ 2 ^ i → g + 1 ≡ 2 ^ suc i → 2 * e + 1 ≡ g
     next e g p r = omega (arith, two-pow-succ i)
 
-    last : (A B Y e : ℕ) → Y < 288230376151711744 → e ≤ 16777216 → A * A * 1152921504606846976 * (144115188075855872 * 144115188075855872) ≤ (Y + 1) * (B * B) * ((144115188075855872 + e) * (144115188075855872 + e))
+    last : (A B Y e : ℕ) → Y < 288230376151711744 → e ≤ 16777216
+        → A * A * 1152921504606846976 * (144115188075855872 * 144115188075855872) ≤ (Y + 1) * (B * B)
+        * ((144115188075855872 + e) * (144115188075855872 + e))
         → A * A * 4294967296 ≤ B * B * 1073741825
     last A B Y e k l h =
         let y : Y + 1 ≤ 288230376151711744 = omega arith in
         let t1 : 144115188075855872 + e ≤ 144115188092633088 = omega arith in
-        let m : (Y + 1) * (B * B) * ((144115188075855872 + e) * (144115188075855872 + e)) ≤ 288230376151711744 * (B * B) * (144115188092633088 * 144115188092633088) = mul-le-mul (mul-le-mul-right (B * B) y) (mul-le-mul t1 t1) in
+        let m : (Y + 1) * (B * B) * ((144115188075855872 + e) * (144115188075855872 + e)) ≤ 288230376151711744 * (B * B)
+        * (144115188092633088 * 144115188092633088) = mul-le-mul (mul-le-mul-right (B * B) y) (mul-le-mul t1 t1) in
         finish (A * A) (B * B) (le-trans h m)
       where
-        finish : (x y : ℕ) → x * 1152921504606846976 * (144115188075855872 * 144115188075855872) ≤ 288230376151711744 * y * (144115188092633088 * 144115188092633088) → x * 4294967296 ≤ y * 1073741825
+        finish : (x y : ℕ) → x * 1152921504606846976 * (144115188075855872 * 144115188075855872) ≤ 288230376151711744
+            * y * (144115188092633088 * 144115188092633088) → x * 4294967296 ≤ y * 1073741825
         finish x y h =
             le-of-mul-le-mul-right {k = 2 ^ 142}
             (le-trans (le-of-eq (mul-assoc x 4294967296 (2 ^ 142)))
             (le-trans (le-of-eq (sym (mul-assoc x 1152921504606846976 (144115188075855872 * 144115188075855872))))
             (le-trans h
-            (le-trans (le-of-eq (ap (λ (z : ℕ). z * (144115188092633088 * 144115188092633088)) (mul-comm 288230376151711744 y) ∙ mul-assoc y 288230376151711744 (144115188092633088 * 144115188092633088)))
+            (le-trans (le-of-eq (ap (λ (z : ℕ). z * (144115188092633088 * 144115188092633088))
+            (mul-comm 288230376151711744 y) ∙ mul-assoc y 288230376151711744
+            (144115188092633088 * 144115188092633088)))
             (le-trans (mul-le-mul-left y (lit≤ tt)) (le-of-eq (sym (mul-assoc y 1073741825 (2 ^ 142)))))))))
             (pow-pos 142)
 
@@ -115,7 +131,8 @@ step a b i X I l s =
 pub data Result (a b n X : ℕ) : Type 0 where
   kept : 288230376151711744 ≤ X → X < 4611686018427387904 → State a b n X → Result a b n X
   above : 4611686018427387904 ≤ X → (j : ℕ) → j ≤ n → 4 * b ^ (2 ^ j) ≤ a ^ (2 ^ j) → Result a b n X
-  below : X < 288230376151711744 → (j : ℕ) → j ≤ n → a ^ (2 ^ j) * 4294967296 ≤ b ^ (2 ^ j) * 1073741825 → Result a b n X
+  below : X < 288230376151711744 → (j : ℕ) → j ≤ n → a ^ (2 ^ j) * 4294967296 ≤ b ^ (2 ^ j) * 1073741825
+      → Result a b n X
 
 pub squares-zero : (X : ℕ) → squares 0 X ≡ X
 unfolding squares
@@ -129,7 +146,8 @@ pub squares-high : (k X : ℕ) → 4611686018427387904 ≤ X → squares (suc k)
 unfolding squares
 squares-high k X h = simp (le-ltb X 288230376151711744 (le-trans (lit≤ tt) h), le-ltb X 4611686018427387904 h)
 
-pub squares-mid : (k X : ℕ) → 288230376151711744 ≤ X → X < 4611686018427387904 → squares (suc k) X ≡ squares k (X * X / 1152921504606846976)
+pub squares-mid : (k X : ℕ) → 288230376151711744 ≤ X → X < 4611686018427387904
+    → squares (suc k) X ≡ squares k (X * X / 1152921504606846976)
 unfolding squares
 squares-mid k X h l = simp (le-ltb X 288230376151711744 h, lt-ltb X 4611686018427387904 l)
 
@@ -142,20 +160,27 @@ four a b i X s h = last (a ^ (2 ^ i)) (b ^ (2 ^ i)) (le-trans (mul-le-mul-right 
 pub run : (a b k i X : ℕ) → i + k ≤ 25 → State a b i X → Result a b (i + k) (squares k X)
 run a b zero i X I s = go (lt-or-ge X 288230376151711744) (lt-or-ge X 4611686018427387904)
   where
-    go : (X < 288230376151711744) ⊎ (288230376151711744 ≤ X) → (X < 4611686018427387904) ⊎ (4611686018427387904 ≤ X) → Result a b (i + 0) (squares 0 X)
+    go : (X < 288230376151711744) ⊎ (288230376151711744 ≤ X) → (X < 4611686018427387904) ⊎ (4611686018427387904 ≤ X)
+        → Result a b (i + 0) (squares 0 X)
     go (inl l) _ = rw (squares-zero X) (below l i (omega arith) (s .small l))
     go (inr l) (inr h) = rw (squares-zero X) (above h i (omega arith) (four a b i X s h))
     go (inr l) (inl h) = rw (squares-zero X, add-zero i) (kept l h s)
-run a b (suc k) i X I s = go (lt-or-ge X 288230376151711744) (lt-or-ge X 4611686018427387904) (λ st. run a b k (suc i) (X * X / 1152921504606846976) (omega arith) st)
+run a b (suc k) i X I s =
+    go (lt-or-ge X 288230376151711744) (lt-or-ge X 4611686018427387904)
+    (λ st. run a b k (suc i) (X * X / 1152921504606846976) (omega arith) st)
   where
     turn : (i k : ℕ) → suc i + k ≡ i + suc k
     turn i k = omega arith
 
     go : (X < 288230376151711744) ⊎ (288230376151711744 ≤ X) → (X < 4611686018427387904) ⊎ (4611686018427387904 ≤ X)
-        → (State a b (suc i) (X * X / 1152921504606846976) → Result a b (suc i + k) (squares k (X * X / 1152921504606846976))) → Result a b (i + suc k) (squares (suc k) X)
+        → (State a b (suc i) (X * X / 1152921504606846976)
+        → Result a b (suc i + k) (squares k (X * X / 1152921504606846976)))
+        → Result a b (i + suc k) (squares (suc k) X)
     go (inl l) _ more = rw (squares-low k X l) (below l i (omega arith) (s .small l))
     go (inr l) (inr h) more = rw (squares-high k X h) (above h i (omega arith) (four a b i X s h))
-    go (inr l) (inl h) more = rw (squares-mid k X l h) (subst (λ (n : ℕ). Result a b n (squares k (X * X / 1152921504606846976))) (turn i k) (more (step a b i X (omega arith) l s)))
+    go (inr l) (inl h) more =
+        rw (squares-mid k X l h) (subst (λ (n : ℕ). Result a b n (squares k (X * X / 1152921504606846976))) (turn i k)
+        (more (step a b i X (omega arith) l s)))
 
 -- ---- for the code: the square in 64 bits, and one square at a time
 pub record SquareFits (h l x : ℕ) : Type 0 where
@@ -168,9 +193,17 @@ pub square-is : (x : ℕ) → x < 4611686018427387904 → SquareFits (x / 214748
 square-is x X = go (x / 2147483648) (x % 2147483648) (omega arith) (omega arith) (omega arith)
   where
     go : (h l : ℕ) → h ≤ 2147483647 → l ≤ 2147483647 → x ≡ h * 2147483648 + l → SquareFits h l x
-    go h l a b e = record { first = mul-le-mul a a; middle = mul-le-mul a b; last = mul-le-mul b b; is = rw e (parts (h * h) (h * l) (l * l) ((h * 2147483648 + l) * (h * 2147483648 + l)) (omega arith)) }
+    go h l a b e =
+        record {
+          first = mul-le-mul a a;
+          middle = mul-le-mul a b;
+          last = mul-le-mul b b;
+          is = rw e
+              (parts (h * h) (h * l) (l * l) ((h * 2147483648 + l) * (h * 2147483648 + l)) (omega arith));
+        }
       where
-        parts : (p q r s : ℕ) → s ≡ p * 4611686018427387904 + q * 4294967296 + r → p * 4 + (q + r / 4294967296) / 268435456 ≡ s / 1152921504606846976
+        parts : (p q r s : ℕ) → s ≡ p * 4611686018427387904 + q * 4294967296 + r
+            → p * 4 + (q + r / 4294967296) / 268435456 ≡ s / 1152921504606846976
         parts p q r s e = omega arith
 
 stay-low : (k X : ℕ) → X < 288230376151711744 → squares k X ≡ X
@@ -184,7 +217,9 @@ stay-high (suc k) X h = squares-high k X h
 pub one-more : (k X : ℕ) → squares (suc k) X ≡ squares k (squares 1 X)
 one-more k X = go (lt-or-ge X 288230376151711744) (lt-or-ge X 4611686018427387904)
   where
-    go : (X < 288230376151711744) ⊎ (288230376151711744 ≤ X) → (X < 4611686018427387904) ⊎ (4611686018427387904 ≤ X) → squares (suc k) X ≡ squares k (squares 1 X)
+    go : (X < 288230376151711744) ⊎ (288230376151711744 ≤ X) → (X < 4611686018427387904) ⊎ (4611686018427387904 ≤ X)
+        → squares (suc k) X ≡ squares k (squares 1 X)
     go (inl l) _ = squares-low k X l ∙ sym (ap (squares k) (squares-low 0 X l) ∙ stay-low k X l)
     go (inr l) (inr h) = squares-high k X h ∙ sym (ap (squares k) (squares-high 0 X h) ∙ stay-high k X h)
-    go (inr l) (inl h) = squares-mid k X l h ∙ sym (ap (squares k) (squares-mid 0 X l h ∙ squares-zero (X * X / 1152921504606846976)))
+    go (inr l) (inl h) =
+        squares-mid k X l h ∙ sym (ap (squares k) (squares-mid 0 X l h ∙ squares-zero (X * X / 1152921504606846976)))

@@ -14,8 +14,11 @@ use Rattle.elementary.specs.Power.{normalized, exp2Bits, fineLog2At, fin
 use Rattle.elementary.proofs.large.Log.{Top, top, fine-is, w-lt}
 
 -- the leading zeros of a number from 2^58 to 2^62
-pub zeros : (x : ℕ) → 288230376151711744 ≤ x → x < 4611686018427387904 → (2 ≤ leadingZeros 64 x) × (leadingZeros 64 x ≤ 5)
-zeros x lo hi = go (leadingZeros 64 x) (top x (omega arith) (omega arith)) (lt-or-ge (leadingZeros 64 x) 2) (lt-or-ge 5 (leadingZeros 64 x))
+pub zeros : (x : ℕ) → 288230376151711744 ≤ x → x < 4611686018427387904
+    → (2 ≤ leadingZeros 64 x) × (leadingZeros 64 x ≤ 5)
+zeros x lo hi =
+    go (leadingZeros 64 x) (top x (omega arith) (omega arith)) (lt-or-ge (leadingZeros 64 x) 2)
+    (lt-or-ge 5 (leadingZeros 64 x))
   where
     go : (z : ℕ) → Top x z → (z < 2) ⊎ (2 ≤ z) → (5 < z) ⊎ (z ≤ 5) → (2 ≤ z) × (z ≤ 5)
     go z t (inr a) (inr b) = (a, b)
@@ -28,7 +31,8 @@ zeros x lo hi = go (leadingZeros 64 x) (top x (omega arith) (omega arith)) (lt-o
         no : (p : ℕ) → 64 ≤ p → x * p < 18446744073709551616 → ⊥
         no p h k = omega (arith, mul-le-mul-left x h)
 
-pub fine-tight : (x : ℕ) → 288230376151711744 ≤ x → x < 4611686018427387904 → (5394478923776 ≤ fineLog2 x) × (fineLog2 x ≤ 5531917877256)
+pub fine-tight : (x : ℕ) → 288230376151711744 ≤ x → x < 4611686018427387904
+    → (5394478923776 ≤ fineLog2 x) × (fineLog2 x ≤ 5531917877256)
 fine-tight x lo hi =
     let X : 0 < x = omega arith in
     let h : x < 18446744073709551616 = omega arith in
@@ -38,9 +42,13 @@ fine-tight x lo hi =
 pub product-le : (c g : ℕ) → g ≤ 68719476744 → (c % 8388608 + 8388608) * g ≤ 1152921504741064704
 product-le c g h = le-trans (mul-le-mul {n₂ = 16777216} {m₂ = 68719476744} (omega arith) h) (lit≤ tt)
 
-pub fine-from : (x y f : ℕ) → y ≡ x * 2 ^ leadingZeros 64 x → f ≡ fineLog2At (y / 268435456 / 67108864 - 512) (y / 268435456 % 67108864) → (162 - leadingZeros 64 x) * 34359738368 + (f + (y / 268435456 / 67108864 - 512) * 67108864) ≡ fineLog2 x
-fine-from x y f e g = ap (λ (z : ℕ). (162 - leadingZeros 64 x) * 34359738368 + (z + (y / 268435456 / 67108864 - 512) * 67108864)) g
-    ∙ ap (λ (v : ℕ). (162 - leadingZeros 64 x) * 34359738368 + (fineLog2At (v / 268435456 / 67108864 - 512) (v / 268435456 % 67108864) + (v / 268435456 / 67108864 - 512) * 67108864)) e ∙ sym (fine-is x)
+pub fine-from : (x y f : ℕ) → y ≡ x * 2 ^ leadingZeros 64 x
+    → f ≡ fineLog2At (y / 268435456 / 67108864 - 512) (y / 268435456 % 67108864)
+    → (162 - leadingZeros 64 x) * 34359738368 + (f + (y / 268435456 / 67108864 - 512) * 67108864) ≡ fineLog2 x
+fine-from x y f e g =
+    ap (λ (z : ℕ). (162 - leadingZeros 64 x) * 34359738368 + (z + (y / 268435456 / 67108864 - 512) * 67108864)) g
+    ∙ ap (λ (v : ℕ). (162 - leadingZeros 64 x) * 34359738368 + (fineLog2At (v / 268435456 / 67108864 - 512)
+    (v / 268435456 % 67108864) + (v / 268435456 / 67108864 - 512) * 67108864)) e ∙ sym (fine-is x)
 
 pub yes : (c u v : ℕ) → c < 2147483648 → cond (ltb c 2147483648) u v ≡ u
 yes c u v h = simp (lt-ltb c 2147483648 h)

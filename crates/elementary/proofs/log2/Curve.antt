@@ -31,22 +31,35 @@ module _ (t D : ℕ) (small : t * 512 ≤ D) (D-pos : 0 < D) where
     q-pos = mul-pos (lit< tt) (mul-pos D-pos D-pos)
 
     -- E 3 ≤ 1 + 2^-10
-    le-3 : 206158430208 * (D * D) * (1073741824 * (D * D) * 4) + p * (2 * (206158430208 * (D * D))) ≤ 206359756800 * (D * D) * (1073741824 * (D * D) * 4)
+    le-3 : 206158430208 * (D * D) * (1073741824 * (D * D) * 4) + p * (2 * (206158430208 * (D * D))) ≤ 206359756800
+        * (D * D) * (1073741824 * (D * D) * 4)
     le-3 = omega (arith, mul-le-mul-right (D * D) p-le, t-1)
 
     -- E 2 ≤ 1 + d / 3 (1 + 2^-10)
-    le-2 : 206158430208 * (D * D) * (1073741824 * (D * D) * 3) + p * (206359756800 * (D * D)) ≤ (206158430208 * (D * D) + 68786585600 * (t * D)) * (1073741824 * (D * D) * 3)
+    le-2 : 206158430208 * (D * D) * (1073741824 * (D * D) * 3) + p * (206359756800 * (D * D))
+        ≤ (206158430208 * (D * D) + 68786585600 * (t * D)) * (1073741824 * (D * D) * 3)
     le-2 = omega (arith, mul-le-mul-right (D * D) p-le)
 
     -- E 1 ≤ 1 + d / 2 - 127 / 1536 d^2
     le-1 : (g : ℕ) → g + 254 * (t * t) ≡ 3072 * (D * D) + 1536 * (t * D)
-        → 206158430208 * (D * D) * (1073741824 * (D * D) * 2) + p * (206158430208 * (D * D) + 68786585600 * (t * D)) ≤ 67108864 * g * (1073741824 * (D * D) * 2)
-    le-1 g eg = omega (arith, ap (λ (z : ℕ). z * (D * D)) ep, ap (λ (z : ℕ). z * (t * D)) ep, ap (λ (z : ℕ). z * (D * D)) eg)
+        → 206158430208 * (D * D) * (1073741824 * (D * D) * 2) + p * (206158430208 * (D * D) + 68786585600 * (t * D))
+        ≤ 67108864 * g * (1073741824 * (D * D) * 2)
+    le-1 g eg =
+        omega (arith, ap (λ (z : ℕ). z * (D * D)) ep, ap (λ (z : ℕ). z * (t * D)) ep, ap (λ (z : ℕ). z * (D * D)) eg)
 
     -- E 0, times 2^-26: the square t (2^11 t - 3 D)^2 takes up the quadratic's part
     le-0-is : (g : ℕ) → g + 254 * (t * t) ≡ 3072 * (D * D) + 1536 * (t * D)
-        → p * g + 1095753336320 * (t * t * t * D) + 2359296 * (t * (D * D * D)) ≡ 3298534883328 * (t * (D * D * D)) + 3220045824 * (t * t * (D * D)) + 136098873344 * (t * t * t * t)
-    le-0-is g eg = omega (arith, ap (λ (z : ℕ). z * (D * D)) ep, ap (λ (z : ℕ). z * (t * D)) ep, ap (λ (z : ℕ). z * (t * t)) ep, ap (λ (z : ℕ). p * z) eg)
+        → p * g + 1095753336320 * (t * t * t * D) + 2359296 * (t * (D * D * D)) ≡ 3298534883328 * (t * (D * D * D))
+        + 3220045824 * (t * t * (D * D)) + 136098873344 * (t * t * t * t)
+    le-0-is g eg =
+        omega (
+          arith,
+          ap (λ (z : ℕ). z * (D * D)) ep,
+          ap (λ (z : ℕ). z * (t * D)) ep,
+          ap (λ (z : ℕ). z * (t * t)) ep,
+          ap
+              (λ (z : ℕ). p * z) eg,
+        )
 
     le-0-square : 3220045824 * (t * t * (D * D)) ≤ 1099511627776 * (t * t * t * D) + 2359296 * (t * (D * D * D))
     le-0-square = omega (arith, mul-le-mul-left (t * D) (square (2048 * t) (3 * D)))
@@ -58,10 +71,13 @@ module _ (t D : ℕ) (small : t * 512 ≤ D) (D-pos : 0 < D) where
     le-0-fourth = omega (arith, t-4)
 
     le-0 : (g : ℕ) → g + 254 * (t * t) ≡ 3072 * (D * D) + 1536 * (t * D)
-        → 206158430208 * (D * D) * (1073741824 * (D * D) * 1) + p * (67108864 * g) ≤ (206158430208 * (D * D) + 206158430208 * (t * D) + 3 * (D * D)) * (1073741824 * (D * D) * 1)
+        → 206158430208 * (D * D) * (1073741824 * (D * D) * 1) + p * (67108864 * g)
+        ≤ (206158430208 * (D * D) + 206158430208 * (t * D) + 3 * (D * D)) * (1073741824 * (D * D) * 1)
     le-0 g eg =
         let h : p * g ≤ 3298534883328 * (t * (D * D * D)) + 36 * (D * D * D * D) =
-        sums (p * g) (3220045824 * (t * t * (D * D))) (1095753336320 * (t * t * t * D)) (136098873344 * (t * t * t * t)) (1099511627776 * (t * t * t * D)) (D * D * D * D) (2359296 * (t * (D * D * D))) (3298534883328 * (t * (D * D * D))) (le-0-is g eg) le-0-square le-0-cube le-0-fourth in
+        sums (p * g) (3220045824 * (t * t * (D * D))) (1095753336320 * (t * t * t * D)) (136098873344 * (t * t * t * t))
+        (1099511627776 * (t * t * t * D)) (D * D * D * D) (2359296 * (t * (D * D * D)))
+        (3298534883328 * (t * (D * D * D))) (le-0-is g eg) le-0-square le-0-cube le-0-fourth in
         omega (arith, mul-le-mul-left 67108864 h)
       where
         sums : (x u v w y a k l : ℕ) → x + v + k ≡ l + u + w → u ≤ y + k → y ≤ v + 32 * a → w ≤ 4 * a → x ≤ l + 36 * a
@@ -74,7 +90,8 @@ module _ (t D : ℕ) (small : t * 512 ≤ D) (D-pos : 0 < D) where
         let g = 3072 * (D * D) + 1536 * (t * D) - 254 * (t * t) in
         let tt-le : t * t * 512 ≤ t * D = omega (arith, mul-le-mul-left t small) in
         let eg : g + 254 * (t * t) ≡ 3072 * (D * D) + 1536 * (t * D) = omega arith in
-        le-weaken p q (f + 206158430208 * (t * D) + 3 * (D * D)) f (68719476736 * (D + t) + D) (68719476736 * D) (mul-pos (lit< tt) (mul-pos D-pos D-pos)) (omega arith)
+        le-weaken p q (f + 206158430208 * (t * D) + 3 * (D * D)) f (68719476736 * (D + t) + D) (68719476736 * D)
+        (mul-pos (lit< tt) (mul-pos D-pos D-pos)) (omega arith)
         (le-tail p q (f + 206158430208 * (t * D) + 3 * (D * D)) f
         (tail-le 0 p q f (67108864 * g) (f + 206158430208 * (t * D) + 3 * (D * D)) q-pos (le-0 g eg)
         (tail-le 1 p q f (f + 68786585600 * (t * D)) (67108864 * g) q-pos (le-1 g eg)
@@ -94,57 +111,82 @@ module _ (t D : ℕ) (small : t * 512 ≤ D) (D-pos : 0 < D) where
     p-ge = omega (arith, tt-le)
 
     -- E 2 ≥ 1 + 511 / 1536 d
-    ge-2 : (12884901888 * (D * D) + 4286578688 * (t * D)) * (1073741824 * (D * D) * 3) ≤ 12884901888 * (D * D) * (1073741824 * (D * D) * 3) + p * (12884901888 * (D * D))
+    ge-2 : (12884901888 * (D * D) + 4286578688 * (t * D)) * (1073741824 * (D * D) * 3) ≤ 12884901888 * (D * D)
+        * (1073741824 * (D * D) * 3) + p * (12884901888 * (D * D))
     ge-2 = omega (arith, mul-le-mul-right (D * D) p-ge)
 
     -- E 1 ≥ 1 + (1 - 769 / 2^30) d / 2 - d^2 / 12
     ge-1-bend : 273805214207 * (t * t * t * D) ≤ 536476417 * (t * t * (D * D))
     ge-1-bend = omega (arith, mul-le-mul-right (t * D) tt-le)
 
-    ge-1-is : (g : ℕ) → g + 1073741824 * (t * t) ≡ 12884901888 * (D * D) + 6442446330 * (t * D) → 256 * (g * (D * D)) ≤ 3298534883328 * (D * D * D * D) + p * (1536 * (D * D) + 511 * (t * D))
+    ge-1-is : (g : ℕ) → g + 1073741824 * (t * t) ≡ 12884901888 * (D * D) + 6442446330 * (t * D)
+        → 256 * (g * (D * D)) ≤ 3298534883328 * (D * D * D * D) + p * (1536 * (D * D) + 511 * (t * D))
     ge-1-is g eg =
         let h : 256 * (g * (D * D)) ≤ 3298534883328 * (D * D * D * D) + (1536 * (p * (D * D)) + 511 * (p * (t * D))) =
         go (g * (D * D)) (p * (D * D)) (p * (t * D)) (D * D * D * D) (t * (D * D * D)) (t * t * (D * D)) (t * t * t * D)
-        (omega (arith, ap (λ (z : ℕ). z * (D * D)) eg)) (omega (arith, ap (λ (z : ℕ). z * (D * D)) ep)) (omega (arith, ap (λ (z : ℕ). z * (t * D)) ep)) ge-1-bend in
+        (omega (arith, ap (λ (z : ℕ). z * (D * D)) eg)) (omega (arith, ap (λ (z : ℕ). z * (D * D)) ep))
+        (omega (arith, ap (λ (z : ℕ). z * (t * D)) ep)) ge-1-bend in
         omega arith
       where
-        go : (G P R a b c d : ℕ) → G + 1073741824 * c ≡ 12884901888 * a + 6442446330 * b → P + 535822337 * c ≡ 1073741055 * b → R + 535822337 * d ≡ 1073741055 * c → 273805214207 * d ≤ 536476417 * c
+        go : (G P R a b c d : ℕ) → G + 1073741824 * c ≡ 12884901888 * a + 6442446330 * b
+            → P + 535822337 * c ≡ 1073741055 * b → R + 535822337 * d ≡ 1073741055 * c → 273805214207 * d ≤ 536476417 * c
             → 256 * G ≤ 3298534883328 * a + (1536 * P + 511 * R)
         go G P R a b c d e1 e2 e3 h = omega arith
 
     ge-1 : (g : ℕ) → g + 1073741824 * (t * t) ≡ 12884901888 * (D * D) + 6442446330 * (t * D)
-        → g * (1073741824 * (D * D) * 2) ≤ 12884901888 * (D * D) * (1073741824 * (D * D) * 2) + p * (12884901888 * (D * D) + 4286578688 * (t * D))
+        → g * (1073741824 * (D * D) * 2) ≤ 12884901888 * (D * D) * (1073741824 * (D * D) * 2) + p
+        * (12884901888 * (D * D) + 4286578688 * (t * D))
     ge-1 g eg = omega (arith, mul-le-mul-left 8388608 (ge-1-is g eg))
 
     ge-0-is : (g : ℕ) → g + 1073741824 * (t * t) ≡ 12884901888 * (D * D) + 6442446330 * (t * D)
-        → p * g + 4604927327437057530 * (t * t * t * D) ≡ 13835048146792611840 * (t * (D * D * D)) + 13500877511205894 * (t * t * (D * D)) + 575334853470322688 * (t * t * t * t)
-    ge-0-is g eg = omega (arith, ap (λ (z : ℕ). z * (D * D)) ep, ap (λ (z : ℕ). z * (t * D)) ep, ap (λ (z : ℕ). z * (t * t)) ep, ap (λ (z : ℕ). p * z) eg)
+        → p * g + 4604927327437057530 * (t * t * t * D) ≡ 13835048146792611840 * (t * (D * D * D)) + 13500877511205894
+        * (t * t * (D * D)) + 575334853470322688 * (t * t * t * t)
+    ge-0-is g eg =
+        omega (
+          arith,
+          ap (λ (z : ℕ). z * (D * D)) ep,
+          ap (λ (z : ℕ). z * (t * D)) ep,
+          ap (λ (z : ℕ). z * (t * t)) ep,
+          ap
+              (λ (z : ℕ). p * z) eg,
+        )
 
     -- the largest value of t (2^11 t - 3 D)^2 is 4 D^3 / 2^11
-    ge-0-cube : 4611686018427387904 * (t * t * t * D) + 9895604649984 * (t * (D * D * D)) ≤ 13510798882111488 * (t * t * (D * D)) + 2147483648 * (D * D * D * D)
+    ge-0-cube : 4611686018427387904 * (t * t * t * D) + 9895604649984 * (t * (D * D * D)) ≤ 13510798882111488
+        * (t * t * (D * D)) + 2147483648 * (D * D * D * D)
     ge-0-cube = omega (arith, mul-le-mul-left (D * 536870912) (cube-high (2048 * t) D (omega arith)))
 
     ge-0-first : 9908489551872 * (t * (D * D * D)) ≤ 9895604649984 * (t * (D * D * D)) + 67108864 * (D * D * D * D)
     ge-0-first = omega (arith, t-1)
 
-    ge-0-second : 13510798882111488 * (t * t * (D * D)) ≤ 13500877511205894 * (t * t * (D * D)) + 67108864 * (D * D * D * D)
+    ge-0-second : 13510798882111488 * (t * t * (D * D)) ≤ 13500877511205894 * (t * t * (D * D)) + 67108864
+        * (D * D * D * D)
     ge-0-second = omega (arith, t-2)
 
-    ge-0 : (g k : ℕ) → g + 1073741824 * (t * t) ≡ 12884901888 * (D * D) + 6442446330 * (t * D) → k + 3 * (D * D) ≡ 12884901888 * (D * D) + 12884901888 * (t * D)
+    ge-0 : (g k : ℕ) → g + 1073741824 * (t * t) ≡ 12884901888 * (D * D) + 6442446330 * (t * D)
+        → k + 3 * (D * D) ≡ 12884901888 * (D * D) + 12884901888 * (t * D)
         → k * (1073741824 * (D * D) * 1) ≤ 12884901888 * (D * D) * (1073741824 * (D * D) * 1) + p * g
     ge-0 g k eg ek =
         let h : 13835058055282163712 * (t * (D * D * D)) ≤ p * g + 2281701376 * (D * D * D * D) =
-        sums (p * g) (D * D * D * D) (4604927327437057530 * (t * t * t * D)) (4611686018427387904 * (t * t * t * D)) (13500877511205894 * (t * t * (D * D))) (13510798882111488 * (t * t * (D * D))) (575334853470322688 * (t * t * t * t)) (9895604649984 * (t * (D * D * D))) (9908489551872 * (t * (D * D * D))) (13835048146792611840 * (t * (D * D * D))) (13835058055282163712 * (t * (D * D * D)))
+        sums (p * g) (D * D * D * D) (4604927327437057530 * (t * t * t * D)) (4611686018427387904 * (t * t * t * D))
+        (13500877511205894 * (t * t * (D * D))) (13510798882111488 * (t * t * (D * D)))
+        (575334853470322688 * (t * t * t * t)) (9895604649984 * (t * (D * D * D)))
+        (9908489551872 * (t * (D * D * D))) (13835048146792611840 * (t * (D * D * D)))
+        (13835058055282163712 * (t * (D * D * D)))
         (ge-0-is g eg) ge-0-cube (omega arith) ge-0-first ge-0-second (omega arith) in
-        let e : k * (D * D) + 3 * (D * D * D * D) ≡ 12884901888 * (D * D * D * D) + 12884901888 * (t * (D * D * D)) = omega (arith, ap (λ (z : ℕ). z * (D * D)) ek) in
-        let m : 1073741824 * (k * (D * D)) ≤ 13835058055282163712 * (D * D * D * D) + p * g = last (p * g) (D * D * D * D) (t * (D * D * D)) (k * (D * D)) h e in
+        let e : k * (D * D) + 3 * (D * D * D * D) ≡ 12884901888 * (D * D * D * D) + 12884901888 * (t * (D * D * D)) =
+        omega (arith, ap (λ (z : ℕ). z * (D * D)) ek) in
+        let m : 1073741824 * (k * (D * D)) ≤ 13835058055282163712 * (D * D * D * D) + p * g = last (p * g)
+        (D * D * D * D) (t * (D * D * D)) (k * (D * D)) h e in
         omega arith
       where
         -- x is p g, v and y are the cubes, u and u1 the squares, the others multiples of t D^3
-        sums : (x a v y u u1 w m n l o : ℕ) → x + v ≡ l + u + w → y + m ≤ u1 + 2147483648 * a → v ≤ y → n ≤ m + 67108864 * a → u1 ≤ u + 67108864 * a → l + n ≡ o → o ≤ x + 2281701376 * a
+        sums : (x a v y u u1 w m n l o : ℕ) → x + v ≡ l + u + w → y + m ≤ u1 + 2147483648 * a → v ≤ y
+            → n ≤ m + 67108864 * a → u1 ≤ u + 67108864 * a → l + n ≡ o → o ≤ x + 2281701376 * a
         sums x a v y u u1 w m n l o e h1 h2 h3 h4 h5 = omega arith
 
-        last : (x a b K : ℕ) → 13835058055282163712 * b ≤ x + 2281701376 * a → K + 3 * a ≡ 12884901888 * a + 12884901888 * b → 1073741824 * K ≤ 13835058055282163712 * a + x
+        last : (x a b K : ℕ) → 13835058055282163712 * b ≤ x + 2281701376 * a
+            → K + 3 * a ≡ 12884901888 * a + 12884901888 * b → 1073741824 * K ≤ 13835058055282163712 * a + x
         last x a b K h e = omega arith
 
     pub curve-ge : ExpGe p (1073741824 * (D * D)) (4294967296 * (D + t) - D) (4294967296 * D)
@@ -164,5 +206,6 @@ module _ (t D : ℕ) (small : t * 512 ≤ D) (D-pos : 0 < D) where
         (tail-ge 2 p q f f (f + 4286578688 * (t * D)) ge-2
         (tail-ge-one 3 p q f)))))
       where
-        last : (k c : ℕ) → k + 3 * (D * D) ≡ 12884901888 * (D * D) + 12884901888 * (t * D) → c + D ≡ 4294967296 * (D + t) → c * (12884901888 * (D * D)) ≤ k * (4294967296 * D)
+        last : (k c : ℕ) → k + 3 * (D * D) ≡ 12884901888 * (D * D) + 12884901888 * (t * D)
+            → c + D ≡ 4294967296 * (D + t) → c * (12884901888 * (D * D)) ≤ k * (4294967296 * D)
         last k c ek ec = omega (arith, ap (λ (z : ℕ). z * D) ek, ap (λ (z : ℕ). z * (D * D)) ec)

@@ -15,7 +15,8 @@ use Rattle.elementary.proofs.log2.Line.{line-below, line-above}
 use Rattle.elementary.proofs.log2.Law.{floor, B-is, C-is, B-lt, B-gt, C-lt}
 
 -- ---- with the table: t below 2^26
-module _ (i t n D q : ℕ) (I : i < 512) (Small : t < 67108864) (en : n ≡ 512 + i) (eD : D ≡ n * 67108864) (lo : q * 16777216 ≤ t * t) (hi : t * t < (q + 1) * 16777216) where
+module _ (i t n D q : ℕ) (I : i < 512) (Small : t < 67108864) (en : n ≡ 512 + i) (eD : D ≡ n * 67108864)
+    (lo : q * 16777216 ≤ t * t) (hi : t * t < (q + 1) * 16777216) where
   D-pos : 0 < D
   D-pos = omega arith
 
@@ -28,7 +29,8 @@ module _ (i t n D q : ℕ) (I : i < 512) (Small : t < 67108864) (en : n ≡ 512 
   CI : (curvature i * (n * n) ≤ 395790452196) × (395790452196 < (curvature i + 1) * (n * n))
   CI = C-is i 0 n (n * 16384) I (lit< tt) en refl
 
-  below-start : (w : ℕ) → w + (curvature i + 1) * (q + 1) ≡ slope i * t * 64 → w * (D * D) + 395790452196 * 268435456 * (t * t) ≤ 49570588694 * 4294967296 * (t * D)
+  below-start : (w : ℕ) → w + (curvature i + 1) * (q + 1) ≡ slope i * t * 64
+      → w * (D * D) + 395790452196 * 268435456 * (t * t) ≤ 49570588694 * 4294967296 * (t * D)
   below-start w e = start (slope i) (curvature i) (BI .0) (CI .1) e
     where
       start : (B C : ℕ) → B * n ≤ 49570588694 → 395790452196 < (C + 1) * (n * n) → w + (C + 1) * (q + 1) ≡ B * t * 64
@@ -36,35 +38,44 @@ module _ (i t n D q : ℕ) (I : i < 512) (Small : t < 67108864) (en : n ≡ 512 
       start B C b c e =
           let x : B * D * (t * D) ≤ 49570588694 * 67108864 * (t * D) = mul-le-mul-right (t * D) (by-n B b eD) in
           let t1 : t * t ≤ (q + 1) * 16777216 = omega arith in
-          let y : 395790452196 * 4503599627370496 * (t * t) ≤ (C + 1) * (D * D) * ((q + 1) * 16777216) = mul-le-mul (by-nn C c eD) t1 in
-          last (w * (D * D)) (t * D * (B * D)) (t * D) (t * t) ((C + 1) * (D * D) * (q + 1)) (omega (arith, ap (λ (z : ℕ). z * (D * D)) e)) (omega arith) (omega arith)
+          let y : 395790452196 * 4503599627370496 * (t * t) ≤ (C + 1) * (D * D) * ((q + 1) * 16777216) = mul-le-mul
+          (by-nn C c eD) t1 in
+          last (w * (D * D)) (t * D * (B * D)) (t * D) (t * t) ((C + 1) * (D * D) * (q + 1))
+          (omega (arith, ap (λ (z : ℕ). z * (D * D)) e)) (omega arith) (omega arith)
         where
           by-n : (B : ℕ) → B * n ≤ 49570588694 → D ≡ n * 67108864 → B * D ≤ 49570588694 * 67108864
           by-n B b e = rw e (omega arith)
 
-          by-nn : (C : ℕ) → 395790452196 < (C + 1) * (n * n) → D ≡ n * 67108864 → 395790452196 * 4503599627370496 ≤ (C + 1) * (D * D)
+          by-nn : (C : ℕ) → 395790452196 < (C + 1) * (n * n) → D ≡ n * 67108864
+              → 395790452196 * 4503599627370496 ≤ (C + 1) * (D * D)
           by-nn C c e = rw e (omega arith)
 
-          last : (U x a b y : ℕ) → U + y ≡ 64 * x → x ≤ 49570588694 * 67108864 * a → 395790452196 * 268435456 * b ≤ y → U + 395790452196 * 268435456 * b ≤ 49570588694 * 4294967296 * a
+          last : (U x a b y : ℕ) → U + y ≡ 64 * x → x ≤ 49570588694 * 67108864 * a → 395790452196 * 268435456 * b ≤ y
+              → U + 395790452196 * 268435456 * b ≤ 49570588694 * 4294967296 * a
           last U x a b y e h k = omega arith
 
-  above-start : (w : ℕ) → w + curvature i * q ≡ (slope i + 1) * t * 64 → 49570588694 * 4294967296 * (t * D) ≤ w * (D * D) + 395790452196 * 268435456 * (t * t)
+  above-start : (w : ℕ) → w + curvature i * q ≡ (slope i + 1) * t * 64
+      → 49570588694 * 4294967296 * (t * D) ≤ w * (D * D) + 395790452196 * 268435456 * (t * t)
   above-start w e = start (slope i) (curvature i) (BI .1) (CI .0) e
     where
       start : (B C : ℕ) → 49570588694 < (B + 1) * n → C * (n * n) ≤ 395790452196 → w + C * q ≡ (B + 1) * t * 64
           → 49570588694 * 4294967296 * (t * D) ≤ w * (D * D) + 395790452196 * 268435456 * (t * t)
       start B C b c e =
           let x : 49570588694 * 67108864 * (t * D) ≤ (B + 1) * D * (t * D) = mul-le-mul-right (t * D) (by-n B b eD) in
-          let y : C * (D * D) * (q * 16777216) ≤ 395790452196 * 4503599627370496 * (t * t) = mul-le-mul (by-nn C c eD) lo in
-          last (w * (D * D)) (t * D * ((B + 1) * D)) (t * D) (t * t) (C * (D * D) * q) (omega (arith, ap (λ (z : ℕ). z * (D * D)) e)) (omega arith) (omega arith)
+          let y : C * (D * D) * (q * 16777216) ≤ 395790452196 * 4503599627370496 * (t * t) = mul-le-mul (by-nn C c eD)
+          lo in
+          last (w * (D * D)) (t * D * ((B + 1) * D)) (t * D) (t * t) (C * (D * D) * q)
+          (omega (arith, ap (λ (z : ℕ). z * (D * D)) e)) (omega arith) (omega arith)
         where
           by-n : (B : ℕ) → 49570588694 < (B + 1) * n → D ≡ n * 67108864 → 49570588694 * 67108864 ≤ (B + 1) * D
           by-n B b e = rw e (omega arith)
 
-          by-nn : (C : ℕ) → C * (n * n) ≤ 395790452196 → D ≡ n * 67108864 → C * (D * D) ≤ 395790452196 * 4503599627370496
+          by-nn : (C : ℕ) → C * (n * n) ≤ 395790452196 → D ≡ n * 67108864
+              → C * (D * D) ≤ 395790452196 * 4503599627370496
           by-nn C c e = rw e (omega arith)
 
-          last : (U x a b y : ℕ) → U + y ≡ 64 * x → 49570588694 * 67108864 * a ≤ x → y ≤ 395790452196 * 268435456 * b → 49570588694 * 4294967296 * a ≤ U + 395790452196 * 268435456 * b
+          last : (U x a b y : ℕ) → U + y ≡ 64 * x → 49570588694 * 67108864 * a ≤ x → y ≤ 395790452196 * 268435456 * b
+              → 49570588694 * 4294967296 * a ≤ U + 395790452196 * 268435456 * b
           last U x a b y e h k = omega arith
 
   q-le : q ≤ 268435456
@@ -78,7 +89,9 @@ module _ (i t n D q : ℕ) (I : i < 512) (Small : t < 67108864) (en : n ≡ 512 
 
   -- the curvature's part is the smaller, but at t = 0
   curvature-lt : 0 < t → (curvature i + 1) * (q + 1) ≤ slope i * t * 64
-  curvature-lt T = go (curvature i) (slope i) (C-lt i 0 n (n * 16384) I (lit< tt) en refl) (B-gt i 0 n (n * 16384) I (lit< tt) en refl)
+  curvature-lt T =
+      go (curvature i) (slope i) (C-lt i 0 n (n * 16384) I (lit< tt) en refl)
+      (B-gt i 0 n (n * 16384) I (lit< tt) en refl)
     where
       go : (C B : ℕ) → C < 2097152 → 48000000 < B → (C + 1) * (q + 1) ≤ B * t * 64
       go C B c b =
@@ -103,7 +116,8 @@ module _ (i t n D q : ℕ) (I : i < 512) (Small : t < 67108864) (en : n ≡ 512 
       go (inl h) = omega (arith, curvature-lt h)
       go (inr h) = rw (zero-q h) (omega arith)
 
-  below-w : (w : ℕ) → w ≡ slope i * t * 64 - (curvature i + 1) * (q + 1) → TwoLe (w - 3888119808) 147573952589676412928 (D + t) D
+  below-w : (w : ℕ) → w ≡ slope i * t * 64 - (curvature i + 1) * (q + 1)
+      → TwoLe (w - 3888119808) 147573952589676412928 (D + t) D
   below-w w e = line-below t D w small-t D-pos (go (lt-or-ge 0 t))
     where
       go : (0 < t) ⊎ (t ≤ 0) → w * (D * D) + 395790452196 * 268435456 * (t * t) ≤ 49570588694 * 4294967296 * (t * D)
@@ -113,7 +127,8 @@ module _ (i t n D q : ℕ) (I : i < 512) (Small : t < 67108864) (en : n ≡ 512 
           let w0 : w ≡ 0 = omega (arith, ap (λ (z : ℕ). slope i * z) t0) in
           rw (w0, t0) (omega arith)
 
-  fine-is : fineLog2At i t ≡ (height i * 4294967296 + slope i + slope i * t * 64 - curvature i * (t * t / 16777216)) / 4294967296
+  fine-is : fineLog2At i t ≡ (height i * 4294967296 + slope i + slope i * t * 64 - curvature
+      i * (t * t / 16777216)) / 4294967296
   unfolding fineLog2At
   fine-is = refl
 
@@ -125,14 +140,22 @@ module _ (i t n D q : ℕ) (I : i < 512) (Small : t < 67108864) (en : n ≡ 512 
       let A = height-rule i I in
       let w = slope i * t * 64 - (curvature i + 1) * (q + 1) in
       two-le-down 4294967296 (fineLog2At i t + i * 67108864 - 8) 34359738368 (D + t) 34359738368 (lit< tt)
-      (two-le-mono (4294967296 * (fineLog2At i t + i * 67108864 - 8)) (4294967296 * (height i - 7 + i * 67108864) + (w - 3888119808)) 147573952589676412928 (D + t) 34359738368
-      (sums (fineLog2At i t) (height i) (slope i) (curvature i) (fine-is ∙ ap (λ (z : ℕ). (height i * 4294967296 + slope i + slope i * t * 64 - curvature i * z) / 4294967296) q-is) (A .low) (B-lt i 0 n (n * 16384) I (lit< tt) en refl) (C-lt i 0 n (n * 16384) I (lit< tt) en refl) q-le)
-      (two-le-weaken (4294967296 * (height i - 7 + i * 67108864) + (w - 3888119808)) 147573952589676412928 ((512 + i) * (D + t)) (512 * D) (D + t) 34359738368 (mul-pos (lit< tt) D-pos) (omega (arith, ap (λ (z : ℕ). z * (D + t)) en, ap (λ (z : ℕ). z * (D + t)) eD))
-      (two-le-mul 147573952589676412928 (4294967296 * (height i - 7 + i * 67108864)) (w - 3888119808) (512 + i) 512 (D + t) D
+      (two-le-mono (4294967296 * (fineLog2At i t + i * 67108864 - 8))
+      (4294967296 * (height i - 7 + i * 67108864) + (w - 3888119808)) 147573952589676412928 (D + t) 34359738368
+      (sums (fineLog2At i t) (height i) (slope i) (curvature i)
+      (fine-is ∙ ap (λ (z : ℕ). (height i * 4294967296 + slope i + slope i * t * 64 - curvature i * z) / 4294967296)
+      q-is) (A .low) (B-lt i 0 n (n * 16384) I (lit< tt) en refl) (C-lt i 0 n (n * 16384) I (lit< tt) en refl) q-le)
+      (two-le-weaken (4294967296 * (height i - 7 + i * 67108864) + (w - 3888119808)) 147573952589676412928
+      ((512 + i) * (D + t)) (512 * D) (D + t) 34359738368 (mul-pos (lit< tt) D-pos)
+      (omega (arith, ap (λ (z : ℕ). z * (D + t)) en, ap (λ (z : ℕ). z * (D + t)) eD))
+      (two-le-mul 147573952589676412928 (4294967296 * (height i - 7 + i * 67108864)) (w - 3888119808) (512 + i) 512
+      (D + t) D
       (two-le-up 4294967296 (height i - 7 + i * 67108864) 34359738368 (512 + i) 512 (A .below)) (below-w w refl))))
     where
-      sums : (F A B C : ℕ) → F ≡ (A * 4294967296 + B + B * t * 64 - C * q) / 4294967296 → 7 ≤ A → B < 134217728 → C < 2097152 → q ≤ 268435456
-          → 4294967296 * (F + i * 67108864 - 8) ≤ 4294967296 * (A - 7 + i * 67108864) + (B * t * 64 - (C + 1) * (q + 1) - 3888119808)
+      sums : (F A B C : ℕ) → F ≡ (A * 4294967296 + B + B * t * 64 - C * q) / 4294967296 → 7 ≤ A → B < 134217728
+          → C < 2097152 → q ≤ 268435456
+          → 4294967296 * (F + i * 67108864 - 8) ≤ 4294967296 * (A - 7 + i * 67108864)
+          + (B * t * 64 - (C + 1) * (q + 1) - 3888119808)
       sums F A B C e l b c k = omega arith
 
   pub fine-above : TwoGe (fineLog2At i t + i * 67108864 + 8) 34359738368 (D + t) 34359738368
@@ -141,13 +164,21 @@ module _ (i t n D q : ℕ) (I : i < 512) (Small : t < 67108864) (en : n ≡ 512 
       let w = (slope i + 1) * t * 64 - curvature i * q in
       let ew : w + curvature i * q ≡ (slope i + 1) * t * 64 = omega (arith, curvature-le) in
       two-ge-down 4294967296 (fineLog2At i t + i * 67108864 + 8) 34359738368 (D + t) 34359738368 (lit< tt)
-      (two-ge-mono (4294967296 * (height i - 7 + i * 67108864 + 1) + (w + 51539607552)) (4294967296 * (fineLog2At i t + i * 67108864 + 8)) 147573952589676412928 (D + t) 34359738368
-      (sums (fineLog2At i t) (height i) (slope i) (curvature i) (fine-is ∙ ap (λ (z : ℕ). (height i * 4294967296 + slope i + slope i * t * 64 - curvature i * z) / 4294967296) q-is) (A .low) w ew)
-      (two-ge-weaken (4294967296 * (height i - 7 + i * 67108864 + 1) + (w + 51539607552)) 147573952589676412928 ((512 + i) * (D + t)) (512 * D) (D + t) 34359738368 (mul-pos (lit< tt) D-pos) (omega (arith, ap (λ (z : ℕ). z * (D + t)) en, ap (λ (z : ℕ). z * (D + t)) eD))
-      (two-ge-mul 147573952589676412928 (4294967296 * (height i - 7 + i * 67108864 + 1)) (w + 51539607552) (512 + i) 512 (D + t) D
-      (two-ge-up 4294967296 (height i - 7 + i * 67108864 + 1) 34359738368 (512 + i) 512 (A .above)) (line-above t D w small-t D-pos (above-start w ew)))))
+      (two-ge-mono (4294967296 * (height i - 7 + i * 67108864 + 1) + (w + 51539607552))
+      (4294967296 * (fineLog2At i t + i * 67108864 + 8)) 147573952589676412928 (D + t) 34359738368
+      (sums (fineLog2At i t) (height i) (slope i) (curvature i)
+      (fine-is ∙ ap (λ (z : ℕ). (height i * 4294967296 + slope i + slope i * t * 64 - curvature i * z) / 4294967296)
+      q-is) (A .low) w ew)
+      (two-ge-weaken (4294967296 * (height i - 7 + i * 67108864 + 1) + (w + 51539607552)) 147573952589676412928
+      ((512 + i) * (D + t)) (512 * D) (D + t) 34359738368 (mul-pos (lit< tt) D-pos)
+      (omega (arith, ap (λ (z : ℕ). z * (D + t)) en, ap (λ (z : ℕ). z * (D + t)) eD))
+      (two-ge-mul 147573952589676412928 (4294967296 * (height i - 7 + i * 67108864 + 1)) (w + 51539607552) (512 + i) 512
+      (D + t) D
+      (two-ge-up 4294967296 (height i - 7 + i * 67108864 + 1) 34359738368 (512 + i) 512 (A .above))
+      (line-above t D w small-t D-pos (above-start w ew)))))
     where
-      sums : (F A B C : ℕ) → F ≡ (A * 4294967296 + B + B * t * 64 - C * q) / 4294967296 → 7 ≤ A → (w : ℕ) → w + C * q ≡ (B + 1) * t * 64
+      sums : (F A B C : ℕ) → F ≡ (A * 4294967296 + B + B * t * 64 - C * q) / 4294967296 → 7 ≤ A → (w : ℕ)
+          → w + C * q ≡ (B + 1) * t * 64
           → 4294967296 * (A - 7 + i * 67108864 + 1) + (w + 51539607552) ≤ 4294967296 * (F + i * 67108864 + 8)
       sums F A B C e l w k = omega arith
 
@@ -168,10 +199,15 @@ pub fine-fits : (w e i t : ℕ) → i < 512 → t < 67108864 → w ≡ lineWord 
 fine-fits w e i t I X ew ee =
     let q = t * t / 16777216 in
     let f = floor (t * t) 16777216 (lit< tt) in
-    go (height i) (slope i) (curvature i) q (ew ∙ line-is i) ee (height-rule i I .high) (B-lt i 0 (512 + i) ((512 + i) * 16384) I (lit< tt) refl refl) (C-lt i 0 (512 + i) ((512 + i) * 16384) I (lit< tt) refl refl)
-    (curvature-le i t (512 + i) ((512 + i) * 67108864) q I X refl refl (f .0) (f .1)) (q-le i t (512 + i) ((512 + i) * 67108864) q I X refl refl (f .0) (f .1)) refl (fine-is i t (512 + i) ((512 + i) * 67108864) q I X refl refl (f .0) (f .1))
+    go (height i) (slope i) (curvature i) q (ew ∙ line-is i) ee (height-rule i I .high)
+    (B-lt i 0 (512 + i) ((512 + i) * 16384) I (lit< tt) refl refl)
+    (C-lt i 0 (512 + i) ((512 + i) * 16384) I (lit< tt) refl refl)
+    (curvature-le i t (512 + i) ((512 + i) * 67108864) q I X refl refl (f .0) (f .1))
+    (q-le i t (512 + i) ((512 + i) * 67108864) q I X refl refl (f .0) (f .1)) refl
+    (fine-is i t (512 + i) ((512 + i) * 67108864) q I X refl refl (f .0) (f .1))
   where
-    go : (A B C q : ℕ) → w ≡ A * 4294967296 + B → e ≡ C → A ≤ 3221225471 → B < 134217728 → C < 2097152 → C * q ≤ B * t * 64 → q ≤ 268435456 → t * t / 16777216 ≡ q
+    go : (A B C q : ℕ) → w ≡ A * 4294967296 + B → e ≡ C → A ≤ 3221225471 → B < 134217728 → C < 2097152
+        → C * q ≤ B * t * 64 → q ≤ 268435456 → t * t / 16777216 ≡ q
         → fineLog2At i t ≡ (A * 4294967296 + B + B * t * 64 - C * (t * t / 16777216)) / 4294967296 → FineFits w e i t
     go A B C q ew ee a b c h k eq d =
         let lower : w % 4294967296 ≡ B = omega arith in

@@ -1,5 +1,5 @@
--- The law of the logarithm: for the significand m = (512 + i) 2^14 + t, log2 (m / 2^23) is between log2At i t + i 2^23 - 1 and
--- log2At i t + i 2^23 + 2 in units of 2^-32.
+-- The law of the logarithm: for the significand m = (512 + i) 2^14 + t, log2 (m / 2^23) is between log2At i t + i 2^23
+-- - 1 and log2At i t + i 2^23 + 2 in units of 2^-32.
 use mathlib.Core.Path.{_≡_, refl, sym, ap, subst}
 use Prim.Native.Nat.{ℕ, _+_, _-_, _*_, _/_, _%_, _≤_, _<_}
 use native.Mathlib.Nat.{mul-pos, mul-le-mul, mul-le-mul-left, mul-le-mul-right, mod-lt, div-add-mod'}
@@ -75,20 +75,24 @@ module _ (i t n D : ℕ) (I : i < 512) (Small : t < 16384) (en : n ≡ 512 + i) 
 
   -- ---- from below
   -- the slope and the curvature: 2^((w - 3888119808) / 2^67) ≤ 1 + t / D
-  below : (w : ℕ) → w + (curvature i + 1) * (t * t) ≡ slope i * t * 262144 → TwoLe (w - 3888119808) 147573952589676412928 (D + t) D
+  below : (w : ℕ) → w + (curvature i + 1) * (t * t) ≡ slope i * t * 262144
+      → TwoLe (w - 3888119808) 147573952589676412928 (D + t) D
   below w ew = line-below t D w small-t D-pos (start (slope i) (curvature i) (B-is .0) (C-is .1) ew)
     where
-      start : (B C : ℕ) → B * n ≤ 49570588694 → 395790452196 < (C + 1) * (n * n) → w + (C + 1) * (t * t) ≡ B * t * 262144
+      start : (B C : ℕ) → B * n ≤ 49570588694 → 395790452196 < (C + 1) * (n * n)
+          → w + (C + 1) * (t * t) ≡ B * t * 262144
           → w * (D * D) + 395790452196 * 268435456 * (t * t) ≤ 49570588694 * 4294967296 * (t * D)
       start B C b c e =
           let x : B * D * (t * D) ≤ 49570588694 * 16384 * (t * D) = mul-le-mul-right (t * D) (by-n B b eD) in
-          let y : 395790452196 * 268435456 * (t * t) ≤ (C + 1) * (D * D) * (t * t) = mul-le-mul-right (t * t) (by-nn C c eD) in
+          let y : 395790452196 * 268435456 * (t * t) ≤ (C + 1) * (D * D) * (t * t) = mul-le-mul-right (t * t)
+          (by-nn C c eD) in
           omega (arith, ap (λ (z : ℕ). z * (D * D)) e)
         where
           by-n : (B : ℕ) → B * n ≤ 49570588694 → D ≡ n * 16384 → B * D ≤ 49570588694 * 16384
           by-n B b e = rw e (omega arith)
 
-          by-nn : (C : ℕ) → 395790452196 < (C + 1) * (n * n) → D ≡ n * 16384 → 395790452196 * 268435456 ≤ (C + 1) * (D * D)
+          by-nn : (C : ℕ) → 395790452196 < (C + 1) * (n * n) → D ≡ n * 16384
+              → 395790452196 * 268435456 ≤ (C + 1) * (D * D)
           by-nn C c e = rw e (omega arith)
 
   below-sums : (w : ℕ) → w + (curvature i + 1) * (t * t) ≡ slope i * t * 262144 → 7 ≤ height i
@@ -97,7 +101,8 @@ module _ (i t n D : ℕ) (I : i < 512) (Small : t < 16384) (en : n ≡ 512 + i) 
   below-sums w ew l = go (height i) (slope i) (curvature i) l B-lt ew
     where
       go : (A B C : ℕ) → 7 ≤ A → B < 134217728 → w + (C + 1) * (t * t) ≡ B * t * 262144
-          → 34359738368 * ((A * 4294967296 + B + B * t * 262144 - C * (t * t)) / 34359738368 + i * 8388608 - 1) ≤ 4294967296 * (A - 7 + i * 67108864) + (w - 3888119808)
+          → 34359738368 * ((A * 4294967296 + B + B * t * 262144 - C * (t * t)) / 34359738368 + i * 8388608 - 1)
+          ≤ 4294967296 * (A - 7 + i * 67108864) + (w - 3888119808)
       go A B C l b e =
           let t1 : t ≤ 16384 = omega arith in
           let s : t * t ≤ 268435456 = mul-le-mul t1 t1 in
@@ -109,21 +114,29 @@ module _ (i t n D : ℕ) (I : i < 512) (Small : t < 16384) (en : n ≡ 512 + i) 
       let w = slope i * t * 262144 - (curvature i + 1) * (t * t) in
       let ew : w + (curvature i + 1) * (t * t) ≡ slope i * t * 262144 = omega (arith, curvature-le) in
       two-le-down 34359738368 (log2At i t + i * 8388608 - 1) 4294967296 (D + t) 8388608 (lit< tt)
-      (two-le-mono (34359738368 * (log2At i t + i * 8388608 - 1)) (4294967296 * (height i - 7 + i * 67108864) + (w - 3888119808)) 147573952589676412928 (D + t) 8388608 (below-sums w ew (A .low))
-      (two-le-weaken (4294967296 * (height i - 7 + i * 67108864) + (w - 3888119808)) 147573952589676412928 ((512 + i) * (D + t)) (512 * D) (D + t) 8388608 (mul-pos (lit< tt) D-pos) (omega (arith, ap (λ (z : ℕ). z * (D + t)) en, ap (λ (z : ℕ). z * (D + t)) eD))
-      (two-le-mul 147573952589676412928 (4294967296 * (height i - 7 + i * 67108864)) (w - 3888119808) (512 + i) 512 (D + t) D
+      (two-le-mono (34359738368 * (log2At i t + i * 8388608 - 1))
+      (4294967296 * (height i - 7 + i * 67108864) + (w - 3888119808)) 147573952589676412928 (D + t) 8388608
+      (below-sums w ew (A .low))
+      (two-le-weaken (4294967296 * (height i - 7 + i * 67108864) + (w - 3888119808)) 147573952589676412928
+      ((512 + i) * (D + t)) (512 * D) (D + t) 8388608 (mul-pos (lit< tt) D-pos)
+      (omega (arith, ap (λ (z : ℕ). z * (D + t)) en, ap (λ (z : ℕ). z * (D + t)) eD))
+      (two-le-mul 147573952589676412928 (4294967296 * (height i - 7 + i * 67108864)) (w - 3888119808) (512 + i) 512
+      (D + t) D
       (two-le-up 4294967296 (height i - 7 + i * 67108864) 34359738368 (512 + i) 512 (A .below)) (below w ew))))
 
   -- ---- from above
   -- 1 + t / D ≤ 2^((w + 12 * 2^32) / 2^67)
-  above : (w : ℕ) → w + curvature i * (t * t) ≡ (slope i + 1) * t * 262144 → TwoGe (w + 51539607552) 147573952589676412928 (D + t) D
+  above : (w : ℕ) → w + curvature i * (t * t) ≡ (slope i + 1) * t * 262144
+      → TwoGe (w + 51539607552) 147573952589676412928 (D + t) D
   above w ew = line-above t D w small-t D-pos (start (slope i) (curvature i) (B-is .1) (C-is .0) ew)
     where
-      start : (B C : ℕ) → 49570588694 < (B + 1) * n → C * (n * n) ≤ 395790452196 → w + C * (t * t) ≡ (B + 1) * t * 262144
+      start : (B C : ℕ) → 49570588694 < (B + 1) * n → C * (n * n) ≤ 395790452196
+          → w + C * (t * t) ≡ (B + 1) * t * 262144
           → 49570588694 * 4294967296 * (t * D) ≤ w * (D * D) + 395790452196 * 268435456 * (t * t)
       start B C b c e =
           let x : 49570588694 * 16384 * (t * D) ≤ (B + 1) * D * (t * D) = mul-le-mul-right (t * D) (by-n B b eD) in
-          let y : C * (D * D) * (t * t) ≤ 395790452196 * 268435456 * (t * t) = mul-le-mul-right (t * t) (by-nn C c eD) in
+          let y : C * (D * D) * (t * t) ≤ 395790452196 * 268435456 * (t * t) = mul-le-mul-right (t * t)
+          (by-nn C c eD) in
           omega (arith, ap (λ (z : ℕ). z * (D * D)) e)
         where
           by-n : (B : ℕ) → 49570588694 < (B + 1) * n → D ≡ n * 16384 → 49570588694 * 16384 ≤ (B + 1) * D
@@ -133,12 +146,14 @@ module _ (i t n D : ℕ) (I : i < 512) (Small : t < 16384) (en : n ≡ 512 + i) 
           by-nn C c e = rw e (omega arith)
 
   above-sums : (w : ℕ) → w + curvature i * (t * t) ≡ (slope i + 1) * t * 262144 → 7 ≤ height i
-      → 4294967296 * (height i - 7 + i * 67108864 + 1) + (w + 51539607552) ≤ 34359738368 * (log2At i t + i * 8388608 + 2)
+      → 4294967296 * (height i - 7 + i * 67108864 + 1) + (w + 51539607552) ≤ 34359738368 * (log2At i
+      t + i * 8388608 + 2)
   unfolding log2At
   above-sums w ew l = go (height i) (slope i) (curvature i) l curvature-le ew
     where
       go : (A B C : ℕ) → 7 ≤ A → (C + 1) * (t * t) ≤ B * t * 262144 → w + C * (t * t) ≡ (B + 1) * t * 262144
-          → 4294967296 * (A - 7 + i * 67108864 + 1) + (w + 51539607552) ≤ 34359738368 * ((A * 4294967296 + B + B * t * 262144 - C * (t * t)) / 34359738368 + i * 8388608 + 2)
+          → 4294967296 * (A - 7 + i * 67108864 + 1) + (w + 51539607552) ≤ 34359738368
+          * ((A * 4294967296 + B + B * t * 262144 - C * (t * t)) / 34359738368 + i * 8388608 + 2)
       go A B C l b e = omega arith
 
   pub log-above : TwoGe (log2At i t + i * 8388608 + 2) 4294967296 (D + t) 8388608
@@ -147,24 +162,33 @@ module _ (i t n D : ℕ) (I : i < 512) (Small : t < 16384) (en : n ≡ 512 + i) 
       let w = (slope i + 1) * t * 262144 - curvature i * (t * t) in
       let ew : w + curvature i * (t * t) ≡ (slope i + 1) * t * 262144 = omega (arith, curvature-le) in
       two-ge-down 34359738368 (log2At i t + i * 8388608 + 2) 4294967296 (D + t) 8388608 (lit< tt)
-      (two-ge-mono (4294967296 * (height i - 7 + i * 67108864 + 1) + (w + 51539607552)) (34359738368 * (log2At i t + i * 8388608 + 2)) 147573952589676412928 (D + t) 8388608 (above-sums w ew (A .low))
-      (two-ge-weaken (4294967296 * (height i - 7 + i * 67108864 + 1) + (w + 51539607552)) 147573952589676412928 ((512 + i) * (D + t)) (512 * D) (D + t) 8388608 (mul-pos (lit< tt) D-pos) (omega (arith, ap (λ (z : ℕ). z * (D + t)) en, ap (λ (z : ℕ). z * (D + t)) eD))
-      (two-ge-mul 147573952589676412928 (4294967296 * (height i - 7 + i * 67108864 + 1)) (w + 51539607552) (512 + i) 512 (D + t) D
+      (two-ge-mono (4294967296 * (height i - 7 + i * 67108864 + 1) + (w + 51539607552))
+      (34359738368 * (log2At i t + i * 8388608 + 2)) 147573952589676412928 (D + t) 8388608
+      (above-sums w ew (A .low))
+      (two-ge-weaken (4294967296 * (height i - 7 + i * 67108864 + 1) + (w + 51539607552)) 147573952589676412928
+      ((512 + i) * (D + t)) (512 * D) (D + t) 8388608 (mul-pos (lit< tt) D-pos)
+      (omega (arith, ap (λ (z : ℕ). z * (D + t)) en, ap (λ (z : ℕ). z * (D + t)) eD))
+      (two-ge-mul 147573952589676412928 (4294967296 * (height i - 7 + i * 67108864 + 1)) (w + 51539607552) (512 + i) 512
+      (D + t) D
       (two-ge-up 4294967296 (height i - 7 + i * 67108864 + 1) 34359738368 (512 + i) 512 (A .above)) (above w ew))))
 
 -- the logarithm of a significand m: at least one and at most two units off, and exact at a power of two
-pub significand-below : (m : ℕ) → m < 8388608 → TwoLe (log2At (m / 16384) (m % 16384) + m / 16384 * 8388608 - 1) 4294967296 (8388608 + m) 8388608
+pub significand-below : (m : ℕ) → m < 8388608
+    → TwoLe (log2At (m / 16384) (m % 16384) + m / 16384 * 8388608 - 1) 4294967296 (8388608 + m) 8388608
 significand-below m h =
     subst (λ (z : ℕ). TwoLe (log2At (m / 16384) (m % 16384) + m / 16384 * 8388608 - 1) 4294967296 z 8388608) whole
-    (log-below (m / 16384) (m % 16384) (512 + m / 16384) ((512 + m / 16384) * 16384) (omega arith) (omega arith) refl refl)
+    (log-below (m / 16384) (m % 16384) (512 + m / 16384) ((512 + m / 16384) * 16384) (omega arith) (omega arith) refl
+    refl)
   where
     whole : (512 + m / 16384) * 16384 + m % 16384 ≡ 8388608 + m
     whole = omega arith
 
-pub significand-above : (m : ℕ) → m < 8388608 → TwoGe (log2At (m / 16384) (m % 16384) + m / 16384 * 8388608 + 2) 4294967296 (8388608 + m) 8388608
+pub significand-above : (m : ℕ) → m < 8388608
+    → TwoGe (log2At (m / 16384) (m % 16384) + m / 16384 * 8388608 + 2) 4294967296 (8388608 + m) 8388608
 significand-above m h =
     subst (λ (z : ℕ). TwoGe (log2At (m / 16384) (m % 16384) + m / 16384 * 8388608 + 2) 4294967296 z 8388608) whole
-    (log-above (m / 16384) (m % 16384) (512 + m / 16384) ((512 + m / 16384) * 16384) (omega arith) (omega arith) refl refl)
+    (log-above (m / 16384) (m % 16384) (512 + m / 16384) ((512 + m / 16384) * 16384) (omega arith) (omega arith) refl
+    refl)
   where
     whole : (512 + m / 16384) * 16384 + m % 16384 ≡ 8388608 + m
     whole = omega arith

@@ -17,7 +17,8 @@ record Cut (n m g u : ℕ) : Type 0 where
   low : u * m ≤ 128 * (n * g)
   high : 128 * (n * g) < (u + 1) * m
 
-cut-by : (k s X U n m g : ℕ) → 0 < k → 0 < m → s * k ≤ X → X < (s + 1) * k → X ≡ 2 * (U * g) → n * (k * 64) ≡ U * m → Cut n m g s
+cut-by : (k s X U n m g : ℕ) → 0 < k → 0 < m → s * k ≤ X → X < (s + 1) * k → X ≡ 2 * (U * g) → n * (k * 64) ≡ U * m
+    → Cut n m g s
 cut-by k s X U n m g K M lo hi e v = record {
   low = le-of-mul-le-mul-right {k = k} (omega (arith, mul-le-mul-right m lo, whole)) K;
   high = go (lt-or-ge (128 * (n * g)) ((s + 1) * m));
@@ -40,7 +41,8 @@ pub product-is : (g a : ℕ) → product g a ≡ (a % 8388608 + 8388608) * g * 2
 unfolding product
 product-is g a = refl
 
-cut-down : (n m g a : ℕ) → 0 < m → g ≤ 1099511627776 → n * 2 ^ 149 ≡ units (a / 8388608) (a % 8388608) * m → Cut n m g (product g a)
+cut-down : (n m g a : ℕ) → 0 < m → g ≤ 1099511627776 → n * 2 ^ 149 ≡ units (a / 8388608) (a % 8388608) * m
+    → Cut n m g (product g a)
 cut-down n m g a M G v = rw (product-is g a) (go (a / 8388608) (a % 8388608) (omega arith) v)
   where
     go : (f t : ℕ) → t < 8388608 → n * 2 ^ 149 ≡ units f t * m → Cut n m g ((t + 8388608) * g * 2 ^ f / 2 ^ 143)
@@ -71,7 +73,8 @@ cut-down n m g a M G v = rw (product-is g a) (go (a / 8388608) (a % 8388608) (om
                 le-of : (t : ℕ) → t < 8388608 → t ≤ 8388608
                 le-of t l = omega arith
 
-                last : (x y z : ℕ) → y ≤ n * 1099511627776 → n * 36893488147419103232 ≤ x → z ≤ 8388608 * m → x * 64 ≡ z → m ≤ 128 * y → ⊥
+                last : (x y z : ℕ) → y ≤ n * 1099511627776 → n * 36893488147419103232 ≤ x → z ≤ 8388608 * m → x * 64 ≡ z
+                    → m ≤ 128 * y → ⊥
                 last x y z a b c e h = omega arith
 
             high : (128 * (n * g) < m) ⊎ (m ≤ 128 * (n * g)) → 128 * (n * g) < (0 + 1) * m
@@ -80,12 +83,14 @@ cut-down n m g a M G v = rw (product-is g a) (go (a / 8388608) (a % 8388608) (om
     go (suc f) t l v =
         let X = (t + 8388608) * g * 2 ^ suc f in
         let h = floor X (2 ^ 143) (pow-pos 143) in
-        cut-by (2 ^ 143) (X / 2 ^ 143) X ((8388608 + t) * 2 ^ f) n m g (pow-pos 143) M (h .0) (h .1) (rw (pow-suc 2 f) (same (2 ^ f))) v
+        cut-by (2 ^ 143) (X / 2 ^ 143) X ((8388608 + t) * 2 ^ f) n m g (pow-pos 143) M (h .0) (h .1)
+        (rw (pow-suc 2 f) (same (2 ^ f))) v
       where
         same : (y : ℕ) → (t + 8388608) * g * (y * 2) ≡ 2 * ((8388608 + t) * y * g)
         same y = omega arith
 
-pub sized : (n m g a : ℕ) → 0 < m → g ≤ 1099511627776 → n * 2 ^ 149 ≡ units (a / 8388608) (a % 8388608) * m → Sized n m (8 * g) (product g a)
+pub sized : (n m g a : ℕ) → 0 < m → g ≤ 1099511627776 → n * 2 ^ 149 ≡ units (a / 8388608) (a % 8388608) * m
+    → Sized n m (8 * g) (product g a)
 sized n m g a M G v = go (product g a) (cut-down n m g a M G v)
   where
     go : (u : ℕ) → Cut n m g u → Sized n m (8 * g) u
@@ -93,10 +98,14 @@ sized n m g a M G v = go (product g a) (cut-down n m g a M G v)
 
 -- |y| ≤ 128
 pub at-most : (n m a : ℕ) → a ≤ 1124073472 → n * 2 ^ 149 ≡ units (a / 8388608) (a % 8388608) * m → n ≤ 128 * m
-at-most n m a A v = go (2 ^ 149) (pow-pos 149) v (top (a / 8388608) (a % 8388608) (omega arith) (lt-or-ge (a / 8388608) 134) (omega arith))
+at-most n m a A v =
+    go (2 ^ 149) (pow-pos 149) v (top (a / 8388608) (a % 8388608) (omega arith) (lt-or-ge (a / 8388608) 134)
+    (omega arith))
   where
-    go : (k : ℕ) → 0 < k → n * k ≡ units (a / 8388608) (a % 8388608) * m → units (a / 8388608) (a % 8388608) ≤ 128 * k → n ≤ 128 * m
-    go k K e h = le-of-mul-le-mul-right {k = k} (le-trans (le-of-eq e) (le-trans (mul-le-mul-right m h) (le-of-eq (turn k)))) K
+    go : (k : ℕ) → 0 < k → n * k ≡ units (a / 8388608) (a % 8388608) * m → units (a / 8388608) (a % 8388608) ≤ 128 * k
+        → n ≤ 128 * m
+    go k K e h =
+        le-of-mul-le-mul-right {k = k} (le-trans (le-of-eq e) (le-trans (mul-le-mul-right m h) (le-of-eq (turn k)))) K
       where
         turn : (k : ℕ) → 128 * k * m ≡ 128 * m * k
         turn k = omega arith
@@ -109,5 +118,9 @@ at-most n m a A v = go (2 ^ 149) (pow-pos 149) v (top (a / 8388608) (a % 8388608
 
         lt-le : (t : ℕ) → t < 8388608 → t ≤ 8388608
         lt-le t l = omega arith
-    top (suc x) t h (inl c) l = le-trans (mul-le-mul {n₂ = 16777216} {m₂ = 2 ^ 132} (omega arith) (pow-mono {i = x} {j = 132} (omega arith))) (lit≤ tt)
-    top (suc x) t h (inr c) l = le-trans (mul-le-mul {n₂ = 8388608} {m₂ = 2 ^ 133} (omega arith) (pow-mono {i = x} {j = 133} (omega arith))) (lit≤ tt)
+    top (suc x) t h (inl c) l =
+        le-trans (mul-le-mul {n₂ = 16777216} {m₂ = 2 ^ 132} (omega arith) (pow-mono {i = x} {j = 132} (omega arith)))
+        (lit≤ tt)
+    top (suc x) t h (inr c) l =
+        le-trans (mul-le-mul {n₂ = 8388608} {m₂ = 2 ^ 133} (omega arith) (pow-mono {i = x} {j = 133} (omega arith)))
+        (lit≤ tt)

@@ -83,7 +83,14 @@ module _ (y : Float) where
     near = λ _ _. record {
       j = 0;
       step = inl refl;
-      near = record { units = 2 ^ 149; value = one-value; low = one-ge (2 ^ 149 - 2) (2 ^ 149) (lit≤ tt); high = one-le (2 ^ 149 + 2) (2 ^ 149) (lit≤ tt) };
+      near =
+          record {
+            units = 2 ^ 149;
+            value = one-value;
+            low = one-ge (2 ^ 149 - 2) (2 ^ 149) (lit≤ tt);
+            high = one-le
+                (2 ^ 149 + 2) (2 ^ 149) (lit≤ tt);
+          };
     };
     under = λ none. absurd (none (one-ge 1 (2 ^ 127) (lit≤ tt)));
     over = λ g. absurd (not-le-of-lt (lit< tt) (one-back (2 ^ 129) 1 g));
@@ -102,15 +109,21 @@ pub is-large : (b c : ℕ) → 1124073473 ≤ c % 2147483648 → (b ≡ 10653532
 unfolding powBits
 is-large b c h n = simp (le-ltb (c % 2147483648) 1124073473 h, ne-eqb b 1065353216 n)
 
-pub finite-law : (x y : Float) → T (fits binary32 x) → T (fits binary32 y) → Finite x y → Shown x y (ofBits binary32 (powBits (toBits binary32 x) (toBits binary32 y)))
+pub finite-law : (x y : Float) → T (fits binary32 x) → T (fits binary32 y) → Finite x y
+    → Shown x y (ofBits binary32 (powBits (toBits binary32 x) (toBits binary32 y)))
 finite-law x y fx fy f =
-    go (toBits binary32 x) (toBits binary32 y) (sym (ofBits-toBits binary32 x fx)) (sym (ofBits-toBits binary32 y fy)) (f .positive) (f .finite) (toBits-lt binary32 y fy) (f .number)
+    go (toBits binary32 x) (toBits binary32 y) (sym (ofBits-toBits binary32 x fx)) (sym (ofBits-toBits binary32 y fy))
+    (f .positive) (f .finite) (toBits-lt binary32 y fy) (f .number)
     (lt-or-ge (toBits binary32 y % 2147483648) 1124073473) (ℕ-discrete (toBits binary32 x) 1065353216)
   where
-    go : (b c : ℕ) → x ≡ ofBits binary32 b → y ≡ ofBits binary32 c → 0 < b → b < 2139095040 → c < 4294967296 → c % 2147483648 < 2139095040
-        → (c % 2147483648 < 1124073473) ⊎ (1124073473 ≤ c % 2147483648) → Dec (b ≡ 1065353216) → Shown x y (ofBits binary32 (powBits b c))
+    go : (b c : ℕ) → x ≡ ofBits binary32 b → y ≡ ofBits binary32 c → 0 < b → b < 2139095040 → c < 4294967296
+        → c % 2147483648 < 2139095040
+        → (c % 2147483648 < 1124073473) ⊎ (1124073473 ≤ c % 2147483648) → Dec (b ≡ 1065353216)
+        → Shown x y (ofBits binary32 (powBits b c))
     go b c ex ey B h l k (inl i) _ = rw (is-near b c i) (near-law x y b c ex ey B h l (omega arith))
-    go b c ex ey B h l k (inr i) (yes e) = rw (is-one b c i e) (subst (λ (z : Float). Shown z y (ofBits binary32 1065353216)) (sym (ex ∙ ap (ofBits binary32) e)) (one-law y))
+    go b c ex ey B h l k (inr i) (yes e) =
+        rw (is-one b c i e) (subst (λ (z : Float). Shown z y (ofBits binary32 1065353216))
+        (sym (ex ∙ ap (ofBits binary32) e)) (one-law y))
     go b c ex ey B h l k (inr i) (no n) = rw (is-large b c i n) (large-law x y b c ex ey B h l (omega arith) k n)
 
 -- ---- for the code: 1^y and x^±0, and no pattern is a NaN's
@@ -138,4 +151,5 @@ bits-le b c = go (lt-or-ge (c % 2147483648) 1124073473) (ℕ-discrete b 10653532
     go : (c % 2147483648 < 1124073473) ⊎ (1124073473 ≤ c % 2147483648) → Dec (b ≡ 1065353216) → powBits b c ≤ 2139095040
     go (inl i) _ = le-trans (le-of-eq (is-near b c i ∙ near-is b c)) (exp2-le (argOf (log2Of (normalized b)) c))
     go (inr i) (yes e) = le-trans (le-of-eq (is-one b c i e)) (lit≤ tt)
-    go (inr i) (no n) = le-trans (le-of-eq (is-large b c i n ∙ large-is b c)) (exp2-le (largeArg (squared (normalized b) c) c))
+    go (inr i) (no n) =
+        le-trans (le-of-eq (is-large b c i n ∙ large-is b c)) (exp2-le (largeArg (squared (normalized b) c) c))

@@ -23,7 +23,8 @@ eight : (s : Bool) (l g : ℕ) → Side 682899800064 s l g → Side 546319840051
 eight false l g h = omega arith
 eight true l g h = omega arith
 
-module _ (x y : Float) (b c : ℕ) (ex : x ≡ ofBits binary32 b) (ey : y ≡ ofBits binary32 c) (B : 0 < b) (h : b < 2139095040) (l : c < 4294967296) (k : c % 2147483648 ≤ 1124073472) where
+module _ (x y : Float) (b c : ℕ) (ex : x ≡ ofBits binary32 b) (ey : y ≡ ofBits binary32 c) (B : 0 < b)
+    (h : b < 2139095040) (l : c < 4294967296) (k : c % 2147483648 ≤ 1124073472) where
   abbrev L : ℕ
   L = log2Of (normalized b)
 
@@ -59,16 +60,21 @@ module _ (x y : Float) (b c : ℕ) (ex : x ≡ ofBits binary32 b) (ey : y ≡ of
 
   arg-is : Around (unlike (ltb L 682899800064) (y-is .t)) Z U
   unfolding argOf
-  arg-is = subst (λ (w : Bool). Around (unlike (ltb L 682899800064) w) Z U) (y-is .is) (arg-around 682899800064 L c U u-le)
+  arg-is =
+      subst (λ (w : Bool). Around (unlike (ltb L 682899800064) w) Z U) (y-is .is) (arg-around 682899800064 L c U u-le)
 
   lo : TwoLe (8 * L - 8) 34359738368 (num x * 2 ^ 159) (den x)
-  lo = subst (λ (n : ℕ). TwoLe n 34359738368 (num x * 2 ^ 159) (den x)) (less L (L-range .0)) (two-le-up 8 (L - 1) 4294967296 (num x * 2 ^ 159) (den x) (float-low x b ex B h))
+  lo =
+      subst (λ (n : ℕ). TwoLe n 34359738368 (num x * 2 ^ 159) (den x)) (less L (L-range .0))
+      (two-le-up 8 (L - 1) 4294967296 (num x * 2 ^ 159) (den x) (float-low x b ex B h))
     where
       less : (l : ℕ) → 42949672960 ≤ l → 8 * (l - 1) ≡ 8 * l - 8
       less l h = omega arith
 
   hi : TwoGe (8 * L + 16) 34359738368 (num x * 2 ^ 159) (den x)
-  hi = subst (λ (n : ℕ). TwoGe n 34359738368 (num x * 2 ^ 159) (den x)) (more L) (two-ge-up 8 (L + 2) 4294967296 (num x * 2 ^ 159) (den x) (float-high x b ex B h))
+  hi =
+      subst (λ (n : ℕ). TwoGe n 34359738368 (num x * 2 ^ 159) (den x)) (more L)
+      (two-ge-up 8 (L + 2) 4294967296 (num x * 2 ^ 159) (den x) (float-high x b ex B h))
     where
       more : (l : ℕ) → 8 * (l + 2) ≡ 8 * l + 16
       more l = omega arith
@@ -76,17 +82,22 @@ module _ (x y : Float) (b c : ℕ) (ex : x ≡ ofBits binary32 b) (ey : y ≡ of
   sign-y : y-is .t ≡ signOf y
   sign-y = sym (sign-is y (y-is .t) (units (c % 2147483648 / 8388608) (c % 2147483648 % 8388608)) (2 ^ 149) (y-is .hy))
 
-  low : (v p q : ℕ) → 32769 ≤ v → 36028247263150080 + v ≤ Z → TwoGe (v - 32769) 549755813888 (2 ^ 127 * p) q → PowGe x y p q
+  low : (v p q : ℕ) → 32769 ≤ v → 36028247263150080 + v ≤ Z → TwoGe (v - 32769) 549755813888 (2 ^ 127 * p) q
+      → PowGe x y p q
   unfolding PowGe
   low v p q i j e =
       subst (λ (w : Bool). RatioGe w (num x) (den x) (num y) (den y) p q) sign-y
-      (low-at (num x) (den x) (num y) (den y) (8 * L) (8 * absDiff L 682899800064) U Z (ltb L 682899800064) (y-is .t) S8 few (eight (ltb L 682899800064) L (absDiff L 682899800064) (side 682899800064 L)) (omega (arith, L-range)) lo hi arg-is v p q i j e)
+      (low-at (num x) (den x) (num y) (den y) (8 * L) (8 * absDiff L 682899800064) U Z (ltb L 682899800064) (y-is .t) S8
+      few (eight (ltb L 682899800064) L (absDiff L 682899800064) (side 682899800064 L)) (omega (arith, L-range)) lo
+      hi arg-is v p q i j e)
 
   high : (v p q : ℕ) → Z ≤ 36028247263150080 + v → TwoLe (v + 32769) 549755813888 (2 ^ 127 * p) q → PowLe x y p q
   unfolding PowLe
   high v p q j e =
       subst (λ (w : Bool). RatioLe w (num x) (den x) (num y) (den y) p q) sign-y
-      (high-at (num x) (den x) (num y) (den y) (8 * L) (8 * absDiff L 682899800064) U Z (ltb L 682899800064) (y-is .t) S8 few (eight (ltb L 682899800064) L (absDiff L 682899800064) (side 682899800064 L)) (omega (arith, L-range)) lo hi arg-is v p q j e)
+      (high-at (num x) (den x) (num y) (den y) (8 * L) (8 * absDiff L 682899800064) U Z (ltb L 682899800064) (y-is .t)
+      S8 few (eight (ltb L 682899800064) L (absDiff L 682899800064) (side 682899800064 L)) (omega (arith, L-range))
+      lo hi arg-is v p q j e)
 
   pub near-law : Shown x y (ofBits binary32 (nearBits b c))
   unfolding nearBits

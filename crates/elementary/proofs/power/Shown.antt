@@ -36,7 +36,8 @@ sign y c ey l k = go (lt-or-ge c 2147483648)
           t = false;
           is = ap not (lt-ltb c 2147483648 i);
           hy = subst (λ (n : ℕ). HasValue y false (units (n / 8388608) (n % 8388608)) (2 ^ 149)) e
-              (subst (λ (z : Float). HasValue z false (units (c / 8388608) (c % 8388608)) (2 ^ 149)) (sym ey) (value-pos c (omega arith)));
+              (subst (λ (z : Float). HasValue z false (units (c / 8388608) (c % 8388608)) (2 ^ 149)) (sym ey)
+              (value-pos c (omega arith)));
         }
     go (inr i) =
         let e : c - 2147483648 ≡ c % 2147483648 = omega arith in
@@ -44,15 +45,19 @@ sign y c ey l k = go (lt-or-ge c 2147483648)
           t = true;
           is = ap not (le-ltb c 2147483648 i);
           hy = subst (λ (n : ℕ). HasValue y true (units (n / 8388608) (n % 8388608)) (2 ^ 149)) e
-              (subst (λ (z : Float). HasValue z true (units ((c - 2147483648) / 8388608) ((c - 2147483648) % 8388608)) (2 ^ 149)) (sym ey) (value-neg c i (omega arith)));
+              (subst (λ (z : Float). HasValue z true (units ((c - 2147483648) / 8388608) ((c - 2147483648) % 8388608))
+              (2 ^ 149)) (sym ey) (value-neg c i (omega arith)));
         }
 
 -- ---- the order of the bounds
-pub ratio-order : (t : Bool) (a b n m c d c′ d′ : ℕ) → 0 < a → 0 < b → 0 < m → RatioGe t a b n m c d → RatioLe t a b n m c′ d′ → c * d′ ≤ c′ * d
+pub ratio-order : (t : Bool) (a b n m c d c′ d′ : ℕ) → 0 < a → 0 < b → 0 < m → RatioGe t a b n m c d
+    → RatioLe t a b n m c′ d′ → c * d′ ≤ c′ * d
 ratio-order t a b n m c d c′ d′ A B M f g = root (c * d′) (c′ * d) m M (rw (mul-pow c d′ m, mul-pow c′ d m) (go t f g))
   where
     cross : (x y c d c′ d′ : ℕ) → 0 < x → 0 < y → c * y ≤ x * d → x * d′ ≤ c′ * y → c * d′ ≤ c′ * d
-    cross x y c d c′ d′ X Y f g = le-of-mul-le-mul-right {k = x * y} (omega (arith, mul-le-mul-left (d′ * x) f, mul-le-mul-left (d * x) g)) (mul-pos X Y)
+    cross x y c d c′ d′ X Y f g =
+        le-of-mul-le-mul-right {k = x * y} (omega (arith, mul-le-mul-left (d′ * x) f, mul-le-mul-left (d * x) g))
+        (mul-pos X Y)
 
     go : (t : Bool) → RatioGe t a b n m c d → RatioLe t a b n m c′ d′ → c ^ m * d′ ^ m ≤ c′ ^ m * d ^ m
     go false f g = cross (a ^ n) (b ^ n) (c ^ m) (d ^ m) (c′ ^ m) (d′ ^ m) (one-le-pow n a A) (one-le-pow n b B) f g
@@ -66,14 +71,18 @@ weak t a b n m c d c′ d′ D h = go t
     base = rw (mul-pow c d′ m) at (rw (mul-pow c′ d m) at (pow-le-pow-left h m))
 
     last : (x y c d c′ d′ : ℕ) → 0 < d → c′ * d ≤ c * d′ → c * y ≤ x * d → c′ * y ≤ x * d′
-    last x y c d c′ d′ D h f = le-of-mul-le-mul-right {k = d} (omega (arith, mul-le-mul-right y h, mul-le-mul-right d′ f)) D
+    last x y c d c′ d′ D h f =
+        le-of-mul-le-mul-right {k = d} (omega (arith, mul-le-mul-right y h, mul-le-mul-right d′ f)) D
 
     go : (t : Bool) → RatioGe t a b n m c d → RatioGe t a b n m c′ d′
     go false f = last (a ^ n) (b ^ n) (c ^ m) (d ^ m) (c′ ^ m) (d′ ^ m) (one-le-pow m d D) base f
     go true f = last (b ^ n) (a ^ n) (c ^ m) (d ^ m) (c′ ^ m) (d′ ^ m) (one-le-pow m d D) base f
 
 pub num-pos : (x : Float) (b : ℕ) → x ≡ ofBits binary32 b → 0 < b → b < 2139095040 → 0 < num x
-num-pos x b ex B h = go (num x) (units (b / 8388608) (b % 8388608)) (2 ^ 149) (units-pos b B) (fraction-is x false (units (b / 8388608) (b % 8388608)) (2 ^ 149) (subst (λ (z : Float). HasValue z false (units (b / 8388608) (b % 8388608)) (2 ^ 149)) (sym ex) (value-pos b h)))
+num-pos x b ex B h =
+    go (num x) (units (b / 8388608) (b % 8388608)) (2 ^ 149) (units-pos b B)
+    (fraction-is x false (units (b / 8388608) (b % 8388608)) (2 ^ 149)
+    (subst (λ (z : Float). HasValue z false (units (b / 8388608) (b % 8388608)) (2 ^ 149)) (sym ex) (value-pos b h)))
   where
     go : (n u t : ℕ) → 0 < u → n * t ≡ u * den x → 0 < n
     go zero u t U e = absurd (no (mul-pos U (den-pos x)))
@@ -100,7 +109,9 @@ module _ (x y : Float) (X : 0 < num x) where
   unfolding PowGe
   is-inf r e g = record {
     near = λ lo hi. absurd (no-near g hi);
-    under = λ none. absurd (none (weak (signOf y) (num x) (den x) (num y) (den y) (3 * 2 ^ 126) 1 1 (2 ^ 127) (lit< tt) (lit≤ tt) g));
+    under =
+        λ none. absurd (none (weak (signOf y) (num x) (den x) (num y) (den y) (3 * 2 ^ 126) 1 1 (2 ^ 127) (lit< tt)
+        (lit≤ tt) g));
     over = λ _. e;
   }
 
@@ -113,31 +124,40 @@ module _ (x y : Float) (X : 0 < num x) where
 
   -- x^y is about 2^(z / 2^39 - 2^16 - 126)
   module _ (z : ℕ)
-      (low : (v p q : ℕ) → 32769 ≤ v → 36028247263150080 + v ≤ z → TwoGe (v - 32769) 549755813888 (2 ^ 127 * p) q → PowGe x y p q)
-      (high : (v p q : ℕ) → z ≤ 36028247263150080 + v → TwoLe (v + 32769) 549755813888 (2 ^ 127 * p) q → PowLe x y p q) where
-    near : PowGe x y 1 (2 ^ 126) → PowLe x y (2 ^ 127) 1 → Within (PowGe x y) (PowLe x y) 2 (ofBits binary32 (exp2Bits z))
-    near lo hi = go (lt-or-ge z 36028522141057024) (lt-or-ge z 36028797018963968) (lt-or-ge z 36168434995691520)
-      where
-        go : (z < 36028522141057024) ⊎ (36028522141057024 ≤ z) → (z < 36028797018963968) ⊎ (36028797018963968 ≤ z) → (z < 36168434995691520) ⊎ (36168434995691520 ≤ z)
-            → Within (PowGe x y) (PowLe x y) 2 (ofBits binary32 (exp2Bits z))
-        go (inl i) _ _ = absurd (not-le-of-lt (lit< tt) (ordered 1 (2 ^ 126) 3 (2 ^ 128) lo (is-under (PowGe x y) (PowLe x y) z low high i)))
-        go (inr i) (inl j) _ = sub-near (PowGe x y) (PowLe x y) z low high i j
-        go (inr i) (inr j) (inl m) = elim (normal-near (PowGe x y) (PowLe x y) z low high j m) [ inl w ↦ w | inr g ↦ absurd (no-near g hi) ]
-        go (inr i) (inr j) (inr m) = absurd (no-near (is-over (PowGe x y) (PowLe x y) z low high m) hi)
+      (low : (v p q : ℕ) → 32769 ≤ v → 36028247263150080 + v ≤ z → TwoGe (v - 32769) 549755813888 (2 ^ 127 * p) q
+      → PowGe x y p q)
+      (high : (v p q : ℕ) → z ≤ 36028247263150080 + v → TwoLe (v + 32769) 549755813888 (2 ^ 127 * p) q → PowLe x y p q)
+    where
+      near : PowGe x y 1 (2 ^ 126) → PowLe x y (2 ^ 127) 1
+          → Within (PowGe x y) (PowLe x y) 2 (ofBits binary32 (exp2Bits z))
+      near lo hi = go (lt-or-ge z 36028522141057024) (lt-or-ge z 36028797018963968) (lt-or-ge z 36168434995691520)
+        where
+          go : (z < 36028522141057024) ⊎ (36028522141057024 ≤ z) → (z < 36028797018963968) ⊎ (36028797018963968 ≤ z)
+              → (z < 36168434995691520) ⊎ (36168434995691520 ≤ z)
+              → Within (PowGe x y) (PowLe x y) 2 (ofBits binary32 (exp2Bits z))
+          go (inl i) _ _ =
+              absurd (not-le-of-lt (lit< tt) (ordered 1 (2 ^ 126) 3 (2 ^ 128) lo
+              (is-under (PowGe x y) (PowLe x y) z low high i)))
+          go (inr i) (inl j) _ = sub-near (PowGe x y) (PowLe x y) z low high i j
+          go (inr i) (inr j) (inl m) =
+              elim (normal-near (PowGe x y) (PowLe x y) z low high j m) [ inl w ↦ w | inr g ↦ absurd (no-near g hi) ]
+          go (inr i) (inr j) (inr m) = absurd (no-near (is-over (PowGe x y) (PowLe x y) z low high m) hi)
 
-    under : (PowGe x y 1 (2 ^ 127) → ⊥) → ofBits binary32 (exp2Bits z) ≡ fin false 0 (pos 0)
-    under none = go (lt-or-ge z 36028522141057024)
-      where
-        go : (z < 36028522141057024) ⊎ (36028522141057024 ≤ z) → ofBits binary32 (exp2Bits z) ≡ fin false 0 (pos 0)
-        go (inl i) = ap (ofBits binary32) (value-zero z i) ∙ zero-is
-        go (inr i) = absurd (none (not-under (PowGe x y) (PowLe x y) z low high i))
+      under : (PowGe x y 1 (2 ^ 127) → ⊥) → ofBits binary32 (exp2Bits z) ≡ fin false 0 (pos 0)
+      under none = go (lt-or-ge z 36028522141057024)
+        where
+          go : (z < 36028522141057024) ⊎ (36028522141057024 ≤ z) → ofBits binary32 (exp2Bits z) ≡ fin false 0 (pos 0)
+          go (inl i) = ap (ofBits binary32) (value-zero z i) ∙ zero-is
+          go (inr i) = absurd (none (not-under (PowGe x y) (PowLe x y) z low high i))
 
-    over : PowGe x y (2 ^ 129) 1 → ofBits binary32 (exp2Bits z) ≡ inf false
-    over g = go (lt-or-ge z 36168434995691520)
-      where
-        go : (z < 36168434995691520) ⊎ (36168434995691520 ≤ z) → ofBits binary32 (exp2Bits z) ≡ inf false
-        go (inl i) = absurd (not-le-of-lt (lit< tt) (ordered (2 ^ 129) 1 (3 * 2 ^ 127) 1 g (not-over (PowGe x y) (PowLe x y) z low high i)))
-        go (inr i) = ap (ofBits binary32) (value-inf z i) ∙ infinity-is
+      over : PowGe x y (2 ^ 129) 1 → ofBits binary32 (exp2Bits z) ≡ inf false
+      over g = go (lt-or-ge z 36168434995691520)
+        where
+          go : (z < 36168434995691520) ⊎ (36168434995691520 ≤ z) → ofBits binary32 (exp2Bits z) ≡ inf false
+          go (inl i) =
+              absurd (not-le-of-lt (lit< tt) (ordered (2 ^ 129) 1 (3 * 2 ^ 127) 1 g
+              (not-over (PowGe x y) (PowLe x y) z low high i)))
+          go (inr i) = ap (ofBits binary32) (value-inf z i) ∙ infinity-is
 
-    pub shown : Shown x y (ofBits binary32 (exp2Bits z))
-    shown = record { near = near; under = under; over = over }
+      pub shown : Shown x y (ofBits binary32 (exp2Bits z))
+      shown = record { near = near; under = under; over = over }

@@ -19,7 +19,8 @@ pub odd-below : (a : ℕ) → a < 1065353216 → isOdd a ≡ false
 unfolding isOdd
 odd-below a h = simp (lt-ltb a 1065353216 h)
 
-pub odd-mid : (a : ℕ) → 1065353216 ≤ a → a < 1266679808 → isOdd a ≡ eqb ((a % 8388608 + 8388608) % (2 ^ (150 - a / 8388608) * 2)) (2 ^ (150 - a / 8388608))
+pub odd-mid : (a : ℕ) → 1065353216 ≤ a → a < 1266679808
+    → isOdd a ≡ eqb ((a % 8388608 + 8388608) % (2 ^ (150 - a / 8388608) * 2)) (2 ^ (150 - a / 8388608))
 unfolding isOdd
 odd-mid a h k = simp (le-ltb a 1065353216 h, lt-ltb a 1266679808 k)
 
@@ -87,11 +88,13 @@ pub num-inf : (b c : ℕ) → (b % 2147483648 ≡ 0 → ⊥) → b ≡ 213909504
 unfolding numBits
 num-inf b c n h = simp (ne-eqb (b % 2147483648) 0 n, eq-eqb b 2139095040 h)
 
-pub num-to-inf : (b c : ℕ) → (b % 2147483648 ≡ 0 → ⊥) → (b ≡ 2139095040 → ⊥) → c % 2147483648 ≡ 2139095040 → numBits b c ≡ toInfBits b c
+pub num-to-inf : (b c : ℕ) → (b % 2147483648 ≡ 0 → ⊥) → (b ≡ 2139095040 → ⊥) → c % 2147483648 ≡ 2139095040
+    → numBits b c ≡ toInfBits b c
 unfolding numBits
 num-to-inf b c n m h = simp (ne-eqb (b % 2147483648) 0 n, ne-eqb b 2139095040 m, eq-eqb (c % 2147483648) 2139095040 h)
 
-pub num-pow : (b c : ℕ) → (b % 2147483648 ≡ 0 → ⊥) → (b ≡ 2139095040 → ⊥) → (c % 2147483648 ≡ 2139095040 → ⊥) → numBits b c ≡ powBits b c
+pub num-pow : (b c : ℕ) → (b % 2147483648 ≡ 0 → ⊥) → (b ≡ 2139095040 → ⊥) → (c % 2147483648 ≡ 2139095040 → ⊥)
+    → numBits b c ≡ powBits b c
 unfolding numBits
 num-pow b c n m h = simp (ne-eqb (b % 2147483648) 0 n, ne-eqb b 2139095040 m, ne-eqb (c % 2147483648) 2139095040 h)
 
@@ -103,7 +106,9 @@ pub at-one : (b c : ℕ) → b ≡ 1065353216 → powAt b c ≡ ofBits binary32 
 unfolding powAt
 at-one b c h = go (eqb (c % 2147483648) 0)
   where
-    go : (t : Bool) → cond t (ofBits binary32 1065353216) (cond (eqb b 1065353216) (ofBits binary32 1065353216) (cond (ltb 2147483648 b) nan (ofBits binary32 (numBits b c)))) ≡ ofBits binary32 1065353216
+    go : (t : Bool) → cond t (ofBits binary32 1065353216)
+        (cond (eqb b 1065353216) (ofBits binary32 1065353216)
+        (cond (ltb 2147483648 b) nan (ofBits binary32 (numBits b c)))) ≡ ofBits binary32 1065353216
     go true = refl
     go false = simp (eq-eqb b 1065353216 h)
 
@@ -111,12 +116,14 @@ pub at-below : (b c : ℕ) → (c % 2147483648 ≡ 0 → ⊥) → (b ≡ 1065353
 unfolding powAt
 at-below b c n m h = simp (ne-eqb (c % 2147483648) 0 n, ne-eqb b 1065353216 m, lt-ltb 2147483648 b h)
 
-pub at-num : (b c : ℕ) → (c % 2147483648 ≡ 0 → ⊥) → (b ≡ 1065353216 → ⊥) → b ≤ 2147483648 → powAt b c ≡ ofBits binary32 (numBits b c)
+pub at-num : (b c : ℕ) → (c % 2147483648 ≡ 0 → ⊥) → (b ≡ 1065353216 → ⊥) → b ≤ 2147483648
+    → powAt b c ≡ ofBits binary32 (numBits b c)
 unfolding powAt
 at-num b c n m h = simp (ne-eqb (c % 2147483648) 0 n, ne-eqb b 1065353216 m, le-ltb 2147483648 b h)
 
 -- x finite and above 0, y finite
-pub at-regular : (b c : ℕ) → 0 < b → b < 2139095040 → c % 2147483648 < 2139095040 → powAt b c ≡ ofBits binary32 (powBits b c)
+pub at-regular : (b c : ℕ) → 0 < b → b < 2139095040 → c % 2147483648 < 2139095040
+    → powAt b c ≡ ofBits binary32 (powBits b c)
 at-regular b c p h k = go (lt-or-ge 0 (c % 2147483648)) (lt-or-ge b 1065353216) (lt-or-ge 1065353216 b)
   where
     no : c % 2147483648 ≡ 2139095040 → ⊥
@@ -137,7 +144,8 @@ at-regular b c p h k = go (lt-or-ge 0 (c % 2147483648)) (lt-or-ge b 1065353216) 
     rest : 0 < c % 2147483648 → (b ≡ 1065353216 → ⊥) → powAt b c ≡ ofBits binary32 (powBits b c)
     rest l n = at-num b c (more l) n (omega arith) ∙ ap (ofBits binary32) (num-pow b c no-zero no-inf no)
 
-    go : (0 < c % 2147483648) ⊎ (c % 2147483648 ≤ 0) → (b < 1065353216) ⊎ (1065353216 ≤ b) → (1065353216 < b) ⊎ (b ≤ 1065353216) → powAt b c ≡ ofBits binary32 (powBits b c)
+    go : (0 < c % 2147483648) ⊎ (c % 2147483648 ≤ 0) → (b < 1065353216) ⊎ (1065353216 ≤ b)
+        → (1065353216 < b) ⊎ (b ≤ 1065353216) → powAt b c ≡ ofBits binary32 (powBits b c)
     go (inr l) _ _ =
         let z : c % 2147483648 ≡ 0 = omega arith in
         at-zero b c z ∙ ap (ofBits binary32) (sym (to-zero b c p h z))
@@ -164,29 +172,46 @@ of-nan-y-one x y e h = rw e (simp (eq-eqb (toBits binary32 x) 1065353216 h))
 
 pub of-nan-x : (x y : Float) → T (not (isNan y)) → x ≡ nan → (toBits binary32 y % 2147483648 ≡ 0 → ⊥) → powOf x y ≡ nan
 unfolding powOf
-of-nan-x x y k e h = cond-no (isNan y) (cond (eqb (toBits binary32 x) 1065353216) (ofBits binary32 1065353216) nan) (cond (isNan x) (cond (eqb (toBits binary32 y % 2147483648) 0) (ofBits binary32 1065353216) nan) (powAt (toBits binary32 x) (toBits binary32 y))) k
+of-nan-x x y k e h =
+    cond-no (isNan y) (cond (eqb (toBits binary32 x) 1065353216) (ofBits binary32 1065353216) nan)
+    (cond (isNan x) (cond (eqb (toBits binary32 y % 2147483648) 0) (ofBits binary32 1065353216) nan)
+    (powAt (toBits binary32 x) (toBits binary32 y))) k
     ∙ go x e
   where
-    go : (z : Float) → z ≡ nan → cond (isNan z) (cond (eqb (toBits binary32 y % 2147483648) 0) (ofBits binary32 1065353216) nan) (powAt (toBits binary32 z) (toBits binary32 y)) ≡ nan
+    go : (z : Float) → z ≡ nan → cond (isNan z)
+        (cond (eqb (toBits binary32 y % 2147483648) 0) (ofBits binary32 1065353216) nan)
+        (powAt (toBits binary32 z) (toBits binary32 y)) ≡ nan
     go z e = unfold isNan in rw e (simp (ne-eqb (toBits binary32 y % 2147483648) 0 h))
 
-pub of-nan-x-zero : (x y : Float) → T (not (isNan y)) → x ≡ nan → toBits binary32 y % 2147483648 ≡ 0 → powOf x y ≡ ofBits binary32 1065353216
+pub of-nan-x-zero : (x y : Float) → T (not (isNan y)) → x ≡ nan → toBits binary32 y % 2147483648 ≡ 0
+    → powOf x y ≡ ofBits binary32 1065353216
 unfolding powOf
-of-nan-x-zero x y k e h = cond-no (isNan y) (cond (eqb (toBits binary32 x) 1065353216) (ofBits binary32 1065353216) nan) (cond (isNan x) (cond (eqb (toBits binary32 y % 2147483648) 0) (ofBits binary32 1065353216) nan) (powAt (toBits binary32 x) (toBits binary32 y))) k
+of-nan-x-zero x y k e h =
+    cond-no (isNan y) (cond (eqb (toBits binary32 x) 1065353216) (ofBits binary32 1065353216) nan)
+    (cond (isNan x) (cond (eqb (toBits binary32 y % 2147483648) 0) (ofBits binary32 1065353216) nan)
+    (powAt (toBits binary32 x) (toBits binary32 y))) k
     ∙ go x e
   where
-    go : (z : Float) → z ≡ nan → cond (isNan z) (cond (eqb (toBits binary32 y % 2147483648) 0) (ofBits binary32 1065353216) nan) (powAt (toBits binary32 z) (toBits binary32 y)) ≡ ofBits binary32 1065353216
+    go : (z : Float) → z ≡ nan → cond (isNan z)
+        (cond (eqb (toBits binary32 y % 2147483648) 0) (ofBits binary32 1065353216) nan)
+        (powAt (toBits binary32 z) (toBits binary32 y)) ≡ ofBits binary32 1065353216
     go z e = unfold isNan in rw e (simp (eq-eqb (toBits binary32 y % 2147483648) 0 h))
 
-pub of-numbers : (x y : Float) → T (not (isNan x)) → T (not (isNan y)) → powOf x y ≡ powAt (toBits binary32 x) (toBits binary32 y)
+pub of-numbers : (x y : Float) → T (not (isNan x)) → T (not (isNan y))
+    → powOf x y ≡ powAt (toBits binary32 x) (toBits binary32 y)
 unfolding powOf
 of-numbers x y h k =
-    cond-no (isNan y) (cond (eqb (toBits binary32 x) 1065353216) (ofBits binary32 1065353216) nan) (cond (isNan x) (cond (eqb (toBits binary32 y % 2147483648) 0) (ofBits binary32 1065353216) nan) (powAt (toBits binary32 x) (toBits binary32 y))) k
-    ∙ cond-no (isNan x) (cond (eqb (toBits binary32 y % 2147483648) 0) (ofBits binary32 1065353216) nan) (powAt (toBits binary32 x) (toBits binary32 y)) h
+    cond-no (isNan y) (cond (eqb (toBits binary32 x) 1065353216) (ofBits binary32 1065353216) nan)
+    (cond (isNan x) (cond (eqb (toBits binary32 y % 2147483648) 0) (ofBits binary32 1065353216) nan)
+    (powAt (toBits binary32 x) (toBits binary32 y))) k
+    ∙ cond-no (isNan x) (cond (eqb (toBits binary32 y % 2147483648) 0) (ofBits binary32 1065353216) nan)
+    (powAt (toBits binary32 x) (toBits binary32 y)) h
 
 -- no pattern is a NaN's
 pub num-mod : (b c : ℕ) → b ≤ 2147483648 → numBits b c % 2147483648 ≤ 2139095040
-num-mod b c h = go (lt-or-ge 0 (b % 2147483648)) (lt-or-ge b 2139095040) (lt-or-ge 2139095040 b) (lt-or-ge (c % 2147483648) 2139095040) (lt-or-ge 2139095040 (c % 2147483648))
+num-mod b c h =
+    go (lt-or-ge 0 (b % 2147483648)) (lt-or-ge b 2139095040) (lt-or-ge 2139095040 b)
+    (lt-or-ge (c % 2147483648) 2139095040) (lt-or-ge 2139095040 (c % 2147483648))
   where
     below : (n : ℕ) → n ≤ 2139095040 → n % 2147483648 ≤ 2139095040
     below n h = omega arith
@@ -211,13 +236,15 @@ num-mod b c h = go (lt-or-ge 0 (b % 2147483648)) (lt-or-ge b 2139095040) (lt-or-
     more : {m n : ℕ} → n < m → m ≡ n → ⊥
     more l e = omega arith
 
-    rest : (0 < b % 2147483648) → (b ≡ 2139095040 → ⊥) → (c % 2147483648 < 2139095040) ⊎ (2139095040 ≤ c % 2147483648) → (2139095040 < c % 2147483648) ⊎ (c % 2147483648 ≤ 2139095040)
+    rest : (0 < b % 2147483648) → (b ≡ 2139095040 → ⊥) → (c % 2147483648 < 2139095040) ⊎ (2139095040 ≤ c % 2147483648)
+        → (2139095040 < c % 2147483648) ⊎ (c % 2147483648 ≤ 2139095040)
         → numBits b c % 2147483648 ≤ 2139095040
     rest z n (inl i) _ = by (num-pow b c (no-zero z) n (less i)) (below (powBits b c) (bits-le b c))
     rest z n (inr i) (inl j) = by (num-pow b c (no-zero z) n (more j)) (below (powBits b c) (bits-le b c))
     rest z n (inr i) (inr j) = by (num-to-inf b c (no-zero z) n (omega arith)) (to-inf-mod (lt-or-ge b 1065353216))
 
-    go : (0 < b % 2147483648) ⊎ (b % 2147483648 ≤ 0) → (b < 2139095040) ⊎ (2139095040 ≤ b) → (2139095040 < b) ⊎ (b ≤ 2139095040) → (c % 2147483648 < 2139095040) ⊎ (2139095040 ≤ c % 2147483648)
+    go : (0 < b % 2147483648) ⊎ (b % 2147483648 ≤ 0) → (b < 2139095040) ⊎ (2139095040 ≤ b)
+        → (2139095040 < b) ⊎ (b ≤ 2139095040) → (c % 2147483648 < 2139095040) ⊎ (2139095040 ≤ c % 2147483648)
         → (2139095040 < c % 2147483648) ⊎ (c % 2147483648 ≤ 2139095040) → numBits b c % 2147483648 ≤ 2139095040
     go (inr z) _ _ _ _ =
         let e : b % 2147483648 ≡ 0 = omega arith in

@@ -42,16 +42,19 @@ minus-zero-is : ofBits binary32 2147483648 ≡ fin true 0 (pos 0)
 unfolding ofBits
 minus-zero-is = refl
 
-signed : (x : Float) (b : ℕ) → x ≡ ofBits binary32 b → b < 4294967296 → b % 2147483648 ≡ 0 → ofBits binary32 (2139095040 + b) ≡ inf (signOf x)
+signed : (x : Float) (b : ℕ) → x ≡ ofBits binary32 b → b < 4294967296 → b % 2147483648 ≡ 0
+    → ofBits binary32 (2139095040 + b) ≡ inf (signOf x)
 signed x b e l z = go (lt-or-ge b 2147483648)
   where
     go : (b < 2147483648) ⊎ (2147483648 ≤ b) → ofBits binary32 (2139095040 + b) ≡ inf (signOf x)
     go (inl i) =
         let k : b ≡ 0 = omega arith in
-        ap (λ (n : ℕ). ofBits binary32 (2139095040 + n)) k ∙ infinity-is ∙ sym (ap (λ (v : Float). inf (signOf v)) (e ∙ ap (ofBits binary32) k ∙ zero-is))
+        ap (λ (n : ℕ). ofBits binary32 (2139095040 + n)) k ∙ infinity-is
+        ∙ sym (ap (λ (v : Float). inf (signOf v)) (e ∙ ap (ofBits binary32) k ∙ zero-is))
     go (inr i) =
         let k : b ≡ 2147483648 = omega arith in
-        ap (λ (n : ℕ). ofBits binary32 (2139095040 + n)) k ∙ minus-infinity-is ∙ sym (ap (λ (v : Float). inf (signOf v)) (e ∙ ap (ofBits binary32) k ∙ minus-zero-is))
+        ap (λ (n : ℕ). ofBits binary32 (2139095040 + n)) k ∙ minus-infinity-is
+        ∙ sym (ap (λ (v : Float). inf (signOf v)) (e ∙ ap (ofBits binary32) k ∙ minus-zero-is))
 
 module _ (x y : Float) (fx : T (fits binary32 x)) (fy : T (fits binary32 y)) where
   abbrev b : ℕ
@@ -89,7 +92,8 @@ module _ (x y : Float) (fx : T (fits binary32 x)) (fy : T (fits binary32 y)) whe
   module _ (z : IsZero x) where
     from-zero : T (not (isNan y)) → (c % 2147483648 ≡ 0 → ⊥) → powOf x y ≡ ofBits binary32 (zeroBits b c)
     from-zero ny n =
-        of-numbers x y (number-of-bits x (omega arith)) ny ∙ at-num b c n other (omega (arith, b-lt)) ∙ ap (ofBits binary32) (num-zero b c z)
+        of-numbers x y (number-of-bits x (omega arith)) ny ∙ at-num b c n other (omega (arith, b-lt))
+        ∙ ap (ofBits binary32) (num-zero b c z)
       where
         other : b ≡ 1065353216 → ⊥
         other e = omega arith
@@ -97,7 +101,8 @@ module _ (x y : Float) (fx : T (fits binary32 x)) (fy : T (fits binary32 y)) whe
     zero-minus-odd : IsMinus y → IsOdd y → powOf x y ≡ inf (signOf x)
     zero-minus-odd m o =
         from-zero (minus-number y m) (minus-some m)
-        ∙ ap (ofBits binary32) (zero-odd b c (is-odd y c y-is c-lt (minus-range m) o) ∙ ap (λ (n : ℕ). n + b) (size-minus c (omega arith)))
+        ∙ ap (ofBits binary32) (zero-odd b c (is-odd y c y-is c-lt (minus-range m) o)
+        ∙ ap (λ (n : ℕ). n + b) (size-minus c (omega arith)))
         ∙ signed x b x-is b-lt z
 
     zero-minus : IsMinus y → (IsOdd y → ⊥) → powOf x y ≡ inf false
@@ -109,13 +114,15 @@ module _ (x y : Float) (fx : T (fits binary32 x)) (fy : T (fits binary32 y)) whe
     zero-plus-odd : IsPlus y → IsOdd y → powOf x y ≡ x
     zero-plus-odd p o =
         from-zero (plus-number p) (plus-some p)
-        ∙ ap (ofBits binary32) (zero-odd b c (is-odd y c y-is c-lt (omega (arith, p .number)) o) ∙ ap (λ (n : ℕ). n + b) (size-plus c (omega (arith, p .number))) ∙ zero-add b)
+        ∙ ap (ofBits binary32) (zero-odd b c (is-odd y c y-is c-lt (omega (arith, p .number)) o)
+        ∙ ap (λ (n : ℕ). n + b) (size-plus c (omega (arith, p .number))) ∙ zero-add b)
         ∙ sym x-is
 
     zero-plus : IsPlus y → (IsOdd y → ⊥) → powOf x y ≡ fin false 0 (pos 0)
     zero-plus p o =
         from-zero (plus-number p) (plus-some p)
-        ∙ ap (ofBits binary32) (zero-even b c (not-odd y c y-is c-lt (omega (arith, p .number)) o) ∙ size-plus c (omega (arith, p .number)))
+        ∙ ap (ofBits binary32) (zero-even b c (not-odd y c y-is c-lt (omega (arith, p .number)) o)
+        ∙ size-plus c (omega (arith, p .number)))
         ∙ zero-is
 
   -- ---- 1^y and x^±0
@@ -139,7 +146,9 @@ module _ (x y : Float) (fx : T (fits binary32 x)) (fy : T (fits binary32 y)) whe
   -- ---- x above 0 to an infinity
   module _ (p : IsPlus x) (i : c % 2147483648 ≡ 2139095040) where
     to-infinity : (b ≡ 1065353216 → ⊥) → powOf x y ≡ ofBits binary32 (numBits b c)
-    to-infinity other = of-numbers x y (number-of-bits x (omega (arith, p .number))) (number-of-bits y (omega arith)) ∙ at-num b c some other (omega (arith, p .number))
+    to-infinity other =
+        of-numbers x y (number-of-bits x (omega (arith, p .number))) (number-of-bits y (omega arith))
+        ∙ at-num b c some other (omega (arith, p .number))
       where
         some : c % 2147483648 ≡ 0 → ⊥
         some z = omega arith
@@ -170,8 +179,11 @@ module _ (x y : Float) (fx : T (fits binary32 x)) (fy : T (fits binary32 y)) whe
         go (inr j) = num-inf b c nonzero (omega (arith, p .number))
 
   -- ---- +infinity
-  from-infinity : b ≡ 2139095040 → T (not (isNan y)) → (c % 2147483648 ≡ 0 → ⊥) → powOf x y ≡ ofBits binary32 (infBits c)
-  from-infinity e ny n = of-numbers x y (number-of-bits x (omega arith)) ny ∙ at-num b c n other (omega arith) ∙ ap (ofBits binary32) (num-inf b c nonzero e)
+  from-infinity : b ≡ 2139095040 → T (not (isNan y)) → (c % 2147483648 ≡ 0 → ⊥)
+      → powOf x y ≡ ofBits binary32 (infBits c)
+  from-infinity e ny n =
+      of-numbers x y (number-of-bits x (omega arith)) ny ∙ at-num b c n other (omega arith)
+      ∙ ap (ofBits binary32) (num-inf b c nonzero e)
     where
       other : b ≡ 1065353216 → ⊥
       other k = omega arith
@@ -202,7 +214,10 @@ module _ (x y : Float) (fx : T (fits binary32 x)) (fy : T (fits binary32 y)) whe
 
   -- ---- a finite x above 0 and a finite y
   finite-is : Finite x y → Shown x y (powOf x y)
-  finite-is f = subst (Shown x y) (sym (of-numbers x y (number-of-bits x (omega (arith, f .finite))) (number-of-bits y (omega (arith, f .number))) ∙ at-regular b c (f .positive) (f .finite) (f .number))) (finite-law x y fx fy f)
+  finite-is f =
+      subst (Shown x y) (sym (of-numbers x y (number-of-bits x (omega (arith, f .finite)))
+      (number-of-bits y (omega (arith, f .number))) ∙ at-regular b c (f .positive) (f .finite) (f .number)))
+      (finite-law x y fx fy f)
 
   pub pow-law : IsPow x y (powOf x y)
   pow-law = record {
@@ -215,12 +230,20 @@ module _ (x y : Float) (fx : T (fits binary32 x)) (fy : T (fits binary32 y)) whe
     zero-to-plus = zero-plus;
     of-one = from-one;
     to-zero = to-zero;
-    small-to-minus-infinity = λ p l e. small-power p (omega arith) l ∙ ap (ofBits binary32) (size-minus c (omega arith)) ∙ infinity-is;
-    large-to-minus-infinity = λ p l e. large-power p (omega arith) l ∙ ap (ofBits binary32) (inf-minus c (omega arith)) ∙ zero-is;
-    small-to-infinity = λ p l e. small-power p (omega arith) l ∙ ap (ofBits binary32) (size-plus c (omega arith)) ∙ zero-is;
-    large-to-infinity = λ p l e. large-power p (omega arith) l ∙ ap (ofBits binary32) (inf-plus c (omega arith)) ∙ infinity-is;
-    infinity-to-minus = λ e m. from-infinity e (minus-number y m) (minus-some m) ∙ ap (ofBits binary32) (inf-minus c (omega arith)) ∙ zero-is;
-    infinity-to-plus = λ e p. from-infinity e (plus-number p) (plus-some p) ∙ ap (ofBits binary32) (inf-plus c (omega (arith, p .number))) ∙ infinity-is;
+    small-to-minus-infinity =
+        λ p l e. small-power p (omega arith) l ∙ ap (ofBits binary32) (size-minus c (omega arith)) ∙ infinity-is;
+    large-to-minus-infinity =
+        λ p l e. large-power p (omega arith) l ∙ ap (ofBits binary32) (inf-minus c (omega arith)) ∙ zero-is;
+    small-to-infinity =
+        λ p l e. small-power p (omega arith) l ∙ ap (ofBits binary32) (size-plus c (omega arith)) ∙ zero-is;
+    large-to-infinity =
+        λ p l e. large-power p (omega arith) l ∙ ap (ofBits binary32) (inf-plus c (omega arith)) ∙ infinity-is;
+    infinity-to-minus =
+        λ e m. from-infinity e (minus-number y m) (minus-some m) ∙ ap (ofBits binary32) (inf-minus c (omega arith))
+        ∙ zero-is;
+    infinity-to-plus =
+        λ e p. from-infinity e (plus-number p) (plus-some p)
+        ∙ ap (ofBits binary32) (inf-plus c (omega (arith, p .number))) ∙ infinity-is;
     of-nan = from-nan;
     to-nan = λ t n. of-nan-y x y (nan-is y t) n;
     below = from-minus;

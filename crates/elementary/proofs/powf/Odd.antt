@@ -46,7 +46,9 @@ module _ (f d k : ℕ) (D : d < 8388608) (e : units f d ≡ (2 * k + 1) * 2 ^ 14
 
       small : (f : ℕ) → f < 127 → units f d < 2 ^ 149
       small zero h = lt-of-le-of-lt {m = 8388608} (omega arith) (lit< tt)
-      small (suc x) h = lt-of-le-of-lt (mul-le-mul {n₂ = 16777215} {m₂ = 2 ^ 125} (omega arith) (pow-mono {i = x} {j = 125} (omega arith))) (lit< tt)
+      small (suc x) h =
+          lt-of-le-of-lt (mul-le-mul {n₂ = 16777215} {m₂ = 2 ^ 125} (omega arith)
+          (pow-mono {i = x} {j = 125} (omega arith))) (lit< tt)
 
   -- from 2^24 on all are even
   not-high : 151 ≤ f → ⊥
@@ -76,17 +78,21 @@ shifted x d n h =
     same : (p y : ℕ) → n * p * y ≡ n * (p * y)
     same p y = omega arith
 
-digits-of : (f d k : ℕ) → 127 ≤ f → f < 151 → units f d ≡ (2 * k + 1) * 2 ^ 149 → d + 8388608 ≡ (2 * k + 1) * 2 ^ (150 - f)
+digits-of : (f d k : ℕ) → 127 ≤ f → f < 151 → units f d ≡ (2 * k + 1) * 2 ^ 149
+    → d + 8388608 ≡ (2 * k + 1) * 2 ^ (150 - f)
 digits-of zero d k h l e = absurd (none h)
   where
     none : 127 ≤ 0 → ⊥
     none h = omega arith
-digits-of (suc x) d k h l e = eq-of-mul-eq-mul-right (2 ^ x) (pow-pos x) (d + 8388608) ((2 * k + 1) * 2 ^ (150 - suc x)) (turn (2 ^ x) ∙ e ∙ sym (shifted x d (2 * k + 1) (omega arith)))
+digits-of (suc x) d k h l e =
+    eq-of-mul-eq-mul-right (2 ^ x) (pow-pos x) (d + 8388608) ((2 * k + 1) * 2 ^ (150 - suc x))
+    (turn (2 ^ x) ∙ e ∙ sym (shifted x d (2 * k + 1) (omega arith)))
   where
     turn : (y : ℕ) → (d + 8388608) * y ≡ (8388608 + d) * y
     turn y = omega arith
 
-of-digits : (f d k : ℕ) → 127 ≤ f → f < 151 → d + 8388608 ≡ (2 * k + 1) * 2 ^ (150 - f) → units f d ≡ (2 * k + 1) * 2 ^ 149
+of-digits : (f d k : ℕ) → 127 ≤ f → f < 151 → d + 8388608 ≡ (2 * k + 1) * 2 ^ (150 - f)
+    → units f d ≡ (2 * k + 1) * 2 ^ 149
 of-digits zero d k h l e = absurd (none h)
   where
     none : 127 ≤ 0 → ⊥
@@ -111,7 +117,10 @@ module _ (y : Float) (c : ℕ) (ey : y ≡ ofBits binary32 c) (l : c < 429496729
   value = fraction-is y (y-is .t) (units (a / 8388608) (a % 8388608)) (2 ^ 149) (y-is .hy)
 
   units-of : (k : ℕ) → HasValue y (signOf y) (2 * k + 1) 1 → units (a / 8388608) (a % 8388608) ≡ (2 * k + 1) * 2 ^ 149
-  units-of k v = eq-of-mul-eq-mul-right (den y) (den-pos y) (units (a / 8388608) (a % 8388608)) ((2 * k + 1) * 2 ^ 149) (go (num y) (den y) (units (a / 8388608) (a % 8388608)) (2 ^ 149) (fraction-is y (signOf y) (2 * k + 1) 1 v) value)
+  units-of k v =
+      eq-of-mul-eq-mul-right (den y) (den-pos y) (units (a / 8388608) (a % 8388608)) ((2 * k + 1) * 2 ^ 149)
+      (go (num y) (den y) (units (a / 8388608) (a % 8388608)) (2 ^ 149) (fraction-is y (signOf y) (2 * k + 1) 1 v)
+      value)
     where
       go : (n m u t : ℕ) → n * 1 ≡ (2 * k + 1) * m → n * t ≡ u * m → u * m ≡ (2 * k + 1) * t * m
       go n m u t e v = omega (arith, ap (λ (z : ℕ). z * t) e)
@@ -120,12 +129,18 @@ module _ (y : Float) (c : ℕ) (ey : y ≡ ofBits binary32 c) (l : c < 429496729
   of-units k e = go y (y-is .t) sign-y (y-is .hy)
     where
       last : (n m u t : ℕ) → 0 < t → u ≡ (2 * k + 1) * t → n * t ≡ u * m → n * 1 ≡ (2 * k + 1) * m
-      last n m u t T e v = eq-of-mul-eq-mul-right t T (n * 1) ((2 * k + 1) * m) (omega (arith, v, ap (λ (z : ℕ). z * m) e))
+      last n m u t T e v =
+          eq-of-mul-eq-mul-right t T (n * 1) ((2 * k + 1) * m) (omega (arith, v, ap (λ (z : ℕ). z * m) e))
 
-      go : (y : Float) (t : Bool) → signOf y ≡ t → HasValue y t (units (a / 8388608) (a % 8388608)) (2 ^ 149) → HasValue y (signOf y) (2 * k + 1) 1
+      go : (y : Float) (t : Bool) → signOf y ≡ t → HasValue y t (units (a / 8388608) (a % 8388608)) (2 ^ 149)
+          → HasValue y (signOf y) (2 * k + 1) 1
       go nan t s v = v
       go (inf s) t _ v = v
-      go (fin s m x) t _ v = (refl, last (num (fin s m x)) (den (fin s m x)) (units (a / 8388608) (a % 8388608)) (2 ^ 149) (pow-pos 149) e (v .1))
+      go (fin s m x) t _ v = (
+        refl,
+        last (num (fin s m x)) (den (fin s m x)) (units (a / 8388608) (a % 8388608)) (2 ^ 149) (pow-pos 149) e
+            (v .1),
+      )
 
   odd-of : IsOdd y → isOdd a ≡ true
   odd-of o = go (lt-or-ge a 1065353216) (lt-or-ge a 1266679808)
@@ -136,7 +151,10 @@ module _ (y : Float) (c : ℕ) (ey : y ≡ ofBits binary32 c) (l : c < 429496729
       go : (a < 1065353216) ⊎ (1065353216 ≤ a) → (a < 1266679808) ⊎ (1266679808 ≤ a) → isOdd a ≡ true
       go (inl i) _ = absurd (not-low (a / 8388608) (a % 8388608) (o .0) (omega arith) e (omega arith))
       go (inr i) (inr j) = absurd (not-high (a / 8388608) (a % 8388608) (o .0) (omega arith) e (omega arith))
-      go (inr i) (inl j) = odd-mid a i j ∙ eq-eqb ((a % 8388608 + 8388608) % (2 ^ (150 - a / 8388608) * 2)) (2 ^ (150 - a / 8388608)) (rest-of (a % 8388608 + 8388608) (2 ^ (150 - a / 8388608)) (o .0) (pow-pos (150 - a / 8388608)) (digits-of (a / 8388608) (a % 8388608) (o .0) (omega arith) (omega arith) e))
+      go (inr i) (inl j) =
+          odd-mid a i j ∙ eq-eqb ((a % 8388608 + 8388608) % (2 ^ (150 - a / 8388608) * 2)) (2 ^ (150 - a / 8388608))
+          (rest-of (a % 8388608 + 8388608) (2 ^ (150 - a / 8388608)) (o .0) (pow-pos (150 - a / 8388608))
+          (digits-of (a / 8388608) (a % 8388608) (o .0) (omega arith) (omega arith) e))
 
   of-odd : isOdd a ≡ true → IsOdd y
   of-odd t = go (lt-or-ge a 1065353216) (lt-or-ge a 1266679808)
@@ -149,9 +167,13 @@ module _ (y : Float) (c : ℕ) (ey : y ≡ ofBits binary32 c) (l : c < 429496729
       go (inr i) (inr j) = absurd (true≢false (sym t ∙ odd-above a j))
       go (inr i) (inl j) =
           let r : (a % 8388608 + 8388608) % (2 ^ (150 - a / 8388608) * 2) ≡ 2 ^ (150 - a / 8388608) =
-          eqb→eq ((a % 8388608 + 8388608) % (2 ^ (150 - a / 8388608) * 2)) (2 ^ (150 - a / 8388608)) (subst T (sym t ∙ odd-mid a i j) tt) in
-          let k = (a % 8388608 + 8388608) / (2 ^ (150 - a / 8388608) * 2) in
-          (k, of-units k (of-digits (a / 8388608) (a % 8388608) k (omega arith) (omega arith) (of-rest (a % 8388608 + 8388608) (2 ^ (150 - a / 8388608)) r)))
+          eqb→eq ((a % 8388608 + 8388608) % (2 ^ (150 - a / 8388608) * 2)) (2 ^ (150 - a / 8388608))
+          (subst T (sym t ∙ odd-mid a i j) tt) in
+          let k = (a % 8388608 + 8388608) / (2 ^ (150 - a / 8388608) * 2) in (
+            k,
+            of-units k (of-digits (a / 8388608) (a % 8388608) k (omega arith) (omega arith)
+                (of-rest (a % 8388608 + 8388608) (2 ^ (150 - a / 8388608)) r)),
+          )
 
 -- ---- an infinity is not odd, and its pattern is not
 infinite : (y : Float) (c : ℕ) → y ≡ ofBits binary32 c → c < 4294967296 → c % 2147483648 ≡ 2139095040 → IsOdd y → ⊥
@@ -176,7 +198,8 @@ module _ (y : Float) (c : ℕ) (ey : y ≡ ofBits binary32 c) (l : c < 429496729
   pub not-odd : (IsOdd y → ⊥) → isOdd (c % 2147483648) ≡ false
   not-odd f = go (lt-or-ge (c % 2147483648) 2139095040) (isOdd (c % 2147483648)) refl
     where
-      go : (c % 2147483648 < 2139095040) ⊎ (2139095040 ≤ c % 2147483648) → (t : Bool) → isOdd (c % 2147483648) ≡ t → isOdd (c % 2147483648) ≡ false
+      go : (c % 2147483648 < 2139095040) ⊎ (2139095040 ≤ c % 2147483648) → (t : Bool) → isOdd (c % 2147483648) ≡ t
+          → isOdd (c % 2147483648) ≡ false
       go (inr i) t e = odd-above (c % 2147483648) (omega arith)
       go (inl i) true e = absurd (f (of-odd y c ey l i e))
       go (inl i) false e = e

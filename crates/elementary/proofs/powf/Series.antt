@@ -23,7 +23,8 @@ module _ (a b n m u v c d : ℕ) (B : 0 < b) (M : 0 < m) where
   below : ExpLe a b u v → ExpGe (n * a) (m * b) c d → c ^ m * v ^ n ≤ u ^ n * d ^ m
   below f g =
       cut (n * a) b (c ^ m) (d ^ m) (u ^ n) (v ^ n) B
-      (ge-same (m * (n * a)) (m * b) (n * a) b (c ^ m) (d ^ m) (mul-pos M B) same (ge-pow (m * b) (n * a) c d (mul-pos M B) g m))
+      (ge-same (m * (n * a)) (m * b) (n * a) b (c ^ m) (d ^ m) (mul-pos M B) same
+      (ge-pow (m * b) (n * a) c d (mul-pos M B) g m))
       (le-pow b a u v B f n)
 
   -- u / v ≤ e^(a / b) and e^(n a / (m b)) ≤ c / d
@@ -31,7 +32,8 @@ module _ (a b n m u v c d : ℕ) (B : 0 < b) (M : 0 < m) where
   above f g =
       cut (n * a) b (u ^ n) (v ^ n) (c ^ m) (d ^ m) B
       (ge-pow b a u v B f n)
-      (le-same (m * (n * a)) (m * b) (n * a) b (c ^ m) (d ^ m) (mul-pos M B) same (le-pow (m * b) (n * a) c d (mul-pos M B) g m))
+      (le-same (m * (n * a)) (m * b) (n * a) b (c ^ m) (d ^ m) (mul-pos M B) same
+      (le-pow (m * b) (n * a) c d (mul-pos M B) g m))
 
   flip : (p q r s : ℕ) → p * q ≤ r * s → q * p ≤ s * r
   flip p q r s h = omega arith
@@ -43,13 +45,15 @@ module _ (a b n m u v c d : ℕ) (B : 0 < b) (M : 0 < m) where
   above-swapped f g = flip (u ^ n) (d ^ m) (c ^ m) (v ^ n) (above f g)
 
 module _ (x y : Float) (a b c d : ℕ) (B : 0 < b) where
-  ge-cases : (s t : Bool) → LogGe (unlike s t) s x a b → SignedGe (unlike s t) (num y * a) (den y * b) c d → RatioGe t (num x) (den x) (num y) (den y) c d
+  ge-cases : (s t : Bool) → LogGe (unlike s t) s x a b → SignedGe (unlike s t) (num y * a) (den y * b) c d
+      → RatioGe t (num x) (den x) (num y) (den y) c d
   ge-cases false false l p = below a b (num y) (den y) (num x) (den x) c d B (den-pos y) l p
   ge-cases true false l p = above-swapped a b (num y) (den y) (den x) (num x) d c B (den-pos y) l p
   ge-cases false true l p = above-swapped a b (num y) (den y) (num x) (den x) d c B (den-pos y) l p
   ge-cases true true l p = below a b (num y) (den y) (den x) (num x) c d B (den-pos y) l p
 
-  le-cases : (s t : Bool) → LogLe (unlike s t) s x a b → SignedLe (unlike s t) (num y * a) (den y * b) c d → RatioLe t (num x) (den x) (num y) (den y) c d
+  le-cases : (s t : Bool) → LogLe (unlike s t) s x a b → SignedLe (unlike s t) (num y * a) (den y * b) c d
+      → RatioLe t (num x) (den x) (num y) (den y) c d
   le-cases false false l p = above a b (num y) (den y) (num x) (den x) c d B (den-pos y) l p
   le-cases true false l p = below-swapped a b (num y) (den y) (den x) (num x) d c B (den-pos y) l p
   le-cases false true l p = below-swapped a b (num y) (den y) (num x) (den x) d c B (den-pos y) l p

@@ -8,7 +8,8 @@ exp2m1-requires : tie.Need-exp2m1-requires
 exp2m1-requires c κs = search needs
 
 fit : (c : tie.After-exp2m1) → DigitsFit (c .before .args .w) (c .before .args .z) (c .exp2m1 .result)
-fit c = digits-fit (c .before .args .w) (c .before .args .z) (c .exp2m1 .result) (c .before .pre) (c .exp2m1 .ensures .0)
+fit c =
+    digits-fit (c .before .args .w) (c .before .args .z) (c .exp2m1 .result) (c .before .pre) (c .exp2m1 .ensures .0)
 
 mul-result : tie.Need-mul-result
 mul-result c = omega (arith, fit c .product)

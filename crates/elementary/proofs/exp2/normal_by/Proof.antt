@@ -16,12 +16,14 @@ normal-requires c κs = search needs
 float-from-bits-result : tie.Need-float-from-bits-result
 float-from-bits-result c =
     let s = c .before .before in
-    below-nan (c .normal .result) (le-trans (le-of-eq (c .normal .ensures)) (quick-le (s .args .z) (c .before .digits-by .result) (c .before .digits-by .ensures) (s .pre .0)))
+    below-nan (c .normal .result) (le-trans (le-of-eq (c .normal .ensures))
+    (quick-le (s .args .z) (c .before .digits-by .result) (c .before .digits-by .ensures) (s .pre .0)))
 
 returns : tie.Need-returns
 returns c =
     let s = c .before .before in
-    ap (ofBits binary32) (c .normal .ensures ∙ quick-is (s .args .z) (c .before .digits-by .result) (c .before .digits-by .ensures) (s .pre .0))
+    ap (ofBits binary32) (c .normal .ensures ∙ quick-is (s .args .z) (c .before .digits-by .result)
+    (c .before .digits-by .ensures) (s .pre .0))
 
 pub normal-by-spec : {M : Type 1} → statement M
 normal-by-spec =

@@ -19,12 +19,14 @@ normal-requires c κs = search needs
 float-from-bits-result : tie.Need-float-from-bits-result
 float-from-bits-result c =
     let s = c .before .before .before in
-    below-nan (c .normal .result) (le-trans (le-of-eq (c .normal .ensures)) (normal-le (s .args .z) (s .args .d) (s .pre) (c .before .if2 .taken)))
+    below-nan (c .normal .result) (le-trans (le-of-eq (c .normal .ensures))
+    (normal-le (s .args .z) (s .args .d) (s .pre) (c .before .if2 .taken)))
 
 returns : tie.Need-returns
 returns c =
     let s = c .before .before .before in
-    ap (ofBits binary32) (c .normal .ensures ∙ normal-is (s .args .z) (s .args .d) (s .pre) (c .before .before .if1 .taken) (c .before .if2 .taken))
+    ap (ofBits binary32) (c .normal .ensures ∙ normal-is (s .args .z) (s .args .d) (s .pre)
+    (c .before .before .if1 .taken) (c .before .if2 .taken))
 
 float-from-bits-result-2 : tie.Need-float-from-bits-result-2
 float-from-bits-result-2 c = below-nan 2139095040 (lit≤ tt)
@@ -50,7 +52,8 @@ cast-result c = search needs
 float-from-bits-result-3 : tie.Need-float-from-bits-result-3
 float-from-bits-result-3 c =
     let s = c .before .before in
-    below-nan ((s .args .d / 4294967296 + s .args .z / 4294967296 % 128 * 16777216 + 128) / 512) (le-trans (sub-le (s .args .z) (s .args .d) (s .pre)) (lit≤ tt))
+    below-nan ((s .args .d / 4294967296 + s .args .z / 4294967296 % 128 * 16777216 + 128) / 512)
+    (le-trans (sub-le (s .args .z) (s .args .d) (s .pre)) (lit≤ tt))
 
 returns-4 : tie.Need-returns-4
 returns-4 c =

@@ -12,13 +12,16 @@ power-at-requires c κs = search needs
 
 normal-by-requires : tie.Need-normal-by-requires
 normal-by-requires c κs =
-    let s = c .before .before in
-    (subst (λ (q : Bool). cond q (s .args .z) 0 < 139637976727552) (c .if1 .taken) (s .pre), c .before .power-at .ensures)
+    let s = c .before .before in (
+      subst (λ (q : Bool). cond q (s .args .z) 0 < 139637976727552) (c .if1 .taken) (s .pre),
+      c .before .power-at .ensures,
+    )
 
 returns : tie.Need-returns
 returns c =
     let z = c .before .before .before .args .z in
-    c .normal-by .ensures ∙ ap (λ (q : Bool). ofBits binary32 (exp2Bits (cond q (z + 36028797018963968) z))) (sym (c .before .if1 .taken))
+    c .normal-by .ensures ∙ ap (λ (q : Bool). ofBits binary32 (exp2Bits (cond q (z + 36028797018963968) z)))
+    (sym (c .before .if1 .taken))
 
 digits-by-requires : tie.Need-digits-by-requires
 digits-by-requires c κs = search needs
@@ -29,7 +32,8 @@ ranged-requires c κs = search needs
 returns-2 : tie.Need-returns-2
 returns-2 c =
     let z = c .before .before .before .before .args .z in
-    c .ranged .ensures ∙ ap (λ (q : Bool). ofBits binary32 (exp2Bits (cond q (z + 36028797018963968) z))) (sym (c .before .before .if1 .left))
+    c .ranged .ensures ∙ ap (λ (q : Bool). ofBits binary32 (exp2Bits (cond q (z + 36028797018963968) z)))
+    (sym (c .before .before .if1 .left))
 
 pub value-of-spec : {M : Type 1} → statement M
 value-of-spec =

@@ -34,7 +34,12 @@ div-line : tie.Need-div-line
 div-line c = search needs
 
 add-line : tie.Need-add-line
-add-line c = omega (arith, fits (c .large-height-at .result) (49570588694 / (512 + c .before .args .i)) (height-le c) (div-le-self 49570588694 (512 + c .before .args .i)))
+add-line c =
+    omega (
+      arith,
+      fits (c .large-height-at .result) (49570588694 / (512 + c .before .args .i)) (height-le c)
+          (div-le-self 49570588694 (512 + c .before .args .i)),
+    )
   where
     fits : (h q : ℕ) → h ≤ 3221225471 → q ≤ 49570588694 → h * 4294967296 + q < 18446744073709551616
     fits h q k l = omega arith
@@ -48,8 +53,13 @@ div-fine-log2-by c = mul-pos {m = 512 + c .before .args .i} (omega arith) (omega
 fine-log2-by-requires : tie.Need-fine-log2-by-requires
 unfolding lineWord slope curvature
 fine-log2-by-requires c κs =
-    let s = c .before in
-    (s .pre .0, s .pre .1, ap (λ (h : ℕ). h * 4294967296 + 49570588694 / (512 + s .args .i)) (height-is c), search needs)
+    let s = c .before in (
+      s .pre .0,
+      s .pre .1,
+      ap (λ (h : ℕ). h * 4294967296 + 49570588694 / (512 + s .args .i)) (height-is c),
+      search
+          needs,
+    )
 
 returns : tie.Need-returns
 returns c = search needs

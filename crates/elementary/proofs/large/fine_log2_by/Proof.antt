@@ -5,7 +5,8 @@ use Rattle.elementary.proofs.large.fine_log2_by.Statement.{statement}
 use Rattle.elementary.proofs.large.fine_log2_by.Tie as tie
 
 fit : (c : tie.Start) → FineFits (c .args .line) (c .args .bend) (c .args .i) (c .args .t)
-fit c = fine-fits (c .args .line) (c .args .bend) (c .args .i) (c .args .t) (c .pre .0) (c .pre .1) (c .pre .2) (c .pre .3)
+fit c =
+    fine-fits (c .args .line) (c .args .bend) (c .args .i) (c .args .t) (c .pre .0) (c .pre .1) (c .pre .2) (c .pre .3)
 
 mul-result : tie.Need-mul-result
 mul-result c = search needs

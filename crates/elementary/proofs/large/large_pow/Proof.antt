@@ -22,7 +22,10 @@ returns c =
     let s = c .before .before .before .before in
     let n = c .before .before .before .normalized in
     let q = c .before .before .squared in
-    c .large-value .ensures ∙ ap (ofBits binary32) (large-from (s .args .b) (s .args .c) (n .result) (q .result) (c .before .large-arg .result) (n .ensures) (q .ensures) (c .before .large-arg .ensures))
+    c .large-value .ensures ∙ ap (ofBits binary32)
+    (large-from (s .args .b) (s .args .c) (n .result) (q .result) (c .before .large-arg .result) (n .ensures)
+    (q .ensures) (c .before .large-arg .ensures))
 
 pub large-pow-spec : {M : Type 1} → statement M
-large-pow-spec = tie.close (tie.spec normalized-requires squared-requires large-arg-requires large-value-requires returns)
+large-pow-spec =
+    tie.close (tie.spec normalized-requires squared-requires large-arg-requires large-value-requires returns)

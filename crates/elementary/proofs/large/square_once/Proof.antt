@@ -11,7 +11,8 @@ square-requires c κs = search needs
 returns : tie.Need-returns
 returns c =
     let x = c .before .before .before .args .x in
-    c .square .ensures ∙ sym (squares-mid 0 x (c .before .before .if1 .taken) (c .before .if2 .taken) ∙ squares-zero (x * x / 1152921504606846976))
+    c .square .ensures ∙ sym (squares-mid 0 x (c .before .before .if1 .taken) (c .before .if2 .taken)
+    ∙ squares-zero (x * x / 1152921504606846976))
 
 returns-2 : tie.Need-returns-2
 returns-2 c = sym (squares-high 0 (c .before .before .args .x) (c .if2 .left))

@@ -39,14 +39,20 @@ returns-2 c =
     let s = c .before .before .before .before in
     let p = s .args .p in
     let r = start-range (p / 8388608) (8388608 + p % 8388608) (omega arith) (omega arith) (omega arith) (omega arith) in
-    c .squares .ensures ∙ ap (squares (s .args .c % 2147483648 / 8388608 - 133)) (mod-eq-of-lt (lt-of-lt-of-le (r .1) (lit≤ tt)))
-    ∙ sym (squared-2 p (s .args .c) (c .before .before .before .if1 .left) (c .before .before .if2 .taken) (c .before .if3 .taken))
+    c .squares .ensures ∙ ap (squares (s .args .c % 2147483648 / 8388608 - 133))
+    (mod-eq-of-lt (lt-of-lt-of-le (r .1) (lit≤ tt)))
+    ∙ sym (squared-2 p (s .args .c) (c .before .before .before .if1 .left) (c .before .before .if2 .taken)
+    (c .before .if3 .taken))
 
 returns-3 : tie.Need-returns-3
-returns-3 c = let s = c .before .before .before .before in sym (squared-3 (s .args .p) (s .args .c) (c .before .before .before .if1 .left) (c .if4 .taken) (c .before .if3 .left))
+returns-3 c =
+    let s = c .before .before .before .before in sym
+    (squared-3 (s .args .p) (s .args .c) (c .before .before .before .if1 .left) (c .if4 .taken) (c .before .if3 .left))
 
 returns-4 : tie.Need-returns-4
-returns-4 c = let s = c .before .before .before .before in sym (squared-4 (s .args .p) (s .args .c) (c .if4 .left) (c .before .before .if2 .taken) (c .before .if3 .left))
+returns-4 c =
+    let s = c .before .before .before .before in sym
+    (squared-4 (s .args .p) (s .args .c) (c .if4 .left) (c .before .before .if2 .taken) (c .before .if3 .left))
 
 returns-5 : tie.Need-returns-5
 returns-5 c = let s = c .before .before in sym (squared-5 (s .args .p) (s .args .c) (c .if2 .left))

@@ -31,15 +31,19 @@ loop-again c =
     let k = c .before .before .before .args .k in
     let i = c .before .before .loop .i in
     let y = c .before .before .loop .y in
-    let e : k - i ≡ suc (k - (i + 1)) = omega arith in
-    (omega arith, ap (squares (k - (i + 1))) (c .square-once .ensures) ∙ sym (one-more (k - (i + 1)) y) ∙ ap (λ (n : ℕ). squares n y) (sym e) ∙ c .before .before .loop .inv .1)
+    let e : k - i ≡ suc (k - (i + 1)) = omega arith in (
+      omega arith,
+      ap (squares (k - (i + 1))) (c .square-once .ensures) ∙ sym (one-more (k - (i + 1)) y)
+          ∙ ap (λ (n : ℕ). squares n y) (sym e) ∙ c .before .before .loop .inv .1,
+    )
 
 returns : tie.Need-returns Inv-loop μ-loop
 returns c =
     let k = c .before .before .args .k in
     let i = c .before .loop .i in
     let e : k - i ≡ 0 = omega arith in
-    sym (squares-zero (c .before .loop .y)) ∙ ap (λ (n : ℕ). squares n (c .before .loop .y)) (sym e) ∙ c .before .loop .inv .1
+    sym (squares-zero (c .before .loop .y)) ∙ ap (λ (n : ℕ). squares n (c .before .loop .y)) (sym e)
+    ∙ c .before .loop .inv .1
 
 pub squares-spec : {M : Type 1} → statement M
 squares-spec =

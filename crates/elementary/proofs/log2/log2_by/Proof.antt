@@ -43,4 +43,5 @@ returns c = fit c .is
 pub log2-by-spec : {M : Type 1} → statement M
 log2-by-spec =
     tie.close
-    (tie.spec cast-s cast-result mul-result mul-result-2 add-result mul-result-3 cast-result-2 mul-result-4 sub-result add-result-2 returns)
+    (tie.spec cast-s cast-result mul-result mul-result-2 add-result mul-result-3 cast-result-2 mul-result-4 sub-result
+    add-result-2 returns)

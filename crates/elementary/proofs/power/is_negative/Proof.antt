@@ -18,18 +18,23 @@ same c = go (lt-or-ge c 2147483648)
     no i k = omega arith
 
     go : (c < 2147483648) ⊎ (2147483648 ≤ c) → leb 2147483648 c ≡ not (ltb c 2147483648)
-    go (inl i) = rw (lt-ltb c 2147483648 i) (is-false (leb 2147483648 c) (not-T (leb 2147483648 c) (λ (u : T (leb 2147483648 c)). no i (leb→le 2147483648 c u))))
+    go (inl i) =
+        rw (lt-ltb c 2147483648 i) (is-false (leb 2147483648 c)
+        (not-T (leb 2147483648 c) (λ (u : T (leb 2147483648 c)). no i (leb→le 2147483648 c u))))
     go (inr i) = rw (le-ltb c 2147483648 i) (is-true (leb 2147483648 c) (le→leb 2147483648 c i))
 
 returns : tie.Need-returns
-returns c = rw (lt-ltb (c .before .args .l) (c .before .args .n) (c .if1 .taken)) (go (ltb (c .before .args .c) 2147483648))
+returns c =
+    rw (lt-ltb (c .before .args .l) (c .before .args .n) (c .if1 .taken)) (go (ltb (c .before .args .c) 2147483648))
   where
     go : (t : Bool) → t ≡ unlike true (not t)
     go true = refl
     go false = refl
 
 returns-2 : tie.Need-returns-2
-returns-2 c = rw (le-ltb (c .before .args .l) (c .before .args .n) (c .if1 .left), same (c .before .args .c)) (go (not (ltb (c .before .args .c) 2147483648)))
+returns-2 c =
+    rw (le-ltb (c .before .args .l) (c .before .args .n) (c .if1 .left), same (c .before .args .c))
+    (go (not (ltb (c .before .args .c) 2147483648)))
   where
     go : (t : Bool) → t ≡ unlike false t
     go true = refl

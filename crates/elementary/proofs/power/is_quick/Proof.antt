@@ -16,7 +16,8 @@ add-result c = search needs
 returns : tie.Need-returns
 returns c t =
     let s = c .before .before in
-    quick-from (s .args .b) (s .args .c) (c .before .wrapping-sub-u32 .result) (c .wrapping-sub-u322 .result) (omega arith) (omega arith) (c .before .wrapping-sub-u32 .ensures) (c .wrapping-sub-u322 .ensures) t
+    quick-from (s .args .b) (s .args .c) (c .before .wrapping-sub-u32 .result) (c .wrapping-sub-u322 .result)
+    (omega arith) (omega arith) (c .before .wrapping-sub-u32 .ensures) (c .wrapping-sub-u322 .ensures) t
 
 pub is-quick-spec : {M : Type 1} → statement M
 is-quick-spec =

@@ -10,13 +10,16 @@ sub-result : tie.Need-sub-result
 sub-result c = subst (λ (q : Bool). cond q 1065353216 0 ≤ c .before .args .b) (c .if1 .taken) (c .before .pre .2)
 
 returns : tie.Need-returns
-returns c = ap (λ (q : Bool). cond q (c .before .args .b - 1065353216) (normalized (c .before .args .b))) (sym (c .if1 .taken))
+returns c =
+    ap (λ (q : Bool). cond q (c .before .args .b - 1065353216) (normalized (c .before .args .b))) (sym (c .if1 .taken))
 
 normalized-requires : tie.Need-normalized-requires
 normalized-requires c κs = search needs
 
 returns-2 : tie.Need-returns-2
-returns-2 c = c .normalized .ensures ∙ ap (λ (q : Bool). cond q (c .before .before .args .b - 1065353216) (normalized (c .before .before .args .b))) (sym (c .before .if1 .left))
+returns-2 c =
+    c .normalized .ensures ∙ ap (λ (q : Bool). cond q (c .before .before .args .b - 1065353216)
+    (normalized (c .before .before .args .b))) (sym (c .before .if1 .left))
 
 pub pattern-of-spec : {M : Type 1} → statement M
 pattern-of-spec = tie.close (tie.spec sub-result returns normalized-requires returns-2)

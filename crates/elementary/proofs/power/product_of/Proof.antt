@@ -29,4 +29,5 @@ returns-2 : tie.Need-returns-2
 returns-2 c = product-none (c .before .args .g) (c .before .args .a) (c .before .pre .0) (c .if1 .left)
 
 pub product-of-spec : {M : Type 1} → statement M
-product-of-spec = tie.close (tie.spec add-result cast-result mul-result sub-result cast-result-2 shr-result returns returns-2)
+product-of-spec =
+    tie.close (tie.spec add-result cast-result mul-result sub-result cast-result-2 shr-result returns returns-2)

@@ -16,7 +16,8 @@ returns : tie.Need-returns
 unfolding signedArg
 returns c =
     let s = c .before .before in
-    ap (λ (b : Bool). cond b (36098066251513856 - s .args .u) (36098066251513856 + s .args .u)) (sym (c .if1 .taken) ∙ c .before .is-negative .ensures)
+    ap (λ (b : Bool). cond b (36098066251513856 - s .args .u) (36098066251513856 + s .args .u))
+    (sym (c .if1 .taken) ∙ c .before .is-negative .ensures)
 
 add-result : tie.Need-add-result
 add-result c = search needs
@@ -25,7 +26,8 @@ returns-2 : tie.Need-returns-2
 unfolding signedArg
 returns-2 c =
     let s = c .before .before in
-    ap (λ (b : Bool). cond b (36098066251513856 - s .args .u) (36098066251513856 + s .args .u)) (sym (c .if1 .left) ∙ c .before .is-negative .ensures)
+    ap (λ (b : Bool). cond b (36098066251513856 - s .args .u) (36098066251513856 + s .args .u))
+    (sym (c .if1 .left) ∙ c .before .is-negative .ensures)
 
 pub signed-arg-spec : {M : Type 1} → statement M
 signed-arg-spec = tie.close (tie.spec is-negative-requires sub-result returns add-result returns-2)

@@ -8,16 +8,35 @@ use Rattle.elementary.proofs.powf.is_near.Statement.{statement}
 use Rattle.elementary.proofs.powf.is_near.Tie as tie
 
 quick-near : (b c : ℕ) → Quick b c → Near b c
-quick-near b c q = record { positive = omega (arith, q .x-low); finite = omega (arith, q .x-high); small = omega (arith, q .y-low, q .y-high) }
+quick-near b c q =
+    record {
+      positive = omega (arith, q .x-low);
+      finite = omega (arith, q .x-high);
+      small = omega
+          (arith, q .y-low, q .y-high);
+    }
 
 returns : tie.Need-returns
-returns c = (λ _. quick-near (c .before .args .b) (c .before .args .c) (c .before .pre (c .if1 .taken)), λ e. absurd (true≢false e))
+returns c = (
+  λ _. quick-near (c .before .args .b) (c .before .args .c) (c .before .pre (c .if1 .taken)),
+  λ e. absurd
+      (true≢false e),
+)
 
 returns-2 : tie.Need-returns-2
 returns-2 c =
     let s = c .before .before .before in (
-      λ e. record { positive = c .before .if2 .taken; finite = c .if3 .taken; small = omega (arith, ltb→lt (s .args .c % 2147483648) 1124073473 (subst T (sym e) tt)) },
-      λ e n. omega (arith, nltb→le (s .args .c % 2147483648) 1124073473 (subst (λ (t : Bool). T (not t)) (sym e) tt), n .small),
+      λ e. record {
+        positive = c .before .if2 .taken;
+        finite = c .if3 .taken;
+        small = omega
+            (arith, ltb→lt (s .args .c % 2147483648) 1124073473 (subst T (sym e) tt));
+      },
+      λ e n. omega (
+        arith,
+        nltb→le (s .args .c % 2147483648) 1124073473 (subst (λ (t : Bool). T (not t)) (sym e) tt),
+        n .small,
+      ),
     )
 
 returns-3 : tie.Need-returns-3

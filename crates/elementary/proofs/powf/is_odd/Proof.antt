@@ -11,11 +11,13 @@ use Rattle.elementary.proofs.powf.is_odd.Statement.{statement}
 use Rattle.elementary.proofs.powf.is_odd.Tie as tie
 
 -- what the shift gives
-is : (c : tie.Then2) → 1 * 2 ^ (150 - c .before .before .args .a / 8388608) % 4294967296 ≡ 2 ^ (150 - c .before .before .args .a / 8388608)
+is : (c : tie.Then2) → 1 * 2 ^ (150 - c .before .before .args .a / 8388608) % 4294967296 ≡ 2 ^
+    (150 - c .before .before .args .a / 8388608)
 is c =
     let a = c .before .before .args .a in
     let h = power-fits a (c .before .if1 .left) in
-    ap (λ (z : ℕ). z % 4294967296) (one-mul (2 ^ (150 - a / 8388608))) ∙ mod-eq-of-lt (small (2 ^ (150 - a / 8388608)) h)
+    ap (λ (z : ℕ). z % 4294967296) (one-mul (2 ^ (150 - a / 8388608)))
+    ∙ mod-eq-of-lt (small (2 ^ (150 - a / 8388608)) h)
   where
     small : (n : ℕ) → n ≤ 8388608 → n < 4294967296
     small n h = omega arith
@@ -41,7 +43,8 @@ rem-result c = omega (arith, is c, pow-pos (150 - c .before .before .args .a / 8
 returns-2 : tie.Need-returns-2
 returns-2 c =
     let a = c .before .before .args .a in
-    ap (λ (p : ℕ). eqb ((a % 8388608 + 8388608) % (p * 2)) p) (is c) ∙ sym (odd-mid a (c .before .if1 .left) (c .if2 .taken))
+    ap (λ (p : ℕ). eqb ((a % 8388608 + 8388608) % (p * 2)) p) (is c)
+    ∙ sym (odd-mid a (c .before .if1 .left) (c .if2 .taken))
 
 returns-3 : tie.Need-returns-3
 returns-3 c = sym (odd-above (c .before .before .args .a) (c .if2 .left))

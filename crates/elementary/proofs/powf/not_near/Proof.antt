@@ -31,7 +31,9 @@ returns c =
     let p = c .before .before .before .before .if1 .taken in
     let f = c .before .before .before .if2 .taken in
     c .large-pow .ensures
-    ∙ sym (at-regular (s .args .b) (s .args .c) p f (c .before .before .if3 .taken) ∙ ap (ofBits binary32) (is-large (s .args .b) (s .args .c) (above (s .args .b) (s .args .c) (s .pre .2) p f) (c .before .if4 .taken)))
+    ∙ sym (at-regular (s .args .b) (s .args .c) p f (c .before .before .if3 .taken)
+    ∙ ap (ofBits binary32) (is-large (s .args .b) (s .args .c) (above (s .args .b) (s .args .c) (s .pre .2) p f)
+    (c .before .if4 .taken)))
 
 special-requires : tie.Need-special-requires
 special-requires c κs =

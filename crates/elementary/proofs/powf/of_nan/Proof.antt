@@ -38,7 +38,8 @@ float-from-bits-result-2 c = no-nan-bits 1065353216 (lit≤ tt)
 returns-4 : tie.Need-returns-4
 returns-4 c =
     let s = c .before .before in
-    sym (of-nan-x-zero (s .args .x) (s .args .y) (is-number (s .args .y) (c .before .if1 .left)) (s .pre (is-number (s .args .y) (c .before .if1 .left))) (c .if4 .taken))
+    sym (of-nan-x-zero (s .args .x) (s .args .y) (is-number (s .args .y) (c .before .if1 .left))
+    (s .pre (is-number (s .args .y) (c .before .if1 .left))) (c .if4 .taken))
 
 returns-5 : tie.Need-returns-5
 returns-5 c =
@@ -49,4 +50,5 @@ returns-5 c =
 pub of-nan-spec : {M : Type 1} → statement M
 of-nan-spec =
     tie.close
-    (tie.spec returns float-to-bits-if3 float-from-bits-result returns-2 returns-3 float-to-bits-if4 float-from-bits-result-2 returns-4 returns-5)
+    (tie.spec returns float-to-bits-if3 float-from-bits-result returns-2 returns-3 float-to-bits-if4
+    float-from-bits-result-2 returns-4 returns-5)

@@ -21,7 +21,8 @@ returns c =
     let s = c .before .before .before .before in
     let n = c .before .before .is-near .ensures .0 (c .before .if1 .taken) in
     c .near-pow .ensures
-    ∙ sym (at-regular (s .args .b) (s .args .c) (n .positive) (n .finite) (omega (arith, n .small)) ∙ ap (ofBits binary32) (is-near (s .args .b) (s .args .c) (omega (arith, n .small))))
+    ∙ sym (at-regular (s .args .b) (s .args .c) (n .positive) (n .finite) (omega (arith, n .small))
+    ∙ ap (ofBits binary32) (is-near (s .args .b) (s .args .c) (omega (arith, n .small))))
 
 not-near-requires : tie.Need-not-near-requires
 not-near-requires c κs =

@@ -17,8 +17,13 @@ unfolding isNan
 no-number x e n = subst (λ (v : Float). T (not (isNan v))) e n
 
 -- the law holds of what equals powOf x y
-answer : (c : tie.Start) (r : Float) → r ≡ powOf (c .args .x) (c .args .y) → (r ≡ powOf (c .args .x) (c .args .y)) × IsPow (c .args .x) (c .args .y) r
-answer c r e = (e, subst (IsPow (c .args .x) (c .args .y)) (sym e) (pow-law (c .args .x) (c .args .y) (subst T (sym (c .good .0 .1)) tt) (subst T (sym (c .good .1 .0 .1)) tt)))
+answer : (c : tie.Start) (r : Float) → r ≡ powOf (c .args .x) (c .args .y)
+    → (r ≡ powOf (c .args .x) (c .args .y)) × IsPow (c .args .x) (c .args .y) r
+answer c r e = (
+  e,
+  subst (IsPow (c .args .x) (c .args .y)) (sym e)
+      (pow-law (c .args .x) (c .args .y) (subst T (sym (c .good .0 .1)) tt) (subst T (sym (c .good .1 .0 .1)) tt)),
+)
 
 float-to-bits-of-numbers : tie.Need-float-to-bits-of-numbers
 float-to-bits-of-numbers c = equals-itself (c .before .before .args .x) (c .before .if1 .taken)
@@ -29,14 +34,17 @@ float-to-bits-of-numbers-2 c = equals-itself (c .before .before .args .y) (c .if
 of-numbers-requires : tie.Need-of-numbers-requires
 of-numbers-requires c κs =
     let s = c .before .before in (
-      bits-of-number (s .args .x) (subst T (sym (s .good .0 .1)) tt) (equals-itself (s .args .x) (c .before .if1 .taken)),
+      bits-of-number (s .args .x) (subst T (sym (s .good .0 .1)) tt)
+          (equals-itself (s .args .x) (c .before .if1 .taken)),
       bits-of-number (s .args .y) (subst T (sym (s .good .1 .0 .1)) tt) (equals-itself (s .args .y) (c .if2 .taken)),
     )
 
 returns : tie.Need-returns
 returns c =
     let s = c .before .before .before in
-    answer s (c .of-numbers .result) (c .of-numbers .ensures ∙ sym (of-numbers (s .args .x) (s .args .y) (equals-itself (s .args .x) (c .before .before .if1 .taken)) (equals-itself (s .args .y) (c .before .if2 .taken))))
+    answer s (c .of-numbers .result) (c .of-numbers .ensures
+    ∙ sym (of-numbers (s .args .x) (s .args .y) (equals-itself (s .args .x) (c .before .before .if1 .taken))
+    (equals-itself (s .args .y) (c .before .if2 .taken))))
 
 of-nan-requires : tie.Need-of-nan-requires
 of-nan-requires c κs =

@@ -27,23 +27,32 @@ returns-2 c = sym (at-one (c .before .before .args .b) (c .before .before .args 
 returns-3 : tie.Need-returns-3
 returns-3 c =
     let s = c .before .before .before in
-    zero-by-zero ∙ sym (at-below (s .args .b) (s .args .c) (c .before .before .if1 .left) (c .before .if2 .left) (c .if3 .taken))
+    zero-by-zero ∙ sym (at-below (s .args .b) (s .args .c) (c .before .before .if1 .left) (c .before .if2 .left)
+    (c .if3 .taken))
 
 special-bits-requires : tie.Need-special-bits-requires
 special-bits-requires c κs =
     let s = c .before .before .before in
-    let p = s .pre in
-    (c .if3 .left, p .x-number, p .y-number, λ l h. p .infinite l h (c .before .if2 .left) (c .before .before .if1 .left))
+    let p = s .pre in (
+      c .if3 .left,
+      p .x-number,
+      p .y-number,
+      λ l h. p .infinite l h (c .before .if2 .left)
+          (c .before .before .if1 .left),
+    )
 
 float-from-bits-result-3 : tie.Need-float-from-bits-result-3
 float-from-bits-result-3 c =
     let s = c .before .before .before .before in
-    no-nan-bits (c .special-bits .result) (subst (λ (i : ℕ). i % 2147483648 ≤ 2139095040) (sym (c .special-bits .ensures)) (num-mod (s .args .b) (s .args .c) (c .before .if3 .left)))
+    no-nan-bits (c .special-bits .result) (subst (λ (i : ℕ). i % 2147483648 ≤ 2139095040)
+    (sym (c .special-bits .ensures)) (num-mod (s .args .b) (s .args .c) (c .before .if3 .left)))
 
 returns-4 : tie.Need-returns-4
 returns-4 c =
     let s = c .before .before .before .before in
-    ap (ofBits binary32) (c .special-bits .ensures) ∙ sym (at-num (s .args .b) (s .args .c) (c .before .before .before .if1 .left) (c .before .before .if2 .left) (c .before .if3 .left))
+    ap (ofBits binary32) (c .special-bits .ensures)
+    ∙ sym (at-num (s .args .b) (s .args .c) (c .before .before .before .if1 .left) (c .before .before .if2 .left)
+    (c .before .if3 .left))
 
 pub special-spec : {M : Type 1} → statement M
 special-spec =
