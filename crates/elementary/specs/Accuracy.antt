@@ -125,7 +125,7 @@ pub record IsPow (x y r : Float) : Type 0 where
   -- pow(1, y) and pow(x, ±0) are 1, even with a NaN
   pub of-one : IsOne x → r ≡ ofBits binary32 0x3F800000
   pub to-zero : IsZero y → r ≡ ofBits binary32 0x3F800000
-  -- pow(x, ±infinity) for x from +0 to 1, and above 1
+  -- pow(x, ±infinity) for x above 0 and below 1, and above 1
   pub small-to-minus-infinity : IsPlus x → toBits binary32 x < 0x3F800000 → toBits binary32 y ≡ 0xFF800000
       → r ≡ inf false
   pub large-to-minus-infinity : IsPlus x → 0x3F800000 < toBits binary32 x → toBits binary32 y ≡ 0xFF800000

@@ -93,23 +93,23 @@ above-le a b j o l h f =
     (le-trans (past a b (2 ^ j) o l 4 1 (2 ^ 128) 3 (lit≤ tt) (lit< tt) (pow-pos j)
     (le-trans h (le-of-eq (sym (one-mul (a ^ (2 ^ j)))))) f (lit≤ tt)) (le-of-eq (mul-comm (a ^ o) (3 ^ l))))
 
-pub below-ge : (a b j o l : ℕ) → a ^ (2 ^ j) * 4294967296 ≤ b ^ (2 ^ j) * 1073741825 → l * 64 * 2 ^ j ≤ o
+pub below-ge : (a b j o l : ℕ) → a ^ (2 ^ j) * 2 ^ 32 ≤ b ^ (2 ^ j) * 1073741825 → l * 64 * 2 ^ j ≤ o
     → (3 * 2 ^ 126) ^ l * a ^ o ≤ b ^ o * 1 ^ l
 below-ge a b j o l h f =
-    past b a (2 ^ j) o l 4294967296 1073741825 (3 * 2 ^ 126) 1 (lit≤ tt) (lit< tt) (pow-pos j)
+    past b a (2 ^ j) o l (2 ^ 32) 1073741825 (3 * 2 ^ 126) 1 (lit≤ tt) (lit< tt) (pow-pos j)
     (flip (a ^ (2 ^ j)) (b ^ (2 ^ j)) h) f (lit≤ tt)
   where
-    flip : (x y : ℕ) → x * 4294967296 ≤ y * 1073741825 → 4294967296 * x ≤ 1073741825 * y
+    flip : (x y : ℕ) → x * 2 ^ 32 ≤ y * 1073741825 → 2 ^ 32 * x ≤ 1073741825 * y
     flip x y h = omega arith
 
-pub below-le : (a b j o l : ℕ) → a ^ (2 ^ j) * 4294967296 ≤ b ^ (2 ^ j) * 1073741825 → l * 64 * 2 ^ j ≤ o
+pub below-le : (a b j o l : ℕ) → a ^ (2 ^ j) * 2 ^ 32 ≤ b ^ (2 ^ j) * 1073741825 → l * 64 * 2 ^ j ≤ o
     → a ^ o * (2 ^ 128) ^ l ≤ 3 ^ l * b ^ o
 below-le a b j o l h f =
     le-trans (le-of-eq (mul-comm (a ^ o) ((2 ^ 128) ^ l)))
-    (le-trans (past b a (2 ^ j) o l 4294967296 1073741825 (2 ^ 128) 3 (lit≤ tt) (lit< tt) (pow-pos j)
+    (le-trans (past b a (2 ^ j) o l (2 ^ 32) 1073741825 (2 ^ 128) 3 (lit≤ tt) (lit< tt) (pow-pos j)
     (flip (a ^ (2 ^ j)) (b ^ (2 ^ j)) h) f (lit≤ tt)) (le-of-eq (mul-comm (b ^ o) (3 ^ l))))
   where
-    flip : (x y : ℕ) → x * 4294967296 ≤ y * 1073741825 → 4294967296 * x ≤ 1073741825 * y
+    flip : (x y : ℕ) → x * 2 ^ 32 ≤ y * 1073741825 → 2 ^ 32 * x ≤ 1073741825 * y
     flip x y h = omega arith
 
 -- ---- Bernoulli: a neighbour of 1 is 4 or more after 25 squares

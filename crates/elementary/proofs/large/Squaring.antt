@@ -66,28 +66,28 @@ high-step A B X Y q t e Q P y l h k f =
 
 -- ---- the state after i squares: 2^60 is 1152921504606846976, 2^57 144115188075855872, 2^58 288230376151711744
 pub record State (a b i X : ℕ) : Type 0 where
-  pub low : X * b ^ (2 ^ i) ≤ a ^ (2 ^ i) * 1152921504606846976
-  pub high : 288230376151711744 ≤ X → (e : ℕ) → e + 1 ≡ 2 ^ i
-      → a ^ (2 ^ i) * 1152921504606846976 * 144115188075855872 ≤ X * b ^ (2 ^ i) * (144115188075855872 + e)
-  pub small : X < 288230376151711744 → a ^ (2 ^ i) * 4294967296 ≤ b ^ (2 ^ i) * 1073741825
+  pub low : X * b ^ (2 ^ i) ≤ a ^ (2 ^ i) * 2 ^ 60
+  pub high : 2 ^ 58 ≤ X → (e : ℕ) → e + 1 ≡ 2 ^ i
+      → a ^ (2 ^ i) * 2 ^ 60 * 2 ^ 57 ≤ X * b ^ (2 ^ i) * (2 ^ 57 + e)
+  pub small : X < 2 ^ 58 → a ^ (2 ^ i) * 2 ^ 32 ≤ b ^ (2 ^ i) * 1073741825
 
 double : (a i : ℕ) → a ^ (2 ^ suc i) ≡ a ^ (2 ^ i) * a ^ (2 ^ i)
 double a i = ap (λ (n : ℕ). a ^ n) (two-pow-succ i) ∙ pow-add a (2 ^ i) (2 ^ i)
 
-step : (a b i X : ℕ) → i ≤ 24 → 288230376151711744 ≤ X → State a b i X → State a b (suc i) (X * X / 1152921504606846976)
+step : (a b i X : ℕ) → i ≤ 24 → 2 ^ 58 ≤ X → State a b i X → State a b (suc i) (X * X / 2 ^ 60)
 step a b i X I l s =
-    let q : ℕ = 1152921504606846976 in
-    let t : ℕ = 144115188075855872 in
+    let q : ℕ = 2 ^ 60 in
+    let t : ℕ = 2 ^ 57 in
     let Y = X * X / q in
     let A = a ^ (2 ^ i) in
     let B = b ^ (2 ^ i) in
     let f = floor (X * X) q (lit< tt) in
-    let E : 2 ^ i ≤ 16777216 = pow-mono {i = i} {j = 24} I in
+    let E : 2 ^ i ≤ 2 ^ 24 = pow-mono {i = i} {j = 24} I in
     let e = 2 ^ i - 1 in
     let ee : e + 1 ≡ 2 ^ i = omega (arith, pow-pos i) in
     let up : X * X ≤ (Y + 1) * q = lt-le (f .1) in
     let h : A * q * t ≤ X * B * (t + e) = s .high l e ee in
-    let e1 : e ≤ 16777216 = omega arith in
+    let e1 : e ≤ 2 ^ 24 = omega arith in
     let e2 : 4 * (e * e) ≤ t = le-trans (mul-le-mul-left 4 (mul-le-mul e1 e1)) (lit≤ tt) in
     record {
       low = rw (double a i, double b i) (low-step A B X Y q (lit< tt) (f .0) (s .low));
@@ -103,83 +103,83 @@ step a b i X I l s =
     next : (e g : ℕ) → e + 1 ≡ 2 ^ i → g + 1 ≡ 2 ^ suc i → 2 * e + 1 ≡ g
     next e g p r = omega (arith, two-pow-succ i)
 
-    last : (A B Y e : ℕ) → Y < 288230376151711744 → e ≤ 16777216
-        → A * A * 1152921504606846976 * (144115188075855872 * 144115188075855872) ≤ (Y + 1) * (B * B)
-        * ((144115188075855872 + e) * (144115188075855872 + e))
-        → A * A * 4294967296 ≤ B * B * 1073741825
+    last : (A B Y e : ℕ) → Y < 2 ^ 58 → e ≤ 2 ^ 24
+        → A * A * 2 ^ 60 * (2 ^ 57 * 2 ^ 57) ≤ (Y + 1) * (B * B)
+        * ((2 ^ 57 + e) * (2 ^ 57 + e))
+        → A * A * 2 ^ 32 ≤ B * B * 1073741825
     last A B Y e k l h =
-        let y : Y + 1 ≤ 288230376151711744 = omega arith in
-        let t1 : 144115188075855872 + e ≤ 144115188092633088 = omega arith in
-        let m : (Y + 1) * (B * B) * ((144115188075855872 + e) * (144115188075855872 + e)) ≤ 288230376151711744 * (B * B)
+        let y : Y + 1 ≤ 2 ^ 58 = omega arith in
+        let t1 : 2 ^ 57 + e ≤ 144115188092633088 = omega arith in
+        let m : (Y + 1) * (B * B) * ((2 ^ 57 + e) * (2 ^ 57 + e)) ≤ 2 ^ 58 * (B * B)
         * (144115188092633088 * 144115188092633088) = mul-le-mul (mul-le-mul-right (B * B) y) (mul-le-mul t1 t1) in
         finish (A * A) (B * B) (le-trans h m)
       where
-        finish : (x y : ℕ) → x * 1152921504606846976 * (144115188075855872 * 144115188075855872) ≤ 288230376151711744
-            * y * (144115188092633088 * 144115188092633088) → x * 4294967296 ≤ y * 1073741825
+        finish : (x y : ℕ) → x * 2 ^ 60 * (2 ^ 57 * 2 ^ 57) ≤ 2 ^ 58
+            * y * (144115188092633088 * 144115188092633088) → x * 2 ^ 32 ≤ y * 1073741825
         finish x y h =
             le-of-mul-le-mul-right {k = 2 ^ 142}
-            (le-trans (le-of-eq (mul-assoc x 4294967296 (2 ^ 142)))
-            (le-trans (le-of-eq (sym (mul-assoc x 1152921504606846976 (144115188075855872 * 144115188075855872))))
+            (le-trans (le-of-eq (mul-assoc x (2 ^ 32) (2 ^ 142)))
+            (le-trans (le-of-eq (sym (mul-assoc x (2 ^ 60) (2 ^ 57 * 2 ^ 57))))
             (le-trans h
             (le-trans (le-of-eq (ap (λ (z : ℕ). z * (144115188092633088 * 144115188092633088))
-            (mul-comm 288230376151711744 y) ∙ mul-assoc y 288230376151711744
+            (mul-comm (2 ^ 58) y) ∙ mul-assoc y (2 ^ 58)
             (144115188092633088 * 144115188092633088)))
             (le-trans (mul-le-mul-left y (lit≤ tt)) (le-of-eq (sym (mul-assoc y 1073741825 (2 ^ 142)))))))))
             (pow-pos 142)
 
 -- ---- k more squares
 pub data Result (a b n X : ℕ) : Type 0 where
-  kept : 288230376151711744 ≤ X → X < 4611686018427387904 → State a b n X → Result a b n X
-  above : 4611686018427387904 ≤ X → (j : ℕ) → j ≤ n → 4 * b ^ (2 ^ j) ≤ a ^ (2 ^ j) → Result a b n X
-  below : X < 288230376151711744 → (j : ℕ) → j ≤ n → a ^ (2 ^ j) * 4294967296 ≤ b ^ (2 ^ j) * 1073741825
+  kept : 2 ^ 58 ≤ X → X < 2 ^ 62 → State a b n X → Result a b n X
+  above : 2 ^ 62 ≤ X → (j : ℕ) → j ≤ n → 4 * b ^ (2 ^ j) ≤ a ^ (2 ^ j) → Result a b n X
+  below : X < 2 ^ 58 → (j : ℕ) → j ≤ n → a ^ (2 ^ j) * 2 ^ 32 ≤ b ^ (2 ^ j) * 1073741825
       → Result a b n X
 
 pub squares-zero : (X : ℕ) → squares 0 X ≡ X
 unfolding squares
 squares-zero X = refl
 
-pub squares-low : (k X : ℕ) → X < 288230376151711744 → squares (suc k) X ≡ X
+pub squares-low : (k X : ℕ) → X < 2 ^ 58 → squares (suc k) X ≡ X
 unfolding squares
-squares-low k X h = simp (lt-ltb X 288230376151711744 h)
+squares-low k X h = simp (lt-ltb X (2 ^ 58) h)
 
-pub squares-high : (k X : ℕ) → 4611686018427387904 ≤ X → squares (suc k) X ≡ X
+pub squares-high : (k X : ℕ) → 2 ^ 62 ≤ X → squares (suc k) X ≡ X
 unfolding squares
-squares-high k X h = simp (le-ltb X 288230376151711744 (le-trans (lit≤ tt) h), le-ltb X 4611686018427387904 h)
+squares-high k X h = simp (le-ltb X (2 ^ 58) (le-trans (lit≤ tt) h), le-ltb X (2 ^ 62) h)
 
-pub squares-mid : (k X : ℕ) → 288230376151711744 ≤ X → X < 4611686018427387904
-    → squares (suc k) X ≡ squares k (X * X / 1152921504606846976)
+pub squares-mid : (k X : ℕ) → 2 ^ 58 ≤ X → X < 2 ^ 62
+    → squares (suc k) X ≡ squares k (X * X / 2 ^ 60)
 unfolding squares
-squares-mid k X h l = simp (le-ltb X 288230376151711744 h, lt-ltb X 4611686018427387904 l)
+squares-mid k X h l = simp (le-ltb X (2 ^ 58) h, lt-ltb X (2 ^ 62) l)
 
-four : (a b i X : ℕ) → State a b i X → 4611686018427387904 ≤ X → 4 * b ^ (2 ^ i) ≤ a ^ (2 ^ i)
+four : (a b i X : ℕ) → State a b i X → 2 ^ 62 ≤ X → 4 * b ^ (2 ^ i) ≤ a ^ (2 ^ i)
 four a b i X s h = last (a ^ (2 ^ i)) (b ^ (2 ^ i)) (le-trans (mul-le-mul-right (b ^ (2 ^ i)) h) (s .low))
   where
-    last : (A B : ℕ) → 4611686018427387904 * B ≤ A * 1152921504606846976 → 4 * B ≤ A
+    last : (A B : ℕ) → 2 ^ 62 * B ≤ A * 2 ^ 60 → 4 * B ≤ A
     last A B h = omega arith
 
 pub run : (a b k i X : ℕ) → i + k ≤ 25 → State a b i X → Result a b (i + k) (squares k X)
-run a b zero i X I s = go (lt-or-ge X 288230376151711744) (lt-or-ge X 4611686018427387904)
+run a b zero i X I s = go (lt-or-ge X (2 ^ 58)) (lt-or-ge X (2 ^ 62))
   where
-    go : (X < 288230376151711744) ⊎ (288230376151711744 ≤ X) → (X < 4611686018427387904) ⊎ (4611686018427387904 ≤ X)
+    go : (X < 2 ^ 58) ⊎ (2 ^ 58 ≤ X) → (X < 2 ^ 62) ⊎ (2 ^ 62 ≤ X)
         → Result a b (i + 0) (squares 0 X)
     go (inl l) _ = rw (squares-zero X) (below l i (omega arith) (s .small l))
     go (inr l) (inr h) = rw (squares-zero X) (above h i (omega arith) (four a b i X s h))
     go (inr l) (inl h) = rw (squares-zero X, add-zero i) (kept l h s)
 run a b (suc k) i X I s =
-    go (lt-or-ge X 288230376151711744) (lt-or-ge X 4611686018427387904)
-    (λ st. run a b k (suc i) (X * X / 1152921504606846976) (omega arith) st)
+    go (lt-or-ge X (2 ^ 58)) (lt-or-ge X (2 ^ 62))
+    (λ st. run a b k (suc i) (X * X / 2 ^ 60) (omega arith) st)
   where
     turn : (i k : ℕ) → suc i + k ≡ i + suc k
     turn i k = omega arith
 
-    go : (X < 288230376151711744) ⊎ (288230376151711744 ≤ X) → (X < 4611686018427387904) ⊎ (4611686018427387904 ≤ X)
-        → (State a b (suc i) (X * X / 1152921504606846976)
-        → Result a b (suc i + k) (squares k (X * X / 1152921504606846976)))
+    go : (X < 2 ^ 58) ⊎ (2 ^ 58 ≤ X) → (X < 2 ^ 62) ⊎ (2 ^ 62 ≤ X)
+        → (State a b (suc i) (X * X / 2 ^ 60)
+        → Result a b (suc i + k) (squares k (X * X / 2 ^ 60)))
         → Result a b (i + suc k) (squares (suc k) X)
     go (inl l) _ more = rw (squares-low k X l) (below l i (omega arith) (s .small l))
     go (inr l) (inr h) more = rw (squares-high k X h) (above h i (omega arith) (four a b i X s h))
     go (inr l) (inl h) more =
-        rw (squares-mid k X l h) (subst (λ (n : ℕ). Result a b n (squares k (X * X / 1152921504606846976))) (turn i k)
+        rw (squares-mid k X l h) (subst (λ (n : ℕ). Result a b n (squares k (X * X / 2 ^ 60))) (turn i k)
         (more (step a b i X (omega arith) l s)))
 
 -- ---- for the code: the square in 64 bits, and one square at a time
@@ -187,39 +187,39 @@ pub record SquareFits (h l x : ℕ) : Type 0 where
   pub first : h * h ≤ 4611686014132420609
   pub middle : h * l ≤ 4611686014132420609
   pub last : l * l ≤ 4611686014132420609
-  pub is : h * h * 4 + (h * l + l * l / 4294967296) / 268435456 ≡ x * x / 1152921504606846976
+  pub is : h * h * 4 + (h * l + l * l / 2 ^ 32) / 2 ^ 28 ≡ x * x / 2 ^ 60
 
-pub square-is : (x : ℕ) → x < 4611686018427387904 → SquareFits (x / 2147483648) (x % 2147483648) x
-square-is x X = go (x / 2147483648) (x % 2147483648) (omega arith) (omega arith) (omega arith)
+pub square-is : (x : ℕ) → x < 2 ^ 62 → SquareFits (x / 2 ^ 31) (x % 2 ^ 31) x
+square-is x X = go (x / 2 ^ 31) (x % 2 ^ 31) (omega arith) (omega arith) (omega arith)
   where
-    go : (h l : ℕ) → h ≤ 2147483647 → l ≤ 2147483647 → x ≡ h * 2147483648 + l → SquareFits h l x
+    go : (h l : ℕ) → h ≤ 2147483647 → l ≤ 2147483647 → x ≡ h * 2 ^ 31 + l → SquareFits h l x
     go h l a b e =
         record {
           first = mul-le-mul a a;
           middle = mul-le-mul a b;
           last = mul-le-mul b b;
           is = rw e
-              (parts (h * h) (h * l) (l * l) ((h * 2147483648 + l) * (h * 2147483648 + l)) (omega arith));
+              (parts (h * h) (h * l) (l * l) ((h * 2 ^ 31 + l) * (h * 2 ^ 31 + l)) (omega arith));
         }
       where
-        parts : (p q r s : ℕ) → s ≡ p * 4611686018427387904 + q * 4294967296 + r
-            → p * 4 + (q + r / 4294967296) / 268435456 ≡ s / 1152921504606846976
+        parts : (p q r s : ℕ) → s ≡ p * 2 ^ 62 + q * 2 ^ 32 + r
+            → p * 4 + (q + r / 2 ^ 32) / 2 ^ 28 ≡ s / 2 ^ 60
         parts p q r s e = omega arith
 
-stay-low : (k X : ℕ) → X < 288230376151711744 → squares k X ≡ X
+stay-low : (k X : ℕ) → X < 2 ^ 58 → squares k X ≡ X
 stay-low zero X h = squares-zero X
 stay-low (suc k) X h = squares-low k X h
 
-stay-high : (k X : ℕ) → 4611686018427387904 ≤ X → squares k X ≡ X
+stay-high : (k X : ℕ) → 2 ^ 62 ≤ X → squares k X ≡ X
 stay-high zero X h = squares-zero X
 stay-high (suc k) X h = squares-high k X h
 
 pub one-more : (k X : ℕ) → squares (suc k) X ≡ squares k (squares 1 X)
-one-more k X = go (lt-or-ge X 288230376151711744) (lt-or-ge X 4611686018427387904)
+one-more k X = go (lt-or-ge X (2 ^ 58)) (lt-or-ge X (2 ^ 62))
   where
-    go : (X < 288230376151711744) ⊎ (288230376151711744 ≤ X) → (X < 4611686018427387904) ⊎ (4611686018427387904 ≤ X)
+    go : (X < 2 ^ 58) ⊎ (2 ^ 58 ≤ X) → (X < 2 ^ 62) ⊎ (2 ^ 62 ≤ X)
         → squares (suc k) X ≡ squares k (squares 1 X)
     go (inl l) _ = squares-low k X l ∙ sym (ap (squares k) (squares-low 0 X l) ∙ stay-low k X l)
     go (inr l) (inr h) = squares-high k X h ∙ sym (ap (squares k) (squares-high 0 X h) ∙ stay-high k X h)
     go (inr l) (inl h) =
-        squares-mid k X l h ∙ sym (ap (squares k) (squares-mid 0 X l h ∙ squares-zero (X * X / 1152921504606846976)))
+        squares-mid k X l h ∙ sym (ap (squares k) (squares-mid 0 X l h ∙ squares-zero (X * X / 2 ^ 60)))

@@ -2,33 +2,33 @@
 -- number of digits.
 use mathlib.Core.Path.{_≡_, ap, subst}
 use mathlib.Core.Logic.{_⊎_, inl, inr}
-use Prim.Native.Nat.{ℕ, _+_, _-_, _*_, _≤_, _<_}
+use Prim.Native.Nat.{ℕ, _+_, _-_, _*_, _^_, _≤_, _<_}
 use native.Mathlib.Nat.{le-trans, le-of-eq, mul-pos, mul-le-mul-left, mul-le-mul-right}
 use native.Mathlib.Omega.{arith}
 use lib.Dec.{lit<, lit≤}
-use Rattle.series.specs.Exp.{sum, scale}
+use Rattle.series.specs.Exp.{sum, scale, ln2}
 use Rattle.series.proofs.Cuts.{lt-or-ge, le-below, ge-above}
 use Rattle.series.proofs.Two.{TwoLe, TwoGe, two-le-weaken, two-ge-weaken, two-ge-mul, two-le-quot, two-le-one, two-le-exp, two-ge-exp, ln2-le, ln2-ge}
 use Rattle.elementary.proofs.log2.Curve.{curve-le, curve-ge}
 
 -- 2^(3888119808 / 2^67) ≥ 1 + 2^-36, and 2^(12 / 2^35) ≥ 1 + 8.25 / 2^35
-spare : TwoGe 3888119808 147573952589676412928 68719476737 68719476736
+spare : TwoGe 3888119808 (2 ^ 67) 68719476737 (2 ^ 36)
 spare =
-    two-ge-exp 195103586505167 281474976710656 3888119808 147573952589676412928 68719476737 68719476736 (lit< tt)
+    two-ge-exp ln2 (2 ^ 48) 3888119808 (2 ^ 67) 68719476737 (2 ^ 36) (lit< tt)
     (lit< tt) ln2-le (1, unfold sum scale in lit≤ tt)
 
-room : TwoGe 51539607552 147573952589676412928 137438953505 137438953472
+room : TwoGe 51539607552 (2 ^ 67) 137438953505 (2 ^ 37)
 room =
-    two-ge-exp 195103586505167 281474976710656 51539607552 147573952589676412928 137438953505 137438953472 (lit< tt)
+    two-ge-exp ln2 (2 ^ 48) 51539607552 (2 ^ 67) 137438953505 (2 ^ 37) (lit< tt)
     (lit< tt) ln2-le (1, unfold sum scale in lit≤ tt)
 
-covers : (t D c : ℕ) → c + D ≡ 4294967296 * (D + t) → (D + t) * (4294967296 * D * 137438953472) ≤ c * 137438953505 * D
+covers : (t D c : ℕ) → c + D ≡ 2 ^ 32 * (D + t) → (D + t) * (2 ^ 32 * D * 2 ^ 37) ≤ c * 137438953505 * D
 covers t D c e = le-trans (le-of-eq (left t D)) (mul-le-mul-right D (go t D c e))
   where
-    go : (t D c : ℕ) → c + D ≡ 4294967296 * (D + t) → 590295810358705651712 * (D + t) ≤ c * 137438953505
+    go : (t D c : ℕ) → c + D ≡ 2 ^ 32 * (D + t) → 590295810358705651712 * (D + t) ≤ c * 137438953505
     go t D c e = omega arith
 
-    left : (t D : ℕ) → (D + t) * (4294967296 * D * 137438953472) ≡ 590295810358705651712 * (D + t) * D
+    left : (t D : ℕ) → (D + t) * (2 ^ 32 * D * 2 ^ 37) ≡ 590295810358705651712 * (D + t) * D
     left t D = omega arith
 
 -- multiples of an inequality between U, a and b
@@ -40,8 +40,8 @@ scaled-ge U a b u v n k l h x y = omega (arith, mul-le-mul-left n h, mul-le-mul-
 
 -- ---- the quadratic w at d = t / D, of any number of digits
 module _ (t D w : ℕ) (small : t * 512 ≤ D) (D-pos : 0 < D) where
-  pub line-below : w * (D * D) + 395790452196 * 268435456 * (t * t) ≤ 49570588694 * 4294967296 * (t * D)
-      → TwoLe (w - 3888119808) 147573952589676412928 (D + t) D
+  pub line-below : w * (D * D) + 395790452196 * 2 ^ 28 * (t * t) ≤ 49570588694 * 2 ^ 32 * (t * D)
+      → TwoLe (w - 3888119808) (2 ^ 67) (D + t) D
   line-below h = go (lt-or-ge w 3888119808)
     where
       p : ℕ
@@ -50,58 +50,58 @@ module _ (t D w : ℕ) (small : t * 512 ≤ D) (D-pos : 0 < D) where
       ep : p + 535822336 * (t * t) ≡ 1073741056 * (t * D)
       ep = omega (arith, mul-le-mul-left t small)
 
-      order : w * 195103586505168 * (1073741824 * (D * D)) ≤ p * 41538374868278621028243970633760768
+      order : w * (ln2 + 1) * (2 ^ 30 * (D * D)) ≤ p * 41538374868278621028243970633760768
       order =
           last (w * (D * D)) (t * D) (t * t) 41538374868278621028243970633760768
-          (scaled-le (w * (D * D)) (t * D) (t * t) (49570588694 * 4294967296) (395790452196 * 268435456)
-          (1073741824 * 195103586505168) (1073741056 * 41538374868278621028243970633760768)
+          (scaled-le (w * (D * D)) (t * D) (t * t) (49570588694 * 2 ^ 32) (395790452196 * 2 ^ 28)
+          (2 ^ 30 * (ln2 + 1)) (1073741056 * 41538374868278621028243970633760768)
           (535822336 * 41538374868278621028243970633760768) h (lit≤ tt) (lit≤ tt))
           ep (omega arith)
         where
-          last : (U a b h : ℕ) → 1073741824 * 195103586505168 * U + 535822336 * h * b ≤ 1073741056 * h * a
+          last : (U a b h : ℕ) → 2 ^ 30 * (ln2 + 1) * U + 535822336 * h * b ≤ 1073741056 * h * a
               → p + 535822336 * b ≡ 1073741056 * a
-              → w * 195103586505168 * (1073741824 * (D * D)) ≡ 1073741824 * 195103586505168 * U
-              → w * 195103586505168 * (1073741824 * (D * D)) ≤ p * h
+              → w * (ln2 + 1) * (2 ^ 30 * (D * D)) ≡ 2 ^ 30 * (ln2 + 1) * U
+              → w * (ln2 + 1) * (2 ^ 30 * (D * D)) ≤ p * h
           last U a b h g e k = rw k (omega (arith, ap (λ (z : ℕ). z * h) e))
 
-      by-two : TwoLe w 147573952589676412928 (68719476736 * (D + t) + D) (68719476736 * D)
+      by-two : TwoLe w (2 ^ 67) (2 ^ 36 * (D + t) + D) (2 ^ 36 * D)
       by-two =
-          two-le-exp 195103586505168 281474976710656 w 147573952589676412928 (68719476736 * (D + t) + D)
-          (68719476736 * D) (lit< tt) (lit< tt) ln2-ge
-          (le-below (w * 195103586505168) 41538374868278621028243970633760768 p (1073741824 * (D * D))
-          (68719476736 * (D + t) + D) (68719476736 * D) (lit< tt) (mul-pos (lit< tt) (mul-pos D-pos D-pos))
+          two-le-exp (ln2 + 1) (2 ^ 48) w (2 ^ 67) (2 ^ 36 * (D + t) + D)
+          (2 ^ 36 * D) (lit< tt) (lit< tt) ln2-ge
+          (le-below (w * (ln2 + 1)) 41538374868278621028243970633760768 p (2 ^ 30 * (D * D))
+          (2 ^ 36 * (D + t) + D) (2 ^ 36 * D) (lit< tt) (mul-pos (lit< tt) (mul-pos D-pos D-pos))
           order (curve-le t D small D-pos p ep))
 
-      go : (w < 3888119808) ⊎ (3888119808 ≤ w) → TwoLe (w - 3888119808) 147573952589676412928 (D + t) D
+      go : (w < 3888119808) ⊎ (3888119808 ≤ w) → TwoLe (w - 3888119808) (2 ^ 67) (D + t) D
       go (inl l) =
-          subst (λ (z : ℕ). TwoLe z 147573952589676412928 (D + t) D) (none l)
-          (two-le-one 147573952589676412928 (D + t) D (omega arith))
+          subst (λ (z : ℕ). TwoLe z (2 ^ 67) (D + t) D) (none l)
+          (two-le-one (2 ^ 67) (D + t) D (omega arith))
         where
           none : w < 3888119808 → 0 ≡ w - 3888119808
           none l = omega arith
       go (inr l) =
-          two-le-weaken (w - 3888119808) 147573952589676412928 ((68719476736 * (D + t) + D) * 68719476736)
-          (68719476736 * D * 68719476737) (D + t) D (mul-pos (mul-pos (lit< tt) D-pos) (lit< tt)) (flat t D)
-          (two-le-quot 147573952589676412928 (w - 3888119808) 3888119808 (68719476736 * (D + t) + D) (68719476736 * D)
-          68719476737 68719476736
-          (subst (λ (z : ℕ). TwoLe z 147573952589676412928 (68719476736 * (D + t) + D) (68719476736 * D)) (whole l)
+          two-le-weaken (w - 3888119808) (2 ^ 67) ((2 ^ 36 * (D + t) + D) * 2 ^ 36)
+          (2 ^ 36 * D * 68719476737) (D + t) D (mul-pos (mul-pos (lit< tt) D-pos) (lit< tt)) (flat t D)
+          (two-le-quot (2 ^ 67) (w - 3888119808) 3888119808 (2 ^ 36 * (D + t) + D) (2 ^ 36 * D)
+          68719476737 (2 ^ 36)
+          (subst (λ (z : ℕ). TwoLe z (2 ^ 67) (2 ^ 36 * (D + t) + D) (2 ^ 36 * D)) (whole l)
           by-two) spare)
         where
           whole : 3888119808 ≤ w → w ≡ w - 3888119808 + 3888119808
           whole l = omega arith
 
-          flat : (t D : ℕ) → (68719476736 * (D + t) + D) * 68719476736 * D ≤ (D + t) * (68719476736 * D * 68719476737)
+          flat : (t D : ℕ) → (2 ^ 36 * (D + t) + D) * 2 ^ 36 * D ≤ (D + t) * (2 ^ 36 * D * 68719476737)
           flat t D = omega arith
 
-  pub line-above : 49570588694 * 4294967296 * (t * D) ≤ w * (D * D) + 395790452196 * 268435456 * (t * t)
-      → TwoGe (w + 51539607552) 147573952589676412928 (D + t) D
+  pub line-above : 49570588694 * 2 ^ 32 * (t * D) ≤ w * (D * D) + 395790452196 * 2 ^ 28 * (t * t)
+      → TwoGe (w + 51539607552) (2 ^ 67) (D + t) D
   line-above h =
-      let c = 4294967296 * (D + t) - D in
-      two-ge-weaken (w + 51539607552) 147573952589676412928 (c * 137438953505) (4294967296 * D * 137438953472) (D + t) D
+      let c = 2 ^ 32 * (D + t) - D in
+      two-ge-weaken (w + 51539607552) (2 ^ 67) (c * 137438953505) (2 ^ 32 * D * 2 ^ 37) (D + t) D
       (mul-pos (mul-pos (lit< tt) D-pos) (lit< tt)) (covers t D c (omega arith))
-      (two-ge-mul 147573952589676412928 w 51539607552 c (4294967296 * D) 137438953505 137438953472
-      (two-ge-exp 195103586505167 281474976710656 w 147573952589676412928 c (4294967296 * D) (lit< tt) (lit< tt) ln2-le
-      (ge-above (w * 195103586505167) 41538374868278621028243970633760768 p (1073741824 * (D * D)) c (4294967296 * D)
+      (two-ge-mul (2 ^ 67) w 51539607552 c (2 ^ 32 * D) 137438953505 (2 ^ 37)
+      (two-ge-exp ln2 (2 ^ 48) w (2 ^ 67) c (2 ^ 32 * D) (lit< tt) (lit< tt) ln2-le
+      (ge-above (w * ln2) 41538374868278621028243970633760768 p (2 ^ 30 * (D * D)) c (2 ^ 32 * D)
       (lit< tt) (mul-pos (lit< tt) (mul-pos D-pos D-pos))
       order (curve-ge t D small D-pos p ep)))
       room)
@@ -112,16 +112,16 @@ module _ (t D w : ℕ) (small : t * 512 ≤ D) (D-pos : 0 < D) where
       ep : p + 535822337 * (t * t) ≡ 1073741055 * (t * D)
       ep = omega (arith, mul-le-mul-left t small)
 
-      order : p * 41538374868278621028243970633760768 ≤ w * 195103586505167 * (1073741824 * (D * D))
+      order : p * 41538374868278621028243970633760768 ≤ w * ln2 * (2 ^ 30 * (D * D))
       order =
           last (w * (D * D)) (t * D) (t * t) 41538374868278621028243970633760768
-          (scaled-ge (w * (D * D)) (t * D) (t * t) (49570588694 * 4294967296) (395790452196 * 268435456)
-          (1073741824 * 195103586505167) (1073741055 * 41538374868278621028243970633760768)
+          (scaled-ge (w * (D * D)) (t * D) (t * t) (49570588694 * 2 ^ 32) (395790452196 * 2 ^ 28)
+          (2 ^ 30 * ln2) (1073741055 * 41538374868278621028243970633760768)
           (535822337 * 41538374868278621028243970633760768) h (lit≤ tt) (lit≤ tt))
           ep (omega arith)
         where
-          last : (U a b h : ℕ) → 1073741055 * h * a ≤ 1073741824 * 195103586505167 * U + 535822337 * h * b
+          last : (U a b h : ℕ) → 1073741055 * h * a ≤ 2 ^ 30 * ln2 * U + 535822337 * h * b
               → p + 535822337 * b ≡ 1073741055 * a
-              → w * 195103586505167 * (1073741824 * (D * D)) ≡ 1073741824 * 195103586505167 * U
-              → p * h ≤ w * 195103586505167 * (1073741824 * (D * D))
+              → w * ln2 * (2 ^ 30 * (D * D)) ≡ 2 ^ 30 * ln2 * U
+              → p * h ≤ w * ln2 * (2 ^ 30 * (D * D))
           last U a b h g e k = rw k (omega (arith, ap (λ (z : ℕ). z * h) e))

@@ -24,11 +24,11 @@ use Rattle.elementary.proofs.power.Steps.{near-one, near-to-zero}
 use Rattle.elementary.proofs.large.Law.{large-law}
 
 -- ---- 1^y
-one-num : num (ofBits binary32 1065353216) ≡ 1
+one-num : num (ofBits binary32 0x3F800000) ≡ 1
 unfolding ofBits
 one-num = refl
 
-one-den : den (ofBits binary32 1065353216) ≡ 1
+one-den : den (ofBits binary32 0x3F800000) ≡ 1
 unfolding ofBits
 one-den = refl
 
@@ -63,22 +63,22 @@ back t n m c d M h = root c d m M (go t h)
     go true h = last (c ^ m) (d ^ m) (rw (one-pow n) at h)
 
 module _ (y : Float) where
-  one-ge : (c d : ℕ) → c ≤ d → PowGe (ofBits binary32 1065353216) y c d
+  one-ge : (c d : ℕ) → c ≤ d → PowGe (ofBits binary32 0x3F800000) y c d
   unfolding PowGe
   one-ge c d h = rw (one-num, one-den) (ratio-ge (signOf y) (num y) (den y) c d h)
 
-  one-le : (c d : ℕ) → d ≤ c → PowLe (ofBits binary32 1065353216) y c d
+  one-le : (c d : ℕ) → d ≤ c → PowLe (ofBits binary32 0x3F800000) y c d
   unfolding PowLe
   one-le c d h = rw (one-num, one-den) (ratio-le (signOf y) (num y) (den y) c d h)
 
-  one-back : (c d : ℕ) → PowGe (ofBits binary32 1065353216) y c d → c ≤ d
+  one-back : (c d : ℕ) → PowGe (ofBits binary32 0x3F800000) y c d → c ≤ d
   unfolding PowGe
   one-back c d h = back (signOf y) (num y) (den y) c d (den-pos y) (rw (one-num, one-den) at h)
 
-  one-value : HasValue (ofBits binary32 1065353216) false (2 ^ 149) (2 ^ 149)
-  one-value = value-pos 1065353216 (lit< tt)
+  one-value : HasValue (ofBits binary32 0x3F800000) false (2 ^ 149) (2 ^ 149)
+  one-value = value-pos 0x3F800000 (lit< tt)
 
-  one-law : Shown (ofBits binary32 1065353216) y (ofBits binary32 1065353216)
+  one-law : Shown (ofBits binary32 0x3F800000) y (ofBits binary32 0x3F800000)
   one-law = record {
     near = λ _ _. record {
       j = 0;
@@ -97,44 +97,44 @@ module _ (y : Float) where
   }
 
 -- ---- all
-pub is-near : (b c : ℕ) → c % 2147483648 < 1124073473 → powBits b c ≡ nearBits b c
+pub is-near : (b c : ℕ) → c % 2 ^ 31 < 0x43000001 → powBits b c ≡ nearBits b c
 unfolding powBits
-is-near b c h = simp (lt-ltb (c % 2147483648) 1124073473 h)
+is-near b c h = simp (lt-ltb (c % 2 ^ 31) 0x43000001 h)
 
-is-one : (b c : ℕ) → 1124073473 ≤ c % 2147483648 → b ≡ 1065353216 → powBits b c ≡ 1065353216
+is-one : (b c : ℕ) → 0x43000001 ≤ c % 2 ^ 31 → b ≡ 0x3F800000 → powBits b c ≡ 0x3F800000
 unfolding powBits
-is-one b c h e = simp (le-ltb (c % 2147483648) 1124073473 h, eq-eqb b 1065353216 e)
+is-one b c h e = simp (le-ltb (c % 2 ^ 31) 0x43000001 h, eq-eqb b 0x3F800000 e)
 
-pub is-large : (b c : ℕ) → 1124073473 ≤ c % 2147483648 → (b ≡ 1065353216 → ⊥) → powBits b c ≡ largeBits b c
+pub is-large : (b c : ℕ) → 0x43000001 ≤ c % 2 ^ 31 → (b ≡ 0x3F800000 → ⊥) → powBits b c ≡ largeBits b c
 unfolding powBits
-is-large b c h n = simp (le-ltb (c % 2147483648) 1124073473 h, ne-eqb b 1065353216 n)
+is-large b c h n = simp (le-ltb (c % 2 ^ 31) 0x43000001 h, ne-eqb b 0x3F800000 n)
 
 pub finite-law : (x y : Float) → T (fits binary32 x) → T (fits binary32 y) → Finite x y
     → Shown x y (ofBits binary32 (powBits (toBits binary32 x) (toBits binary32 y)))
 finite-law x y fx fy f =
     go (toBits binary32 x) (toBits binary32 y) (sym (ofBits-toBits binary32 x fx)) (sym (ofBits-toBits binary32 y fy))
     (f .positive) (f .finite) (toBits-lt binary32 y fy) (f .number)
-    (lt-or-ge (toBits binary32 y % 2147483648) 1124073473) (ℕ-discrete (toBits binary32 x) 1065353216)
+    (lt-or-ge (toBits binary32 y % 2 ^ 31) 0x43000001) (ℕ-discrete (toBits binary32 x) 0x3F800000)
   where
-    go : (b c : ℕ) → x ≡ ofBits binary32 b → y ≡ ofBits binary32 c → 0 < b → b < 2139095040 → c < 4294967296
-        → c % 2147483648 < 2139095040
-        → (c % 2147483648 < 1124073473) ⊎ (1124073473 ≤ c % 2147483648) → Dec (b ≡ 1065353216)
+    go : (b c : ℕ) → x ≡ ofBits binary32 b → y ≡ ofBits binary32 c → 0 < b → b < 0x7F800000 → c < 2 ^ 32
+        → c % 2 ^ 31 < 0x7F800000
+        → (c % 2 ^ 31 < 0x43000001) ⊎ (0x43000001 ≤ c % 2 ^ 31) → Dec (b ≡ 0x3F800000)
         → Shown x y (ofBits binary32 (powBits b c))
     go b c ex ey B h l k (inl i) _ = rw (is-near b c i) (near-law x y b c ex ey B h l (omega arith))
     go b c ex ey B h l k (inr i) (yes e) =
-        rw (is-one b c i e) (subst (λ (z : Float). Shown z y (ofBits binary32 1065353216))
+        rw (is-one b c i e) (subst (λ (z : Float). Shown z y (ofBits binary32 0x3F800000))
         (sym (ex ∙ ap (ofBits binary32) e)) (one-law y))
     go b c ex ey B h l k (inr i) (no n) = rw (is-large b c i n) (large-law x y b c ex ey B h l (omega arith) k n)
 
 -- ---- for the code: 1^y and x^±0, and no pattern is a NaN's
-pub from-one : (b c : ℕ) → b ≡ 1065353216 → powBits b c ≡ 1065353216
-from-one b c e = go (lt-or-ge (c % 2147483648) 1124073473)
+pub from-one : (b c : ℕ) → b ≡ 0x3F800000 → powBits b c ≡ 0x3F800000
+from-one b c e = go (lt-or-ge (c % 2 ^ 31) 0x43000001)
   where
-    go : (c % 2147483648 < 1124073473) ⊎ (1124073473 ≤ c % 2147483648) → powBits b c ≡ 1065353216
+    go : (c % 2 ^ 31 < 0x43000001) ⊎ (0x43000001 ≤ c % 2 ^ 31) → powBits b c ≡ 0x3F800000
     go (inl i) = is-near b c i ∙ ap (λ (n : ℕ). nearBits n c) e ∙ near-one c
     go (inr i) = is-one b c i e
 
-pub to-zero : (b c : ℕ) → 0 < b → b < 2139095040 → c % 2147483648 ≡ 0 → powBits b c ≡ 1065353216
+pub to-zero : (b c : ℕ) → 0 < b → b < 0x7F800000 → c % 2 ^ 31 ≡ 0 → powBits b c ≡ 0x3F800000
 to-zero b c B h e = is-near b c (omega arith) ∙ near-to-zero b c B h e
 
 near-is : (b c : ℕ) → nearBits b c ≡ exp2Bits (argOf (log2Of (normalized b)) c)
@@ -145,10 +145,10 @@ large-is : (b c : ℕ) → largeBits b c ≡ exp2Bits (largeArg (squared (normal
 unfolding largeBits
 large-is b c = refl
 
-pub bits-le : (b c : ℕ) → powBits b c ≤ 2139095040
-bits-le b c = go (lt-or-ge (c % 2147483648) 1124073473) (ℕ-discrete b 1065353216)
+pub bits-le : (b c : ℕ) → powBits b c ≤ 0x7F800000
+bits-le b c = go (lt-or-ge (c % 2 ^ 31) 0x43000001) (ℕ-discrete b 0x3F800000)
   where
-    go : (c % 2147483648 < 1124073473) ⊎ (1124073473 ≤ c % 2147483648) → Dec (b ≡ 1065353216) → powBits b c ≤ 2139095040
+    go : (c % 2 ^ 31 < 0x43000001) ⊎ (0x43000001 ≤ c % 2 ^ 31) → Dec (b ≡ 0x3F800000) → powBits b c ≤ 0x7F800000
     go (inl i) _ = le-trans (le-of-eq (is-near b c i ∙ near-is b c)) (exp2-le (argOf (log2Of (normalized b)) c))
     go (inr i) (yes e) = le-trans (le-of-eq (is-one b c i e)) (lit≤ tt)
     go (inr i) (no n) =

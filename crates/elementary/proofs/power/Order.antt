@@ -43,31 +43,32 @@ diff-le n l k lo hi = go (lt-or-ge l n)
 
 -- z is 2^16 + 126 and u, or less u
 abbrev pub Around : Bool → ℕ → ℕ → Type 0
-Around false z u = z ≡ 36098066251513856 + u
-Around true z u = z + u ≡ 36098066251513856
+Around false z u = z ≡ (2 ^ 16 + 126) * 2 ^ 39 + u
+Around true z u = z + u ≡ (2 ^ 16 + 126) * 2 ^ 39
 
-pub arg-around : (n l c u : ℕ) → u ≤ 36098066251513856
-    → Around (unlike (ltb l n) (not (ltb c 2147483648))) (signedArg n l c u) u
+pub arg-around : (n l c u : ℕ) → u ≤ (2 ^ 16 + 126) * 2 ^ 39
+    → Around (unlike (ltb l n) (not (ltb c (2 ^ 31)))) (signedArg n l c u) u
 unfolding signedArg
-arg-around n l c u h = go (unlike (ltb l n) (not (ltb c 2147483648)))
+arg-around n l c u h = go (unlike (ltb l n) (not (ltb c (2 ^ 31))))
   where
-    go : (b : Bool) → Around b (cond b (36098066251513856 - u) (36098066251513856 + u)) u
+    go : (b : Bool) → Around b (cond b ((2 ^ 16 + 126) * 2 ^ 39 - u) ((2 ^ 16 + 126) * 2 ^ 39 + u)) u
     go false = refl
     go true = omega arith
 
-neg-sum : (n m nk ng mu mz mv : ℕ) → nk + 8 * n ≡ 5463198400512 * n + ng → mz + mu ≡ 36098066251513856 * m
-    → mz ≤ 36028247263150080 * m + mv → mu ≤ 16 * ng → n ≤ 128 * m
-    → 549755813888 * n * 159 + 549755813888 * m * 127 ≤ 16 * nk + mv + 32769 * m
+neg-sum : (n m nk ng mu mz mv : ℕ) → nk + 8 * n ≡ 159 * 2 ^ 35 * n + ng → mz + mu ≡ (2 ^ 16 + 126) * 2 ^ 39 * m
+    → mz ≤ (2 ^ 16 - 1) * 2 ^ 39 * m + mv → mu ≤ 16 * ng → n ≤ 128 * m
+    → 2 ^ 39 * n * 159 + 2 ^ 39 * m * 127 ≤ 16 * nk + mv + 32769 * m
 neg-sum n m nk ng mu mz mv e1 e2 h1 h2 h3 = omega arith
 
 -- ---- the exponents in order: v is at most, or at least, z - (2^16 - 1) 2^39
 module _ (n m l g u z v : ℕ) (S : Sized n m g u) (N : n ≤ 128 * m) where
-  ge-pos-order : (s : Bool) → Side 5463198400512 s l g → Around s z u → 8 ≤ l → 32769 ≤ v → 36028247263150080 + v ≤ z
-      → 549755813888 * n * 159 + m * (v - 32769) ≤ 16 * n * (l - 8) + 549755813888 * m * 127
+  ge-pos-order : (s : Bool) → Side (159 * 2 ^ 35) s l g → Around s z u → 8 ≤ l → 32769 ≤ v
+      → (2 ^ 16 - 1) * 2 ^ 39 + v ≤ z
+      → 2 ^ 39 * n * 159 + m * (v - 32769) ≤ 16 * n * (l - 8) + 2 ^ 39 * m * 127
   ge-pos-order s i o L d h = go s (l - 8) (v - 32769) (omega arith) (omega arith) i o
     where
-      go : (s : Bool) (k w : ℕ) → k + 8 ≡ l → w + 32769 ≡ v → Side 5463198400512 s l g → Around s z u
-          → 549755813888 * n * 159 + m * w ≤ 16 * n * k + 549755813888 * m * 127
+      go : (s : Bool) (k w : ℕ) → k + 8 ≡ l → w + 32769 ≡ v → Side (159 * 2 ^ 35) s l g → Around s z u
+          → 2 ^ 39 * n * 159 + m * w ≤ 16 * n * k + 2 ^ 39 * m * 127
       go false k w ek ew i o =
           omega (arith, ap (λ (x : ℕ). n * x) (ek ∙ i), mul-le-mul-left m (rw (sym ew, o) at h), S .low)
       go true k w ek ew i o =
@@ -80,31 +81,31 @@ module _ (n m l g u z v : ℕ) (S : Sized n m g u) (N : n ≤ 128 * m) where
             S .high,
           )
 
-  le-pos-order : (s : Bool) → Side 5463198400512 s l g → Around s z u → z ≤ 36028247263150080 + v
-      → 16 * n * (l + 16) + 549755813888 * m * 127 ≤ 549755813888 * n * 159 + m * (v + 32769)
+  le-pos-order : (s : Bool) → Side (159 * 2 ^ 35) s l g → Around s z u → z ≤ (2 ^ 16 - 1) * 2 ^ 39 + v
+      → 16 * n * (l + 16) + 2 ^ 39 * m * 127 ≤ 2 ^ 39 * n * 159 + m * (v + 32769)
   le-pos-order false i o h =
       omega (arith, ap (λ (x : ℕ). n * x) i, ap (λ (x : ℕ). m * x) o, mul-le-mul-left m h, S .high)
   le-pos-order true i o h = omega (arith, ap (λ (x : ℕ). n * x) i, ap (λ (x : ℕ). m * x) o, mul-le-mul-left m h, S .low)
 
-  ge-neg-order : (s : Bool) → Side 5463198400512 s l g → Around (not s) z u → 32769 ≤ v → 36028247263150080 + v ≤ z
-      → 16 * n * (l + 16) + m * (v - 32769) ≤ 549755813888 * n * 159 + 549755813888 * m * 127
+  ge-neg-order : (s : Bool) → Side (159 * 2 ^ 35) s l g → Around (not s) z u → 32769 ≤ v → (2 ^ 16 - 1) * 2 ^ 39 + v ≤ z
+      → 16 * n * (l + 16) + m * (v - 32769) ≤ 2 ^ 39 * n * 159 + 2 ^ 39 * m * 127
   ge-neg-order s i o d h = go s (v - 32769) (omega arith) i o
     where
-      go : (s : Bool) (w : ℕ) → w + 32769 ≡ v → Side 5463198400512 s l g → Around (not s) z u
-          → 16 * n * (l + 16) + m * w ≤ 549755813888 * n * 159 + 549755813888 * m * 127
+      go : (s : Bool) (w : ℕ) → w + 32769 ≡ v → Side (159 * 2 ^ 35) s l g → Around (not s) z u
+          → 16 * n * (l + 16) + m * w ≤ 2 ^ 39 * n * 159 + 2 ^ 39 * m * 127
       go false w ew i o =
           omega (arith, ap (λ (x : ℕ). n * x) i, ap (λ (x : ℕ). m * x) o, mul-le-mul-left m (rw (sym ew) at h), S .high)
       go true w ew i o =
           omega (arith, ap (λ (x : ℕ). n * x) i, ap (λ (x : ℕ). m * x) o, mul-le-mul-left m (rw (sym ew) at h), S .low)
 
-  le-neg-order : (s : Bool) → Side 5463198400512 s l g → Around (not s) z u → 8 ≤ l → z ≤ 36028247263150080 + v
-      → 549755813888 * n * 159 + 549755813888 * m * 127 ≤ 16 * n * (l - 8) + m * (v + 32769)
+  le-neg-order : (s : Bool) → Side (159 * 2 ^ 35) s l g → Around (not s) z u → 8 ≤ l → z ≤ (2 ^ 16 - 1) * 2 ^ 39 + v
+      → 2 ^ 39 * n * 159 + 2 ^ 39 * m * 127 ≤ 16 * n * (l - 8) + m * (v + 32769)
   le-neg-order s i o L h = go s (l - 8) (omega arith) i o
     where
-      go : (s : Bool) (k : ℕ) → k + 8 ≡ l → Side 5463198400512 s l g → Around (not s) z u
-          → 549755813888 * n * 159 + 549755813888 * m * 127 ≤ 16 * n * k + m * (v + 32769)
+      go : (s : Bool) (k : ℕ) → k + 8 ≡ l → Side (159 * 2 ^ 35) s l g → Around (not s) z u
+          → 2 ^ 39 * n * 159 + 2 ^ 39 * m * 127 ≤ 16 * n * k + m * (v + 32769)
       go false k ek i o =
-          let r : 549755813888 * n * 159 + 549755813888 * m * 127 ≤ 16 * (n * k) + m * v + 32769 * m =
+          let r : 2 ^ 39 * n * 159 + 2 ^ 39 * m * 127 ≤ 16 * (n * k) + m * v + 32769 * m =
           neg-sum n m (n * k) (n * g) (m * u) (m * z) (m * v) (omega (arith, ap (λ (x : ℕ). n * x) (ek ∙ i)))
           (omega (arith, ap (λ (x : ℕ). m * x) o)) (omega (arith, mul-le-mul-left m h)) (omega (arith, S .low)) N in
           omega (arith, r)
@@ -112,44 +113,44 @@ module _ (n m l g u z v : ℕ) (S : Sized n m g u) (N : n ≤ 128 * m) where
           omega (arith, ap (λ (x : ℕ). n * x) (rw (sym ek) at i), ap (λ (x : ℕ). m * x) o, mul-le-mul-left m h, S .high)
 
 -- ---- x = a / b with the bounds of its logarithm, |y| = n / m, t the sign of y
-module _ (a b n m l g u z : ℕ) (s t : Bool) (S : Sized n m g u) (N : n ≤ 128 * m) (i : Side 5463198400512 s l g)
+module _ (a b n m l g u z : ℕ) (s t : Bool) (S : Sized n m g u) (N : n ≤ 128 * m) (i : Side (159 * 2 ^ 35) s l g)
     (L : 8 ≤ l)
-    (lo : TwoLe (l - 8) 34359738368 (a * 2 ^ 159) b) (hi : TwoGe (l + 16) 34359738368 (a * 2 ^ 159) b) where
-  common : 16 * n * 34359738368 ≡ 549755813888 * n
+    (lo : TwoLe (l - 8) (2 ^ 35) (a * 2 ^ 159) b) (hi : TwoGe (l + 16) (2 ^ 35) (a * 2 ^ 159) b) where
+  common : 16 * n * 2 ^ 35 ≡ 2 ^ 39 * n
   common = omega arith
 
-  pub low-at : Around (unlike s t) z u → (v c d : ℕ) → 32769 ≤ v → 36028247263150080 + v ≤ z
-      → TwoGe (v - 32769) 549755813888 (2 ^ 127 * c) d → RatioGe t a b n m c d
+  pub low-at : Around (unlike s t) z u → (v c d : ℕ) → 32769 ≤ v → (2 ^ 16 - 1) * 2 ^ 39 + v ≤ z
+      → TwoGe (v - 32769) (2 ^ 39) (2 ^ 127 * c) d → RatioGe t a b n m c d
   low-at o v c d k h e = go s t refl refl o
     where
       go : (p q : Bool) → s ≡ p → t ≡ q → Around (unlike p q) z u → RatioGe q a b n m c d
       go false false es et o =
-          ge-pos 159 127 34359738368 549755813888 n m a b c d (l - 8) (v - 32769) (16 * n) (lit< tt) common lo e
+          ge-pos 159 127 (2 ^ 35) (2 ^ 39) n m a b c d (l - 8) (v - 32769) (16 * n) (lit< tt) common lo e
           (ge-pos-order n m l g u z v S N false (rw es at i) o L k h)
       go true false es et o =
-          ge-pos 159 127 34359738368 549755813888 n m a b c d (l - 8) (v - 32769) (16 * n) (lit< tt) common lo e
+          ge-pos 159 127 (2 ^ 35) (2 ^ 39) n m a b c d (l - 8) (v - 32769) (16 * n) (lit< tt) common lo e
           (ge-pos-order n m l g u z v S N true (rw es at i) o L k h)
       go false true es et o =
-          ge-neg 159 127 34359738368 549755813888 n m a b c d (l + 16) (v - 32769) (16 * n) (lit< tt) common hi e
+          ge-neg 159 127 (2 ^ 35) (2 ^ 39) n m a b c d (l + 16) (v - 32769) (16 * n) (lit< tt) common hi e
           (ge-neg-order n m l g u z v S N false (rw es at i) o k h)
       go true true es et o =
-          ge-neg 159 127 34359738368 549755813888 n m a b c d (l + 16) (v - 32769) (16 * n) (lit< tt) common hi e
+          ge-neg 159 127 (2 ^ 35) (2 ^ 39) n m a b c d (l + 16) (v - 32769) (16 * n) (lit< tt) common hi e
           (ge-neg-order n m l g u z v S N true (rw es at i) o k h)
 
-  pub high-at : Around (unlike s t) z u → (v c d : ℕ) → z ≤ 36028247263150080 + v
-      → TwoLe (v + 32769) 549755813888 (2 ^ 127 * c) d → RatioLe t a b n m c d
+  pub high-at : Around (unlike s t) z u → (v c d : ℕ) → z ≤ (2 ^ 16 - 1) * 2 ^ 39 + v
+      → TwoLe (v + 32769) (2 ^ 39) (2 ^ 127 * c) d → RatioLe t a b n m c d
   high-at o v c d h e = go s t refl refl o
     where
       go : (p q : Bool) → s ≡ p → t ≡ q → Around (unlike p q) z u → RatioLe q a b n m c d
       go false false es et o =
-          le-pos 159 127 34359738368 549755813888 n m a b c d (l + 16) (v + 32769) (16 * n) (lit< tt) common hi e
+          le-pos 159 127 (2 ^ 35) (2 ^ 39) n m a b c d (l + 16) (v + 32769) (16 * n) (lit< tt) common hi e
           (le-pos-order n m l g u z v S N false (rw es at i) o h)
       go true false es et o =
-          le-pos 159 127 34359738368 549755813888 n m a b c d (l + 16) (v + 32769) (16 * n) (lit< tt) common hi e
+          le-pos 159 127 (2 ^ 35) (2 ^ 39) n m a b c d (l + 16) (v + 32769) (16 * n) (lit< tt) common hi e
           (le-pos-order n m l g u z v S N true (rw es at i) o h)
       go false true es et o =
-          le-neg 159 127 34359738368 549755813888 n m a b c d (l - 8) (v + 32769) (16 * n) (lit< tt) common lo e
+          le-neg 159 127 (2 ^ 35) (2 ^ 39) n m a b c d (l - 8) (v + 32769) (16 * n) (lit< tt) common lo e
           (le-neg-order n m l g u z v S N false (rw es at i) o L h)
       go true true es et o =
-          le-neg 159 127 34359738368 549755813888 n m a b c d (l - 8) (v + 32769) (16 * n) (lit< tt) common lo e
+          le-neg 159 127 (2 ^ 35) (2 ^ 39) n m a b c d (l - 8) (v + 32769) (16 * n) (lit< tt) common lo e
           (le-neg-order n m l g u z v S N true (rw es at i) o L h)

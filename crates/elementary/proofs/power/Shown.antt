@@ -23,29 +23,29 @@ use Rattle.elementary.proofs.exp2.Value.{value-zero, value-inf, not-und
 -- ---- y: its sign, and |y| = u 2^-149
 pub record Sign (y : Float) (c : ℕ) : Type 0 where
   pub t : Bool
-  pub is : not (ltb c 2147483648) ≡ t
-  pub hy : HasValue y t (units (c % 2147483648 / 8388608) (c % 2147483648 % 8388608)) (2 ^ 149)
+  pub is : not (ltb c (2 ^ 31)) ≡ t
+  pub hy : HasValue y t (units (c % 2 ^ 31 / 2 ^ 23) (c % 2 ^ 31 % 2 ^ 23)) (2 ^ 149)
 
-pub sign : (y : Float) (c : ℕ) → y ≡ ofBits binary32 c → c < 4294967296 → c % 2147483648 < 2139095040 → Sign y c
-sign y c ey l k = go (lt-or-ge c 2147483648)
+pub sign : (y : Float) (c : ℕ) → y ≡ ofBits binary32 c → c < 2 ^ 32 → c % 2 ^ 31 < 0x7F800000 → Sign y c
+sign y c ey l k = go (lt-or-ge c (2 ^ 31))
   where
-    go : (c < 2147483648) ⊎ (2147483648 ≤ c) → Sign y c
+    go : (c < 2 ^ 31) ⊎ (2 ^ 31 ≤ c) → Sign y c
     go (inl i) =
-        let e : c ≡ c % 2147483648 = omega arith in
+        let e : c ≡ c % 2 ^ 31 = omega arith in
         record {
           t = false;
-          is = ap not (lt-ltb c 2147483648 i);
-          hy = subst (λ (n : ℕ). HasValue y false (units (n / 8388608) (n % 8388608)) (2 ^ 149)) e
-              (subst (λ (z : Float). HasValue z false (units (c / 8388608) (c % 8388608)) (2 ^ 149)) (sym ey)
+          is = ap not (lt-ltb c (2 ^ 31) i);
+          hy = subst (λ (n : ℕ). HasValue y false (units (n / 2 ^ 23) (n % 2 ^ 23)) (2 ^ 149)) e
+              (subst (λ (z : Float). HasValue z false (units (c / 2 ^ 23) (c % 2 ^ 23)) (2 ^ 149)) (sym ey)
               (value-pos c (omega arith)));
         }
     go (inr i) =
-        let e : c - 2147483648 ≡ c % 2147483648 = omega arith in
+        let e : c - 2 ^ 31 ≡ c % 2 ^ 31 = omega arith in
         record {
           t = true;
-          is = ap not (le-ltb c 2147483648 i);
-          hy = subst (λ (n : ℕ). HasValue y true (units (n / 8388608) (n % 8388608)) (2 ^ 149)) e
-              (subst (λ (z : Float). HasValue z true (units ((c - 2147483648) / 8388608) ((c - 2147483648) % 8388608))
+          is = ap not (le-ltb c (2 ^ 31) i);
+          hy = subst (λ (n : ℕ). HasValue y true (units (n / 2 ^ 23) (n % 2 ^ 23)) (2 ^ 149)) e
+              (subst (λ (z : Float). HasValue z true (units ((c - 2 ^ 31) / 2 ^ 23) ((c - 2 ^ 31) % 2 ^ 23))
               (2 ^ 149)) (sym ey) (value-neg c i (omega arith)));
         }
 
@@ -78,11 +78,11 @@ weak t a b n m c d c′ d′ D h = go t
     go false f = last (a ^ n) (b ^ n) (c ^ m) (d ^ m) (c′ ^ m) (d′ ^ m) (one-le-pow m d D) base f
     go true f = last (b ^ n) (a ^ n) (c ^ m) (d ^ m) (c′ ^ m) (d′ ^ m) (one-le-pow m d D) base f
 
-pub num-pos : (x : Float) (b : ℕ) → x ≡ ofBits binary32 b → 0 < b → b < 2139095040 → 0 < num x
+pub num-pos : (x : Float) (b : ℕ) → x ≡ ofBits binary32 b → 0 < b → b < 0x7F800000 → 0 < num x
 num-pos x b ex B h =
-    go (num x) (units (b / 8388608) (b % 8388608)) (2 ^ 149) (units-pos b B)
-    (fraction-is x false (units (b / 8388608) (b % 8388608)) (2 ^ 149)
-    (subst (λ (z : Float). HasValue z false (units (b / 8388608) (b % 8388608)) (2 ^ 149)) (sym ex) (value-pos b h)))
+    go (num x) (units (b / 2 ^ 23) (b % 2 ^ 23)) (2 ^ 149) (units-pos b B)
+    (fraction-is x false (units (b / 2 ^ 23) (b % 2 ^ 23)) (2 ^ 149)
+    (subst (λ (z : Float). HasValue z false (units (b / 2 ^ 23) (b % 2 ^ 23)) (2 ^ 149)) (sym ex) (value-pos b h)))
   where
     go : (n u t : ℕ) → 0 < u → n * t ≡ u * den x → 0 < n
     go zero u t U e = absurd (no (mul-pos U (den-pos x)))
@@ -124,16 +124,16 @@ module _ (x y : Float) (X : 0 < num x) where
 
   -- x^y is about 2^(z / 2^39 - 2^16 - 126)
   module _ (z : ℕ)
-      (low : (v p q : ℕ) → 32769 ≤ v → 36028247263150080 + v ≤ z → TwoGe (v - 32769) 549755813888 (2 ^ 127 * p) q
+      (low : (v p q : ℕ) → 32769 ≤ v → (2 ^ 16 - 1) * 2 ^ 39 + v ≤ z → TwoGe (v - 32769) (2 ^ 39) (2 ^ 127 * p) q
       → PowGe x y p q)
-      (high : (v p q : ℕ) → z ≤ 36028247263150080 + v → TwoLe (v + 32769) 549755813888 (2 ^ 127 * p) q → PowLe x y p q)
+      (high : (v p q : ℕ) → z ≤ (2 ^ 16 - 1) * 2 ^ 39 + v → TwoLe (v + 32769) (2 ^ 39) (2 ^ 127 * p) q → PowLe x y p q)
     where
       near : PowGe x y 1 (2 ^ 126) → PowLe x y (2 ^ 127) 1
           → Within (PowGe x y) (PowLe x y) 2 (ofBits binary32 (exp2Bits z))
-      near lo hi = go (lt-or-ge z 36028522141057024) (lt-or-ge z 36028797018963968) (lt-or-ge z 36168434995691520)
+      near lo hi = go (lt-or-ge z (2 ^ 55 - 2 ^ 38)) (lt-or-ge z (2 ^ 55)) (lt-or-ge z (2 ^ 55 + 254 * 2 ^ 39))
         where
-          go : (z < 36028522141057024) ⊎ (36028522141057024 ≤ z) → (z < 36028797018963968) ⊎ (36028797018963968 ≤ z)
-              → (z < 36168434995691520) ⊎ (36168434995691520 ≤ z)
+          go : (z < 2 ^ 55 - 2 ^ 38) ⊎ (2 ^ 55 - 2 ^ 38 ≤ z) → (z < 2 ^ 55) ⊎ (2 ^ 55 ≤ z)
+              → (z < 2 ^ 55 + 254 * 2 ^ 39) ⊎ (2 ^ 55 + 254 * 2 ^ 39 ≤ z)
               → Within (PowGe x y) (PowLe x y) 2 (ofBits binary32 (exp2Bits z))
           go (inl i) _ _ =
               absurd (not-le-of-lt (lit< tt) (ordered 1 (2 ^ 126) 3 (2 ^ 128) lo
@@ -144,16 +144,16 @@ module _ (x y : Float) (X : 0 < num x) where
           go (inr i) (inr j) (inr m) = absurd (no-near (is-over (PowGe x y) (PowLe x y) z low high m) hi)
 
       under : (PowGe x y 1 (2 ^ 127) → ⊥) → ofBits binary32 (exp2Bits z) ≡ fin false 0 (pos 0)
-      under none = go (lt-or-ge z 36028522141057024)
+      under none = go (lt-or-ge z (2 ^ 55 - 2 ^ 38))
         where
-          go : (z < 36028522141057024) ⊎ (36028522141057024 ≤ z) → ofBits binary32 (exp2Bits z) ≡ fin false 0 (pos 0)
+          go : (z < 2 ^ 55 - 2 ^ 38) ⊎ (2 ^ 55 - 2 ^ 38 ≤ z) → ofBits binary32 (exp2Bits z) ≡ fin false 0 (pos 0)
           go (inl i) = ap (ofBits binary32) (value-zero z i) ∙ zero-is
           go (inr i) = absurd (none (not-under (PowGe x y) (PowLe x y) z low high i))
 
       over : PowGe x y (2 ^ 129) 1 → ofBits binary32 (exp2Bits z) ≡ inf false
-      over g = go (lt-or-ge z 36168434995691520)
+      over g = go (lt-or-ge z (2 ^ 55 + 254 * 2 ^ 39))
         where
-          go : (z < 36168434995691520) ⊎ (36168434995691520 ≤ z) → ofBits binary32 (exp2Bits z) ≡ inf false
+          go : (z < 2 ^ 55 + 254 * 2 ^ 39) ⊎ (2 ^ 55 + 254 * 2 ^ 39 ≤ z) → ofBits binary32 (exp2Bits z) ≡ inf false
           go (inl i) =
               absurd (not-le-of-lt (lit< tt) (ordered (2 ^ 129) 1 (3 * 2 ^ 127) 1 g
               (not-over (PowGe x y) (PowLe x y) z low high i)))

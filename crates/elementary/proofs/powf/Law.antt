@@ -2,7 +2,7 @@
 use mathlib.Core.Path.{_≡_, refl, sym, ap, _∙_, subst}
 use mathlib.Core.Logic.{_⊎_, inl, inr}
 use mathlib.Core.Bool.{Bool, true, false, not}
-use Prim.Native.Nat.{ℕ, _+_, _%_, _≤_, _<_}
+use Prim.Native.Nat.{ℕ, _+_, _%_, _^_, _≤_, _<_}
 use native.Mathlib.Nat.{zero-add}
 use native.Mathlib.Omega.{arith}
 use lib.Dec.{T}
@@ -28,32 +28,32 @@ nan-is (fin s m e) t = absurd t
 is-number : (x : Float) → isNan x ≡ false → T (not (isNan x))
 is-number x e = subst (λ (t : Bool). T (not t)) (sym e) tt
 
-minus-number : (y : Float) → 2147483648 < toBits binary32 y → T (not (isNan y))
+minus-number : (y : Float) → 2 ^ 31 < toBits binary32 y → T (not (isNan y))
 unfolding isNan toBits
 minus-number nan h = absurd (no h)
   where
-    no : 2147483648 < 2143289344 → ⊥
+    no : 2 ^ 31 < 2143289344 → ⊥
     no h = omega arith
 minus-number (inf s) h = tt
 minus-number (fin s m e) h = tt
 
 -- ---- the infinity with the sign of a zero
-minus-zero-is : ofBits binary32 2147483648 ≡ fin true 0 (pos 0)
+minus-zero-is : ofBits binary32 (2 ^ 31) ≡ fin true 0 (pos 0)
 unfolding ofBits
 minus-zero-is = refl
 
-signed : (x : Float) (b : ℕ) → x ≡ ofBits binary32 b → b < 4294967296 → b % 2147483648 ≡ 0
-    → ofBits binary32 (2139095040 + b) ≡ inf (signOf x)
-signed x b e l z = go (lt-or-ge b 2147483648)
+signed : (x : Float) (b : ℕ) → x ≡ ofBits binary32 b → b < 2 ^ 32 → b % 2 ^ 31 ≡ 0
+    → ofBits binary32 (0x7F800000 + b) ≡ inf (signOf x)
+signed x b e l z = go (lt-or-ge b (2 ^ 31))
   where
-    go : (b < 2147483648) ⊎ (2147483648 ≤ b) → ofBits binary32 (2139095040 + b) ≡ inf (signOf x)
+    go : (b < 2 ^ 31) ⊎ (2 ^ 31 ≤ b) → ofBits binary32 (0x7F800000 + b) ≡ inf (signOf x)
     go (inl i) =
         let k : b ≡ 0 = omega arith in
-        ap (λ (n : ℕ). ofBits binary32 (2139095040 + n)) k ∙ infinity-is
+        ap (λ (n : ℕ). ofBits binary32 (0x7F800000 + n)) k ∙ infinity-is
         ∙ sym (ap (λ (v : Float). inf (signOf v)) (e ∙ ap (ofBits binary32) k ∙ zero-is))
     go (inr i) =
-        let k : b ≡ 2147483648 = omega arith in
-        ap (λ (n : ℕ). ofBits binary32 (2139095040 + n)) k ∙ minus-infinity-is
+        let k : b ≡ 2 ^ 31 = omega arith in
+        ap (λ (n : ℕ). ofBits binary32 (0x7F800000 + n)) k ∙ minus-infinity-is
         ∙ sym (ap (λ (v : Float). inf (signOf v)) (e ∙ ap (ofBits binary32) k ∙ minus-zero-is))
 
 module _ (x y : Float) (fx : T (fits binary32 x)) (fy : T (fits binary32 y)) where
@@ -69,33 +69,33 @@ module _ (x y : Float) (fx : T (fits binary32 x)) (fy : T (fits binary32 y)) whe
   y-is : y ≡ ofBits binary32 c
   y-is = sym (ofBits-toBits binary32 y fy)
 
-  b-lt : b < 4294967296
+  b-lt : b < 2 ^ 32
   b-lt = toBits-lt binary32 x fx
 
-  c-lt : c < 4294967296
+  c-lt : c < 2 ^ 32
   c-lt = toBits-lt binary32 y fy
 
   -- ---- kinds of arguments
-  minus-range : IsMinus y → c % 2147483648 ≤ 2139095040
+  minus-range : IsMinus y → c % 2 ^ 31 ≤ 0x7F800000
   minus-range m = bits-of-number y fy (minus-number y m)
 
-  minus-some : IsMinus y → c % 2147483648 ≡ 0 → ⊥
+  minus-some : IsMinus y → c % 2 ^ 31 ≡ 0 → ⊥
   minus-some m z = omega (arith, c-lt)
 
   plus-number : IsPlus y → T (not (isNan y))
   plus-number p = number-of-bits y (omega (arith, p .number))
 
-  plus-some : IsPlus y → c % 2147483648 ≡ 0 → ⊥
+  plus-some : IsPlus y → c % 2 ^ 31 ≡ 0 → ⊥
   plus-some p z = omega (arith, p .above, p .number)
 
   -- ---- x is ±0
   module _ (z : IsZero x) where
-    from-zero : T (not (isNan y)) → (c % 2147483648 ≡ 0 → ⊥) → powOf x y ≡ ofBits binary32 (zeroBits b c)
+    from-zero : T (not (isNan y)) → (c % 2 ^ 31 ≡ 0 → ⊥) → powOf x y ≡ ofBits binary32 (zeroBits b c)
     from-zero ny n =
         of-numbers x y (number-of-bits x (omega arith)) ny ∙ at-num b c n other (omega (arith, b-lt))
         ∙ ap (ofBits binary32) (num-zero b c z)
       where
-        other : b ≡ 1065353216 → ⊥
+        other : b ≡ 0x3F800000 → ⊥
         other e = omega arith
 
     zero-minus-odd : IsMinus y → IsOdd y → powOf x y ≡ inf (signOf x)
@@ -126,69 +126,69 @@ module _ (x y : Float) (fx : T (fits binary32 x)) (fy : T (fits binary32 y)) whe
         ∙ zero-is
 
   -- ---- 1^y and x^±0
-  from-one : IsOne x → powOf x y ≡ ofBits binary32 1065353216
+  from-one : IsOne x → powOf x y ≡ ofBits binary32 0x3F800000
   from-one e = go (isNan y) refl
     where
-      go : (t : Bool) → isNan y ≡ t → powOf x y ≡ ofBits binary32 1065353216
+      go : (t : Bool) → isNan y ≡ t → powOf x y ≡ ofBits binary32 0x3F800000
       go true i = of-nan-y-one x y (nan-is y (subst T (sym i) tt)) e
       go false i = of-numbers x y (number-of-bits x (omega arith)) (is-number y i) ∙ at-one b c e
 
-  to-zero : IsZero y → powOf x y ≡ ofBits binary32 1065353216
+  to-zero : IsZero y → powOf x y ≡ ofBits binary32 0x3F800000
   to-zero z = go (isNan x) refl
     where
       ny : T (not (isNan y))
       ny = number-of-bits y (omega arith)
 
-      go : (t : Bool) → isNan x ≡ t → powOf x y ≡ ofBits binary32 1065353216
+      go : (t : Bool) → isNan x ≡ t → powOf x y ≡ ofBits binary32 0x3F800000
       go true i = of-nan-x-zero x y ny (nan-is x (subst T (sym i) tt)) z
       go false i = of-numbers x y (is-number x i) ny ∙ at-zero b c z
 
   -- ---- x above 0 to an infinity
-  module _ (p : IsPlus x) (i : c % 2147483648 ≡ 2139095040) where
-    to-infinity : (b ≡ 1065353216 → ⊥) → powOf x y ≡ ofBits binary32 (numBits b c)
+  module _ (p : IsPlus x) (i : c % 2 ^ 31 ≡ 0x7F800000) where
+    to-infinity : (b ≡ 0x3F800000 → ⊥) → powOf x y ≡ ofBits binary32 (numBits b c)
     to-infinity other =
         of-numbers x y (number-of-bits x (omega (arith, p .number))) (number-of-bits y (omega arith))
         ∙ at-num b c some other (omega (arith, p .number))
       where
-        some : c % 2147483648 ≡ 0 → ⊥
+        some : c % 2 ^ 31 ≡ 0 → ⊥
         some z = omega arith
 
-    nonzero : b % 2147483648 ≡ 0 → ⊥
+    nonzero : b % 2 ^ 31 ≡ 0 → ⊥
     nonzero z = omega (arith, p .above, p .number)
 
-    small-power : b < 1065353216 → powOf x y ≡ ofBits binary32 (zeroSize c)
+    small-power : b < 0x3F800000 → powOf x y ≡ ofBits binary32 (zeroSize c)
     small-power l = to-infinity other ∙ ap (ofBits binary32) (num-to-inf b c nonzero finite i ∙ to-inf-low b c l)
       where
-        other : b ≡ 1065353216 → ⊥
+        other : b ≡ 0x3F800000 → ⊥
         other e = omega arith
 
-        finite : b ≡ 2139095040 → ⊥
+        finite : b ≡ 0x7F800000 → ⊥
         finite e = omega arith
 
-    large-power : 1065353216 < b → powOf x y ≡ ofBits binary32 (infBits c)
-    large-power l = to-infinity other ∙ ap (ofBits binary32) (go (lt-or-ge b 2139095040))
+    large-power : 0x3F800000 < b → powOf x y ≡ ofBits binary32 (infBits c)
+    large-power l = to-infinity other ∙ ap (ofBits binary32) (go (lt-or-ge b 0x7F800000))
       where
-        other : b ≡ 1065353216 → ⊥
+        other : b ≡ 0x3F800000 → ⊥
         other e = omega arith
 
         less : {m n : ℕ} → m < n → m ≡ n → ⊥
         less l e = omega arith
 
-        go : (b < 2139095040) ⊎ (2139095040 ≤ b) → numBits b c ≡ infBits c
+        go : (b < 0x7F800000) ⊎ (0x7F800000 ≤ b) → numBits b c ≡ infBits c
         go (inl j) = num-to-inf b c nonzero (less j) i ∙ to-inf-high b c (omega arith)
         go (inr j) = num-inf b c nonzero (omega (arith, p .number))
 
   -- ---- +infinity
-  from-infinity : b ≡ 2139095040 → T (not (isNan y)) → (c % 2147483648 ≡ 0 → ⊥)
+  from-infinity : b ≡ 0x7F800000 → T (not (isNan y)) → (c % 2 ^ 31 ≡ 0 → ⊥)
       → powOf x y ≡ ofBits binary32 (infBits c)
   from-infinity e ny n =
       of-numbers x y (number-of-bits x (omega arith)) ny ∙ at-num b c n other (omega arith)
       ∙ ap (ofBits binary32) (num-inf b c nonzero e)
     where
-      other : b ≡ 1065353216 → ⊥
+      other : b ≡ 0x3F800000 → ⊥
       other k = omega arith
 
-      nonzero : b % 2147483648 ≡ 0 → ⊥
+      nonzero : b % 2 ^ 31 ≡ 0 → ⊥
       nonzero z = omega arith
 
   -- ---- NaN, and x below 0
@@ -205,7 +205,7 @@ module _ (x y : Float) (fx : T (fits binary32 x)) (fy : T (fits binary32 y)) whe
   from-minus : IsMinus x → (IsZero y → ⊥) → powOf x y ≡ nan
   from-minus m n = go (isNan y) refl
     where
-      other : b ≡ 1065353216 → ⊥
+      other : b ≡ 0x3F800000 → ⊥
       other e = omega arith
 
       go : (s : Bool) → isNan y ≡ s → powOf x y ≡ nan

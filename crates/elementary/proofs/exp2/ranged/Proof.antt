@@ -1,5 +1,6 @@
+-- The four ranges of the definition, by the digits of z.
 use mathlib.Core.Path.{sym, ap, _∙_}
-use Prim.Native.Nat.{_+_, _*_, _/_, _%_, _≤_}
+use Prim.Native.Nat.{_+_, _*_, _/_, _%_, _^_, _≤_}
 use native.Mathlib.Nat.{le-trans, le-of-eq}
 use lib.Dec.{lit≤}
 use lib.Ieee.{binary32, ofBits}
@@ -29,7 +30,7 @@ returns c =
     (c .before .before .if1 .taken) (c .before .if2 .taken))
 
 float-from-bits-result-2 : tie.Need-float-from-bits-result-2
-float-from-bits-result-2 c = below-nan 2139095040 (lit≤ tt)
+float-from-bits-result-2 c = below-nan 0x7F800000 (lit≤ tt)
 
 returns-2 : tie.Need-returns-2
 returns-2 c = ap (ofBits binary32) (sym (value-inf (c .before .before .args .z) (c .if2 .left)))
@@ -52,7 +53,7 @@ cast-result c = search needs
 float-from-bits-result-3 : tie.Need-float-from-bits-result-3
 float-from-bits-result-3 c =
     let s = c .before .before in
-    below-nan ((s .args .d / 4294967296 + s .args .z / 4294967296 % 128 * 16777216 + 128) / 512)
+    below-nan ((s .args .d / 2 ^ 32 + s .args .z / 2 ^ 32 % 128 * 2 ^ 24 + 128) / 512)
     (le-trans (sub-le (s .args .z) (s .args .d) (s .pre)) (lit≤ tt))
 
 returns-4 : tie.Need-returns-4

@@ -1,6 +1,6 @@
 use mathlib.Core.Path.{sym, ap, _∙_, subst}
 use mathlib.Core.Bool.{Bool, cond}
-use Prim.Native.Nat.{_+_, _<_}
+use Prim.Native.Nat.{_+_, _^_, _<_}
 use lib.Ieee.{binary32, ofBits}
 use borrow.Author.Needs.{needs}
 use Rattle.elementary.specs.Power.{exp2Bits}
@@ -20,7 +20,7 @@ normal-by-requires c κs =
 returns : tie.Need-returns
 returns c =
     let z = c .before .before .before .args .z in
-    c .normal-by .ensures ∙ ap (λ (q : Bool). ofBits binary32 (exp2Bits (cond q (z + 36028797018963968) z)))
+    c .normal-by .ensures ∙ ap (λ (q : Bool). ofBits binary32 (exp2Bits (cond q (z + 2 ^ 55) z)))
     (sym (c .before .if1 .taken))
 
 digits-by-requires : tie.Need-digits-by-requires
@@ -32,7 +32,7 @@ ranged-requires c κs = search needs
 returns-2 : tie.Need-returns-2
 returns-2 c =
     let z = c .before .before .before .before .args .z in
-    c .ranged .ensures ∙ ap (λ (q : Bool). ofBits binary32 (exp2Bits (cond q (z + 36028797018963968) z)))
+    c .ranged .ensures ∙ ap (λ (q : Bool). ofBits binary32 (exp2Bits (cond q (z + 2 ^ 55) z)))
     (sym (c .before .before .if1 .left))
 
 pub value-of-spec : {M : Type 1} → statement M

@@ -13,7 +13,7 @@ tp : (c : tie.Start) → Top (c .args .x) (leadingZeros 64 (c .args .x))
 tp c = top (c .args .x) (omega arith) (omega arith)
 
 shifted : (c : tie.Start) → c .args .x * 2 ^ leadingZeros 64
-    (c .args .x) % 18446744073709551616 ≡ c .args .x * 2 ^ leadingZeros 64 (c .args .x)
+    (c .args .x) % 2 ^ 64 ≡ c .args .x * 2 ^ leadingZeros 64 (c .args .x)
 shifted c = mod-eq-of-lt (tp c .high)
 
 cast-y : tie.Need-cast-y
@@ -49,7 +49,7 @@ add-result-2 c = search needs
 returns : tie.Need-returns
 returns c =
     let x = c .before .args .x in
-    fine-from x (x * 2 ^ leadingZeros 64 x % 18446744073709551616) (c .fine-log2-at .result) (shifted (c .before))
+    fine-from x (x * 2 ^ leadingZeros 64 x % 2 ^ 64) (c .fine-log2-at .result) (shifted (c .before))
     (c .fine-log2-at .ensures .0)
 
 pub fine-log2-spec : {M : Type 1} → statement M

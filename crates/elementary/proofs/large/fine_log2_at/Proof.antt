@@ -1,5 +1,5 @@
 use mathlib.Core.Path.{_≡_, ap, _∙_}
-use Prim.Native.Nat.{ℕ, _+_, _*_, _/_, _≤_, _<_}
+use Prim.Native.Nat.{ℕ, _+_, _*_, _/_, _^_, _≤_, _<_}
 use native.Mathlib.Nat.{le-trans, le-of-eq, mod-eq-of-lt, mul-le-mul, mul-pos, div-le-self}
 use native.Mathlib.Omega.{arith}
 use borrow.Author.Needs.{needs}
@@ -41,7 +41,7 @@ add-line c =
           (div-le-self 49570588694 (512 + c .before .args .i)),
     )
   where
-    fits : (h q : ℕ) → h ≤ 3221225471 → q ≤ 49570588694 → h * 4294967296 + q < 18446744073709551616
+    fits : (h q : ℕ) → h ≤ 3221225471 → q ≤ 49570588694 → h * 2 ^ 32 + q < 2 ^ 64
     fits h q k l = omega arith
 
 mul-fine-log2-by : tie.Need-mul-fine-log2-by
@@ -56,7 +56,7 @@ fine-log2-by-requires c κs =
     let s = c .before in (
       s .pre .0,
       s .pre .1,
-      ap (λ (h : ℕ). h * 4294967296 + 49570588694 / (512 + s .args .i)) (height-is c),
+      ap (λ (h : ℕ). h * 2 ^ 32 + 49570588694 / (512 + s .args .i)) (height-is c),
       search
           needs,
     )

@@ -1,8 +1,8 @@
 use mathlib.Core.Path.{sym, ap, _∙_, subst}
-use Prim.Native.Nat.{ℕ, _≤_}
+use Prim.Native.Nat.{ℕ, _^_, _≤_}
 use Rattle.elementary.specs.Power.{fineArg}
 use Rattle.elementary.proofs.large.Cases.{arg-low, arg-mid, arg-high}
-use Rattle.elementary.proofs.large.Steps.{fine-tight, yes, no′}
+use Rattle.elementary.proofs.large.Steps.{fine-tight, plus, minus}
 use borrow.Author.Needs.{needs}
 use Rattle.elementary.proofs.large.large_arg.Statement.{statement}
 use Rattle.elementary.proofs.large.large_arg.Tie as tie
@@ -10,12 +10,12 @@ use Rattle.elementary.proofs.large.large_arg.Tie as tie
 returns : tie.Need-returns
 returns c =
     let s = c .before .before in sym (arg-low (s .args .x) (s .args .c) (c .before .if1 .taken)
-    ∙ yes (s .args .c) 0 72057594037927936 (c .if2 .taken))
+    ∙ plus (s .args .c) 0 (2 ^ 56) (c .if2 .taken))
 
 returns-2 : tie.Need-returns-2
 returns-2 c =
     let s = c .before .before in sym (arg-low (s .args .x) (s .args .c) (c .before .if1 .taken)
-    ∙ no′ (s .args .c) 0 72057594037927936 (c .if2 .left))
+    ∙ minus (s .args .c) 0 (2 ^ 56) (c .if2 .left))
 
 fine-log2-requires : tie.Need-fine-log2-requires
 fine-log2-requires c κs = search needs
@@ -35,12 +35,12 @@ returns-3 c =
 returns-4 : tie.Need-returns-4
 returns-4 c =
     let s = c .before .before .before in sym (arg-high (s .args .x) (s .args .c) (c .before .if3 .left)
-    ∙ yes (s .args .c) 72057594037927936 0 (c .if4 .taken))
+    ∙ plus (s .args .c) (2 ^ 56) 0 (c .if4 .taken))
 
 returns-5 : tie.Need-returns-5
 returns-5 c =
     let s = c .before .before .before in sym (arg-high (s .args .x) (s .args .c) (c .before .if3 .left)
-    ∙ no′ (s .args .c) 72057594037927936 0 (c .if4 .left))
+    ∙ minus (s .args .c) (2 ^ 56) 0 (c .if4 .left))
 
 pub large-arg-spec : {M : Type 1} → statement M
 large-arg-spec =

@@ -1,10 +1,10 @@
 use native.Mathlib.Omega.{arith}
-use Prim.Native.Nat.{_/_, _%_}
+use Prim.Native.Nat.{_/_, _%_, _^_}
 use Rattle.elementary.proofs.large.Squaring.{SquareFits, square-is}
 use Rattle.elementary.proofs.large.square.Statement.{statement}
 use Rattle.elementary.proofs.large.square.Tie as tie
 
-fit : (c : tie.Start) → SquareFits (c .args .x / 2147483648) (c .args .x % 2147483648) (c .args .x)
+fit : (c : tie.Start) → SquareFits (c .args .x / 2 ^ 31) (c .args .x % 2 ^ 31) (c .args .x)
 fit c = square-is (c .args .x) (c .pre)
 
 mul-result : tie.Need-mul-result

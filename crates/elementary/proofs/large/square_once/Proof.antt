@@ -1,5 +1,5 @@
 use mathlib.Core.Path.{sym, _∙_}
-use Prim.Native.Nat.{_*_, _/_}
+use Prim.Native.Nat.{_*_, _/_, _^_}
 use borrow.Author.Needs.{needs}
 use Rattle.elementary.proofs.large.Squaring.{squares-zero, squares-low, squares-mid, squares-high}
 use Rattle.elementary.proofs.large.square_once.Statement.{statement}
@@ -12,7 +12,7 @@ returns : tie.Need-returns
 returns c =
     let x = c .before .before .before .args .x in
     c .square .ensures ∙ sym (squares-mid 0 x (c .before .before .if1 .taken) (c .before .if2 .taken)
-    ∙ squares-zero (x * x / 1152921504606846976))
+    ∙ squares-zero (x * x / 2 ^ 60))
 
 returns-2 : tie.Need-returns-2
 returns-2 c = sym (squares-high 0 (c .before .before .args .x) (c .if2 .left))

@@ -1,5 +1,6 @@
+-- The five cases of the definition, by the pattern of x and the number of squares.
 use mathlib.Core.Path.{sym, ap, _∙_}
-use Prim.Native.Nat.{_+_, _-_, _/_, _%_}
+use Prim.Native.Nat.{_+_, _-_, _/_, _%_, _^_}
 use native.Mathlib.Nat.{mod-eq-of-lt, lt-of-lt-of-le}
 use native.Mathlib.Omega.{arith}
 use lib.Dec.{lit≤}
@@ -38,8 +39,8 @@ returns-2 : tie.Need-returns-2
 returns-2 c =
     let s = c .before .before .before .before in
     let p = s .args .p in
-    let r = start-range (p / 8388608) (8388608 + p % 8388608) (omega arith) (omega arith) (omega arith) (omega arith) in
-    c .squares .ensures ∙ ap (squares (s .args .c % 2147483648 / 8388608 - 133))
+    let r = start-range (p / 2 ^ 23) (2 ^ 23 + p % 2 ^ 23) (omega arith) (omega arith) (omega arith) (omega arith) in
+    c .squares .ensures ∙ ap (squares (s .args .c % 2 ^ 31 / 2 ^ 23 - 133))
     (mod-eq-of-lt (lt-of-lt-of-le (r .1) (lit≤ tt)))
     ∙ sym (squared-2 p (s .args .c) (c .before .before .before .if1 .left) (c .before .before .if2 .taken)
     (c .before .if3 .taken))

@@ -1,3 +1,4 @@
+-- The invariant of its loop: k - i more squares of y are k squares of x. The measure is k - i.
 use mathlib.Core.Path.{_≡_, sym, ap, _∙_}
 use Prim.Native.Nat.{ℕ, suc, _+_, _-_, _≤_}
 use native.Mathlib.Nat.{sub-zero}

@@ -1,4 +1,4 @@
-use Prim.Native.Nat.{_%_, _≤_}
+use Prim.Native.Nat.{_*_, _%_, _^_, _≤_}
 use native.Mathlib.Nat.{le-trans, le-of-eq}
 use native.Mathlib.Omega.{arith}
 use borrow.Author.Needs.{needs}
@@ -34,7 +34,7 @@ size c =
     let s = c .before .before in
     let o = s .pre .other (c .before .if1 .left) in
     le-trans (le-of-eq (c .abs-diff .ensures))
-    (diff-le 682899800064 (s .args .l) 639950127104 (omega (arith, o)) (omega (arith, o)))
+    (diff-le (159 * 2 ^ 32) (s .args .l) 639950127104 (omega (arith, o)) (omega (arith, o)))
 
 product-of-requires : tie.Need-product-of-requires
 product-of-requires c κs = (size c, c .before .before .pre .small)
@@ -43,7 +43,7 @@ signed-arg-requires : tie.Need-signed-arg-requires
 signed-arg-requires c κs =
     let s = c .before .before .before in
     le-trans (le-of-eq (c .product-of .ensures))
-    (product-small (c .before .abs-diff .result) (s .args .c % 2147483648) (size (c .before)) (s .pre .small))
+    (product-small (c .before .abs-diff .result) (s .args .c % 2 ^ 31) (size (c .before)) (s .pre .small))
 
 returns-2 : tie.Need-returns-2
 returns-2 c =

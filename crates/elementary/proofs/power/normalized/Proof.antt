@@ -14,7 +14,7 @@ sub : (c : tie.Then1) → Sub (c .before .args .b) (leadingZeros 32 (c .before .
 sub c = sub32 (c .before .args .b) (c .before .pre .0) (c .if1 .taken)
 
 small : (c : tie.Then1) → c .before .args .b * 2 ^ (leadingZeros 32
-    (c .before .args .b) - 8) % 4294967296 ≡ c .before .args .b * 2 ^ (leadingZeros 32 (c .before .args .b) - 8)
+    (c .before .args .b) - 8) % 2 ^ 32 ≡ c .before .args .b * 2 ^ (leadingZeros 32 (c .before .args .b) - 8)
 small c = mod-eq-of-lt (lt-of-lt-of-le (sub c .high) (lit≤ tt))
 
 sub-result : tie.Need-sub-result
@@ -37,7 +37,7 @@ returns c =
     cut (leadingZeros 32 (c .before .args .b)) (sub c .most) (small c)
     ∙ sym (normalized-sub (c .before .args .b) (c .if1 .taken))
   where
-    cut : (z : ℕ) {m n : ℕ} → z ≤ 31 → m ≡ n → (40 - z) * 8388608 + m ≡ (41 - z - 1) * 8388608 + n
+    cut : (z : ℕ) {m n : ℕ} → z ≤ 31 → m ≡ n → (40 - z) * 2 ^ 23 + m ≡ (41 - z - 1) * 2 ^ 23 + n
     cut z h e = omega arith
 
 add-result-2 : tie.Need-add-result-2

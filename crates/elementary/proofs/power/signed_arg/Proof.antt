@@ -1,6 +1,6 @@
 use mathlib.Core.Path.{sym, ap, _∙_}
 use mathlib.Core.Bool.{Bool, cond}
-use Prim.Native.Nat.{_+_, _-_}
+use Prim.Native.Nat.{_+_, _-_, _*_, _^_}
 use borrow.Author.Needs.{needs}
 use Rattle.elementary.specs.Power.{signedArg}
 use Rattle.elementary.proofs.power.signed_arg.Statement.{statement}
@@ -16,7 +16,7 @@ returns : tie.Need-returns
 unfolding signedArg
 returns c =
     let s = c .before .before in
-    ap (λ (b : Bool). cond b (36098066251513856 - s .args .u) (36098066251513856 + s .args .u))
+    ap (λ (b : Bool). cond b ((2 ^ 16 + 126) * 2 ^ 39 - s .args .u) ((2 ^ 16 + 126) * 2 ^ 39 + s .args .u))
     (sym (c .if1 .taken) ∙ c .before .is-negative .ensures)
 
 add-result : tie.Need-add-result
@@ -26,7 +26,7 @@ returns-2 : tie.Need-returns-2
 unfolding signedArg
 returns-2 c =
     let s = c .before .before in
-    ap (λ (b : Bool). cond b (36098066251513856 - s .args .u) (36098066251513856 + s .args .u))
+    ap (λ (b : Bool). cond b ((2 ^ 16 + 126) * 2 ^ 39 - s .args .u) ((2 ^ 16 + 126) * 2 ^ 39 + s .args .u))
     (sym (c .if1 .left) ∙ c .before .is-negative .ensures)
 
 pub signed-arg-spec : {M : Type 1} → statement M

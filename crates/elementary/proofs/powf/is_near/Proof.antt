@@ -1,6 +1,7 @@
+-- A quick pair is near; else the three tests are the definition's.
 use mathlib.Core.Path.{sym, subst}
 use mathlib.Core.Bool.{Bool, not, true≢false}
-use Prim.Native.Nat.{ℕ, _%_}
+use Prim.Native.Nat.{ℕ, _%_, _^_}
 use native.Mathlib.Omega.{arith}
 use lib.Dec.{T, ltb→lt, nltb→le}
 use Rattle.elementary.specs.Quick.{Near, Quick}
@@ -30,11 +31,11 @@ returns-2 c =
         positive = c .before .if2 .taken;
         finite = c .if3 .taken;
         small = omega
-            (arith, ltb→lt (s .args .c % 2147483648) 1124073473 (subst T (sym e) tt));
+            (arith, ltb→lt (s .args .c % 2 ^ 31) 0x43000001 (subst T (sym e) tt));
       },
       λ e n. omega (
         arith,
-        nltb→le (s .args .c % 2147483648) 1124073473 (subst (λ (t : Bool). T (not t)) (sym e) tt),
+        nltb→le (s .args .c % 2 ^ 31) 0x43000001 (subst (λ (t : Bool). T (not t)) (sym e) tt),
         n .small,
       ),
     )

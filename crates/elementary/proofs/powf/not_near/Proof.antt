@@ -1,6 +1,7 @@
+-- A finite x above 0 and a finite y that are not near have |y| above 128; what is left is special.
 use mathlib.Core.Path.{sym, ap, _∙_}
 use mathlib.Core.Logic.{_⊎_, inl, inr}
-use Prim.Native.Nat.{ℕ, _%_, _≤_, _<_}
+use Prim.Native.Nat.{ℕ, _%_, _^_, _≤_, _<_}
 use native.Mathlib.Omega.{arith}
 use borrow.Author.Needs.{needs}
 use lib.Ieee.{binary32, ofBits}
@@ -11,10 +12,10 @@ use Rattle.elementary.proofs.powf.Cases.{at-regular}
 use Rattle.elementary.proofs.powf.not_near.Statement.{statement}
 use Rattle.elementary.proofs.powf.not_near.Tie as tie
 
-above : (b c : ℕ) → (Near b c → ⊥) → 0 < b → b < 2139095040 → 1124073473 ≤ c % 2147483648
-above b c n p f = go (lt-or-ge (c % 2147483648) 1124073473)
+above : (b c : ℕ) → (Near b c → ⊥) → 0 < b → b < 0x7F800000 → 0x43000001 ≤ c % 2 ^ 31
+above b c n p f = go (lt-or-ge (c % 2 ^ 31) 0x43000001)
   where
-    go : (c % 2147483648 < 1124073473) ⊎ (1124073473 ≤ c % 2147483648) → 1124073473 ≤ c % 2147483648
+    go : (c % 2 ^ 31 < 0x43000001) ⊎ (0x43000001 ≤ c % 2 ^ 31) → 0x43000001 ≤ c % 2 ^ 31
     go (inl i) = absurd (n record { positive = p; finite = f; small = omega arith })
     go (inr i) = i
 

@@ -1,3 +1,4 @@
+-- By which of the two is a NaN, and by the other being 1 or ±0.
 use mathlib.Core.Path.{_≡_, sym, _∙_}
 use lib.Dec.{lit≤}
 use lib.Ieee.{nan}
@@ -16,7 +17,7 @@ float-to-bits-if3 : tie.Need-float-to-bits-if3
 float-to-bits-if3 c = is-number (c .before .before .args .x) (c .if2 .left)
 
 float-from-bits-result : tie.Need-float-from-bits-result
-float-from-bits-result c = no-nan-bits 1065353216 (lit≤ tt)
+float-from-bits-result c = no-nan-bits 0x3F800000 (lit≤ tt)
 
 returns-2 : tie.Need-returns-2
 returns-2 c =
@@ -33,7 +34,7 @@ float-to-bits-if4 : tie.Need-float-to-bits-if4
 float-to-bits-if4 c = is-number (c .before .args .y) (c .if1 .left)
 
 float-from-bits-result-2 : tie.Need-float-from-bits-result-2
-float-from-bits-result-2 c = no-nan-bits 1065353216 (lit≤ tt)
+float-from-bits-result-2 c = no-nan-bits 0x3F800000 (lit≤ tt)
 
 returns-4 : tie.Need-returns-4
 returns-4 c =

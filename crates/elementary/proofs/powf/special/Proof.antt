@@ -1,6 +1,6 @@
 -- `powf::special` meets its contract.
 use mathlib.Core.Path.{_≡_, refl, sym, ap, subst, _∙_}
-use Prim.Native.Nat.{ℕ, _%_, _≤_}
+use Prim.Native.Nat.{ℕ, _%_, _^_, _≤_}
 use lib.Dec.{lit≤}
 use lib.Ieee.{nan, binary32, div, ofBits}
 use Rattle.elementary.proofs.Common.{no-nan-bits}
@@ -13,13 +13,13 @@ unfolding div ofBits
 zero-by-zero = refl
 
 float-from-bits-result : tie.Need-float-from-bits-result
-float-from-bits-result c = no-nan-bits 1065353216 (lit≤ tt)
+float-from-bits-result c = no-nan-bits 0x3F800000 (lit≤ tt)
 
 returns : tie.Need-returns
 returns c = sym (at-zero (c .before .args .b) (c .before .args .c) (c .if1 .taken))
 
 float-from-bits-result-2 : tie.Need-float-from-bits-result-2
-float-from-bits-result-2 c = no-nan-bits 1065353216 (lit≤ tt)
+float-from-bits-result-2 c = no-nan-bits 0x3F800000 (lit≤ tt)
 
 returns-2 : tie.Need-returns-2
 returns-2 c = sym (at-one (c .before .before .args .b) (c .before .before .args .c) (c .if2 .taken))
@@ -44,7 +44,7 @@ special-bits-requires c κs =
 float-from-bits-result-3 : tie.Need-float-from-bits-result-3
 float-from-bits-result-3 c =
     let s = c .before .before .before .before in
-    no-nan-bits (c .special-bits .result) (subst (λ (i : ℕ). i % 2147483648 ≤ 2139095040)
+    no-nan-bits (c .special-bits .result) (subst (λ (i : ℕ). i % 2 ^ 31 ≤ 0x7F800000)
     (sym (c .special-bits .ensures)) (num-mod (s .args .b) (s .args .c) (c .before .if3 .left)))
 
 returns-4 : tie.Need-returns-4

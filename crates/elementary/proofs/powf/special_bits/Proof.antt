@@ -1,6 +1,6 @@
 -- `powf::special_bits` meets its contract.
 use mathlib.Core.Path.{_≡_, sym, _∙_}
-use Prim.Native.Nat.{ℕ, _%_, _≤_, _<_}
+use Prim.Native.Nat.{ℕ, _%_, _^_, _≤_, _<_}
 use native.Mathlib.Omega.{arith}
 use borrow.Author.Needs.{needs}
 use Rattle.elementary.proofs.powf.Cases.{num-zero, num-inf, num-to-inf}
@@ -28,8 +28,8 @@ to-inf-bits-requires : tie.Need-to-inf-bits-requires
 to-inf-bits-requires c κs = search needs
 
 -- y is an infinity
-infinite : (b a : ℕ) → b ≤ 2147483648 → b % 2147483648 ≤ 2139095040 → a ≤ 2139095040
-    → (0 < b → b < 2139095040 → 2139095040 ≤ a) → (b % 2147483648 ≡ 0 → ⊥) → (b ≡ 2139095040 → ⊥) → a ≡ 2139095040
+infinite : (b a : ℕ) → b ≤ 2 ^ 31 → b % 2 ^ 31 ≤ 0x7F800000 → a ≤ 0x7F800000
+    → (0 < b → b < 0x7F800000 → 0x7F800000 ≤ a) → (b % 2 ^ 31 ≡ 0 → ⊥) → (b ≡ 0x7F800000 → ⊥) → a ≡ 0x7F800000
 infinite b a h i j k l m = omega (arith, k (omega arith) (omega arith))
 
 returns-3 : tie.Need-returns-3
@@ -39,7 +39,7 @@ returns-3 c =
     let l = c .before .before .if1 .left in
     let m = c .before .if2 .left in
     c .to-inf-bits .ensures ∙ sym (num-to-inf (s .args .b) (s .args .c) l m
-    (infinite (s .args .b) (s .args .c % 2147483648) (p .0) (p .1) (p .2) (p .3) l m))
+    (infinite (s .args .b) (s .args .c % 2 ^ 31) (p .0) (p .1) (p .2) (p .3) l m))
 
 pub special-bits-spec : {M : Type 1} → statement M
 special-bits-spec =
