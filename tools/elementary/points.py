@@ -6,7 +6,7 @@ A line is a letter (e: exp, l: ln, p: powf), the bit patterns of x and y, and th
 of an accepted result. The exact values come from python's decimal, whose exp and ln are correctly rounded, at 100
 digits; the accepted results are all f32 within the promised number of steps of the exact value. Where an f32 lies
 nearer than 2^-200 of a unit to the edge of what is accepted, the value is taken as the fraction that it then is, as
-in 3^2. Results that the promise leaves to the definition are not listed. Needs python3 alone."""
+in 3^2. Results between the ranges that the promise names are not listed. Needs python3 alone."""
 import random
 import struct
 from decimal import Decimal, getcontext
@@ -109,8 +109,6 @@ def pow_row(x, y):
     if ay == INF:
         r = INF if (x > ONE) == (y < SIGN) else 0
         return r, r
-    if ay > 0x43000000:
-        return None
     power = decimal(y) * decimal(x).ln()
     if power < -127 * LN2 - Decimal(10) ** -50:
         return 0, 0
@@ -180,6 +178,16 @@ def main():
                 y = struct.unpack("<I", struct.pack("<f", want))[0]
                 if draw.random() < 0.5:
                     add("p", x, y, pow_row(x, y))
+    # exponents above 128: x near 1 with results within the range and near its ends, and results far beyond
+    for _ in range(300):
+        x = ONE + draw.choice((-1, 1)) * draw.randrange(1, 1 << draw.randrange(1, 22))
+        want = draw.choice((draw.uniform(-126, 127), draw.choice((-127.01, -126.0, 127.0, 129.01)))) * 0.6931471805599453 / float(decimal(x).ln())
+        y = struct.unpack("<I", struct.pack("<f", want))[0]
+        add("p", x, y, pow_row(x, y))
+    for x in near(ONE, 2) + [1, 0x3F000000, two, 0x7F7FFFFF]:
+        for y in near(0x43000000, 1) + [0x43800000, 0x4E800000, 0x4F000000, 0x5F000000, 0x7F000000, 0x7F7FFFFF]:
+            add("p", x, y, pow_row(x, y))
+            add("p", x, y | SIGN, pow_row(x, y | SIGN))
     for row in sorted(rows):
         print(row[0], *("%08X" % p for p in row[1:]))
 

@@ -1,5 +1,5 @@
 #!/usr/bin/env python3
-"""The tables of the crate `elementary`, by exact arithmetic: python3 tables.py
+"""The tables of the crates `elementary` and `power_tables`, by exact arithmetic: python3 tables.py
 
 Prints each table as the list of specs/ has it. With --check REPO it compares them, and the arms of the
 `match`es, with the files in REPO instead. Needs python3 alone."""
@@ -67,43 +67,112 @@ def power():
     return [c[i // 32] * f[i % 32] // 2**31 for i in range(355)]
 
 
-# (file of specs/, name, file of src/ or none, the rows); `power` is a product in specs/, not a list
-TABLES = [("Exp", "coarse", None, coarse), ("Exp", "fine", None, fine), (None, "power", "powers", power), ("Ln", "first", "ln", first), ("Ln", "second", "ln", second)]
+def log2_floor(a, b, scale):
+    """floor(scale * log2(a/b)) for a >= b, where a/b is no power of two but 1."""
+    wide = 2**160
+    low, ln2 = ln_floor(a, b, wide), ln_floor(2, 1, wide)
+    p, q = scale * low // (ln2 + 1), scale * (low + 1) // ln2
+    assert a == b or p == q
+    return 0 if a == b else p
 
 
-def listed(repo, spec, name):
-    text = open(f"{repo}/crates/elementary/specs/{spec}.antt").read()
+def heights():
+    return [log2_floor(512 + i, 512, 2**35) - i * 2**26 + 7 for i in range(512)]
+
+
+def powers():
+    """floor(2^31 * 2^(i/128)): the largest t with t^128 <= 2^(31 * 128 + i)."""
+    rows = []
+    for i in range(128):
+        low, high = 2**31, 2**32
+        while high - low > 1:
+            m = (low + high) // 2
+            low, high = (m, high) if m**128 <= 2 ** (31 * 128 + i) else (low, m)
+        rows.append(low)
+    return rows
+
+
+def rounded(low, high):
+    """The nearest whole number to both."""
+    a, b = (low + Fraction(1, 2)).__floor__(), (high + Fraction(1, 2)).__floor__()
+    assert a == b
+    return a
+
+
+LN2 = (Fraction(ln_floor(2, 1, 2**160), 2**160), Fraction(ln_floor(2, 1, 2**160) + 1, 2**160))
+SLOPE = rounded(*sorted((1 - Fraction(3, 2**22)) * 2**35 / v for v in LN2))
+CURVATURE = rounded(*sorted((1 - Fraction(1, 2**9)) / 2 * 2**39 / v for v in LN2))
+FIRST = rounded(*sorted((v - v**3 * Fraction(3, 2**19)) * 2**31 for v in LN2))
+SECOND = rounded(*sorted((v**2 / 2 + v**3 / 512) * 2**32 for v in LN2))
+
+
+def intervals():
+    """The height with the slope in one word, and the curvature, as the code has them."""
+    rows = []
+    for i, a in enumerate(heights()):
+        rows += [a * 2**32 + SLOPE // (512 + i), CURVATURE // (512 + i) ** 2]
+    return rows
+
+
+def words():
+    """A power less its straight line and with half a step, above the power itself."""
+    return [(t + 128 - i * 2**24) * 2**32 + t for i, t in enumerate(powers())]
+
+
+# (list of specs/ or none, function of src/ or none, the rows), each with its file; products and words stand in specs/ as formulas
+TABLES = [
+    ("elementary/specs/Exp coarse", None, coarse),
+    ("elementary/specs/Exp fine", None, fine),
+    (None, "elementary/src/powers power_at", power),
+    ("elementary/specs/Ln first", "elementary/src/ln first_at", first),
+    ("elementary/specs/Ln second", "elementary/src/ln second_at", second),
+    ("power_tables/specs/Tables heights", "power_tables/src/large height", heights),
+    ("power_tables/specs/Tables powers", None, powers),
+    (None, "power_tables/src/log2 entry", intervals),
+    (None, "power_tables/src/exp2 power", words),
+    (None, "power_tables/src/large power", words),
+]
+
+
+def listed(repo, place):
+    path, name = place.split()
+    text = open(f"{repo}/crates/{path}.antt").read()
     body = text[text.index(f"\n{name} =") :]
     return [int(v) for v in re.findall(r"(\d+) ∷", body[: body.index("[]")])]
 
 
-def arms(repo, source, name):
-    code = open(f"{repo}/crates/elementary/src/{source}.rt").read()
-    body = code[code.index(f"fn {name}_at(") :]
-    return [int(v) for v in re.findall(r"=> (\d+),", body[: body.index("\n}\n")])]
+def arms(repo, place):
+    path, name = place.split()
+    code = open(f"{repo}/crates/{path}.rt").read()
+    body = code[code.index(f"fn {name}(") :]
+    rows = re.findall(r"=> (?:Interval\()?(\d+)(?:, (\d+)\))?,", body[: body.index("\n}\n")])
+    return [int(v) for row in rows for v in row if v]
 
 
 def check(repo):
     bad = 0
-    for spec, name, source, make in TABLES:
+    for spec, source, make in TABLES:
         rows = make()
-        same = (spec is None or listed(repo, spec, name) == rows) and (source is None or arms(repo, source, name) == rows)
+        same = (spec is None or listed(repo, spec) == rows) and (source is None or arms(repo, source) == rows)
         bad += not same
-        print(name, len(rows), "entries:", "as computed" if same else "DIFFERENT")
+        print(spec or source, len(rows), "numbers:", "as computed" if same else "DIFFERENT")
     ln2 = {48: 195103586505167, 52: 3121657384082679}
     for k, v in ln2.items():
         same = ln_floor(2, 1, 2**k) == v
         bad += not same
         print(f"2^{k} ln 2:", "as computed" if same else "DIFFERENT")
+    same = (SLOPE, CURVATURE, FIRST, SECOND) == (49570588694, 395790452196, 1488518144, 1034558604)
+    bad += not same
+    print("the four factors of powf:", "as computed" if same else "DIFFERENT")
     return bad
 
 
 def main():
     if len(sys.argv) == 3 and sys.argv[1] == "--check":
         sys.exit(1 if check(sys.argv[2]) else 0)
-    for _, name, _, make in TABLES:
+    for spec, source, make in TABLES:
         rows = make()
-        print(f"{name} =")
+        print(f"{(spec or source).split()[1]} =")
         for i in range(0, len(rows), 8):
             print("    " + " ∷ ".join(str(v) for v in rows[i : i + 8]) + (" ∷" if i + 8 < len(rows) else " ∷ []"))
 

@@ -8,25 +8,29 @@ ghost use Rattle.float32.specs.Float32 as Float32;
 ghost use Rattle.elementary.specs.Exp.{expOf};
 ghost use Rattle.elementary.specs.Ln.{lnOf};
 ghost use Rattle.elementary.specs.Pow.{powOf};
+ghost use Rattle.elementary.specs.Accuracy.{IsExp, IsLn, IsPow};
 ghost use Rattle.draws.specs.Draws as Draws;
 
 #[no_mangle]
 pub extern "C" fn drill_exp(x: f32) -> f32
-    ensures { λ r. ⌜ r ≡ expOf x ⌝ }
+    ensures value { λ r. ⌜ r ≡ expOf x ⌝ }
+    ensures bound { λ r. ⌜ IsExp x r ⌝ }
 {
     elementary::exp_f32(x)
 }
 
 #[no_mangle]
 pub extern "C" fn drill_ln(x: f32) -> f32
-    ensures { λ r. ⌜ r ≡ lnOf x ⌝ }
+    ensures value { λ r. ⌜ r ≡ lnOf x ⌝ }
+    ensures bound { λ r. ⌜ IsLn x r ⌝ }
 {
     elementary::ln_f32(x)
 }
 
 #[no_mangle]
 pub extern "C" fn drill_powf(x: f32, y: f32) -> f32
-    ensures { λ r. ⌜ r ≡ powOf x y ⌝ }
+    ensures value { λ r. ⌜ r ≡ powOf x y ⌝ }
+    ensures bound { λ r. ⌜ IsPow x y r ⌝ }
 {
     elementary::powf_f32(x, y)
 }

@@ -1,7 +1,7 @@
 -- What the proofs of more than one function use: NaN and its patterns, and the fraction of a float.
 use mathlib.Core.Path.{_≡_, refl, sym, ap, subst, _∙_}
 use mathlib.Core.Bool.{Bool, true, false, not}
-use Prim.Native.Nat.{ℕ, _*_, _%_, _≤_, _<_}
+use Prim.Native.Nat.{ℕ, _*_, _%_, _^_, _≤_, _<_}
 use native.Mathlib.Omega.{arith}
 use lib.Dec.{T, ltb, ltb→lt, nltb→le, not-T}
 use lib.IntN.{pos}
@@ -26,32 +26,48 @@ pub equals-itself : (x : Float) → eq x x ≡ true → T (not (isNan x))
 unfolding ne
 equals-itself x h = is-number x (ap not h)
 
+-- what differs from itself
+pub unequal : (x : Float) → eq x x ≡ false → x ≡ nan
+unfolding ne
+unequal x h = is-nan x (ap not h)
+
 -- NaN's own pattern is above the infinity's
-pub number-of-bits : (x : Float) → toBits binary32 x % 2147483648 ≤ 2139095040 → T (not (isNan x))
+pub number-of-bits : (x : Float) → toBits binary32 x % 2 ^ 31 ≤ 0x7F800000 → T (not (isNan x))
 unfolding isNan toBits
 number-of-bits nan h = absurd (no h)
   where
-    no : 2143289344 ≤ 2139095040 → ⊥
+    no : 2143289344 ≤ 0x7F800000 → ⊥
     no h = omega arith
 number-of-bits (inf s) h = tt
 number-of-bits (fin s m e) h = tt
 
 -- the pattern of a number
-pub bits-of-number : (x : Float) → T (fits binary32 x) → T (not (isNan x)) → toBits binary32 x % 2147483648 ≤ 2139095040
+pub bits-of-number : (x : Float) → T (fits binary32 x) → T (not (isNan x)) → toBits binary32 x % 2 ^ 31 ≤ 0x7F800000
 bits-of-number x f h =
     let b = toBits binary32 x in
-    let e : isNan x ≡ ltb 2139095040 (b % 2147483648) = ap isNan (sym (ofBits-toBits binary32 x f)) ∙ sym (nanBits-is binary32 b) ∙ nanBits-above binary32 b in
-    nltb→le 2139095040 (b % 2147483648) (subst (λ (t : Bool). T (not t)) e h)
+    let e : isNan x ≡ ltb 0x7F800000 (b % 2 ^ 31) = ap isNan (sym (ofBits-toBits binary32 x f))
+    ∙ sym (nanBits-is binary32 b) ∙ nanBits-above binary32 b in
+    nltb→le 0x7F800000 (b % 2 ^ 31) (subst (λ (t : Bool). T (not t)) e h)
 
-pub no-nan-bits : (n : ℕ) → n % 2147483648 ≤ 2139095040 → T (not (nanBits binary32 n))
-no-nan-bits n h = subst (λ (t : Bool). T (not t)) (sym (nanBits-above binary32 n)) (not-T (ltb 2139095040 (n % 2147483648)) (λ (u : T (ltb 2139095040 (n % 2147483648))). no (ltb→lt 2139095040 (n % 2147483648) u)))
+pub no-nan-bits : (n : ℕ) → n % 2 ^ 31 ≤ 0x7F800000 → T (not (nanBits binary32 n))
+no-nan-bits n h =
+    subst (λ (t : Bool). T (not t)) (sym (nanBits-above binary32 n))
+    (not-T (ltb 0x7F800000 (n % 2 ^ 31)) (λ (u : T (ltb 0x7F800000 (n % 2 ^ 31))). no
+    (ltb→lt 0x7F800000 (n % 2 ^ 31) u)))
   where
-    no : 2139095040 < n % 2147483648 → ⊥
+    no : 0x7F800000 < n % 2 ^ 31 → ⊥
     no u = omega arith
 
-pub infinity-is : ofBits binary32 2139095040 ≡ inf false
+pub below-nan : (n : ℕ) → n ≤ 0x7F800000 → T (not (nanBits binary32 n))
+below-nan n h = no-nan-bits n (omega arith)
+
+pub infinity-is : ofBits binary32 0x7F800000 ≡ inf false
 unfolding ofBits
 infinity-is = refl
+
+pub minus-infinity-is : ofBits binary32 4286578688 ≡ inf true
+unfolding ofBits
+minus-infinity-is = refl
 
 pub zero-is : ofBits binary32 0 ≡ fin false 0 (pos 0)
 unfolding ofBits

@@ -1,3 +1,4 @@
 pub mod Common
+pub mod Cubics
 pub mod Points
 pub mod Number

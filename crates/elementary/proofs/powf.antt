@@ -1,6 +1,4 @@
-pub mod Log
-pub mod Scale
-pub mod Near
 pub mod Cases
-pub mod Order
+pub mod Odd
 pub mod Law
+pub mod Series

@@ -5,6 +5,7 @@ use mathlib.Core.Bool.{Bool, cond}
 use Prim.Native.Nat.{ℕ, _+_, _-_, _*_, _/_, _%_, _^_}
 use lib.Dec.{ltb, eqb}
 use lib.ListN.{getD}
+use Rattle.series.specs.Exp.{ln2}
 use lib.Ieee.{Float, nan, binary32, isNan, ofBits, toBits}
 
 -- entry i is e^(i / 16), of `fine` e^(i / 512), in units of 2^-31, cut down
@@ -23,32 +24,32 @@ fine =
 -- e^(i / 512) in units of 2^-31
 unfoldable pub power : ℕ → ℕ
 unfolding coarse fine
-power i = getD coarse (i / 32 % 16) 0 * getD fine (i % 32) 0 / 2147483648
+power i = getD coarse (i / 32 % 16) 0 * getD fine (i % 32) 0 / 2 ^ 31
 
 -- e^(p / 2^48) for p below 2^39, by 1 + s (1 + s / 2), in units of 2^-31
 unfoldable pub small : ℕ → ℕ
 small p =
     let s = p / 256 in
-    2147483648 + s * (2147483648 + s / 1024) / 1099511627776
+    2 ^ 31 + s * (2 ^ 31 + s / 1024) / 2 ^ 40
 
 -- e^(r / 2^48) in units of 2^-31, for r below 2^48 ln 2
 unfoldable pub mant : ℕ → ℕ
 unfolding power small
-mant r = power (r / 549755813888) * small (r % 549755813888) / 2147483648
+mant r = power (r / 2 ^ 39) * small (r % 2 ^ 39) / 2 ^ 31
 
 -- |x| * 2^48 for the bit pattern a of |x|, from 2^-25 up
 unfoldable pub fixed : ℕ → ℕ
-fixed a = (a % 8388608 + 8388608) * 2 ^ (a / 8388608 - 102)
+fixed a = (a % 2 ^ 23 + 2 ^ 23) * 2 ^ (a / 2 ^ 23 - 102)
 
 -- the bit pattern of 2^(e - 127) e^(r / 2^48), rounded to the nearest f32, for e below 255; at e = 0 it is subnormal or 2^-126
 unfoldable pub packed : ℕ → ℕ → ℕ
 unfolding mant
-packed e r = cond (eqb e 0) ((mant r + 256) / 512) ((e - 1) * 8388608 + (mant r + 128) / 256)
+packed e r = cond (eqb e 0) ((mant r + 256) / 512) ((e - 1) * 2 ^ 23 + (mant r + 128) / 256)
 
 -- x + 127 ln 2 in units of 2^-48, less 128 units, for |x| = X / 2^48; the Bool says that x is not negative.
--- 195103586505167 and the next number lie on the two sides of 2^48 ln 2
+-- ln2 and the next number lie on the two sides of 2^48 ln 2
 unfoldable pub shifted : Bool → ℕ → ℕ
-shifted s X = cond s (24778155486156208 + X) (24778155486156208 - X)
+shifted s X = cond s (127 * (ln2 + 1) - 128 + X) (127 * (ln2 + 1) - 128 - X)
 
 -- the pattern of |x| from which on e^x is +infinity, or 0
 unfoldable pub limit : Bool → ℕ
@@ -60,12 +61,12 @@ unfolding fixed packed shifted limit
 expAbs s a =
     cond (ltb a 0x33000000) 0x3F800000
     (cond (ltb a (limit s))
-    (packed (shifted s (fixed a) / 195103586505168) (shifted s (fixed a) % 195103586505168))
+    (packed (shifted s (fixed a) / (ln2 + 1)) (shifted s (fixed a) % (ln2 + 1)))
     (cond s 0x7F800000 0))
 
 unfoldable pub expBits : ℕ → ℕ
 unfolding expAbs
-expBits b = expAbs (ltb b 0x80000000) (b % 0x80000000)
+expBits b = expAbs (ltb b (2 ^ 31)) (b % 2 ^ 31)
 
 unfoldable pub expOf : Float → Float
 unfolding expBits

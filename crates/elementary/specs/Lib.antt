@@ -1,4 +1,7 @@
 pub mod Exp
 pub mod Ln
+pub mod Power
+pub mod Quick
 pub mod Pow
 pub mod Accuracy
+pub mod Series

@@ -6,6 +6,7 @@ use Prim.Native.Nat.{ℕ, _+_, _-_, _*_, _/_, _%_, _^_}
 use lib.Dec.{ltb, eqb}
 use lib.Count.{leadingZeros}
 use lib.ListN.{getD}
+use Rattle.series.specs.Exp.{ln2Fine}
 use lib.Ieee.{Float, nan, inf, binary32, isNan, ofBits, toBits}
 
 -- entry i is c + 2^16 L, where c is 2^22 / (128 + i), cut up, and L is 2^47 ln (2^15 / c), cut down
@@ -50,51 +51,51 @@ second =
 
 -- ln (1 + d / 2^45) in units of 2^-45, cut down, for a small d
 unfoldable pub lnSmall : ℕ → ℕ
-lnSmall d = d - (d * d + 70368744177663) / 70368744177664
+lnSmall d = d - (d * d + (2 ^ 46 - 1)) / 2 ^ 46
 
 -- m / 2^23 = 2^15 / c * 2^17 / c' * (1 + D / 2^55), with t = m c, where c and c' are of the two tables
 unfoldable pub lnRest : ℕ → ℕ → ℕ
 unfolding second lnSmall
 lnRest t j =
     let e = getD second j 0 in
-    e / 262144 + lnSmall ((t * (e % 262144) - 36028797018963968) / 1024) * 128
+    e / 2 ^ 18 + lnSmall ((t * (e % 2 ^ 18) - 2 ^ 55) / 1024) * 128
 
 -- ln (m / 2^23) in units of 2^-52, from below
 unfoldable pub lnMant : ℕ → ℕ
 unfolding first lnRest
 lnMant m =
-    let e = getD first (m / 65536 % 128) 0 in
-    let t = m * (e % 65536) in
-    e / 65536 * 32 + lnRest t (t / 16777216 % 128)
+    let e = getD first (m / 2 ^ 16 % 128) 0 in
+    let t = m * (e % 2 ^ 16) in
+    e / 2 ^ 16 * 32 + lnRest t (t / 2 ^ 24 % 128)
 
 -- x = significand / 2^23 * 2^(exponent - 159), from the bit pattern b of a finite x above 0
 unfoldable pub exponent : ℕ → ℕ
-exponent b = cond (ltb b 8388608) (41 - leadingZeros 32 b) (32 + b / 8388608)
+exponent b = cond (ltb b (2 ^ 23)) (41 - leadingZeros 32 b) (32 + b / 2 ^ 23)
 
 unfoldable pub significand : ℕ → ℕ
-significand b = cond (ltb b 8388608) (b * 2 ^ (leadingZeros 32 b - 8)) (b % 8388608 + 8388608)
+significand b = cond (ltb b (2 ^ 23)) (b * 2 ^ (leadingZeros 32 b - 8)) (b % 2 ^ 23 + 2 ^ 23)
 
--- ln x + 159 ln 2 in units of 2^-52, from below: 2^52 ln 2 is 3121657384082679 and a part
+-- ln x + 159 ln 2 in units of 2^-52, from below
 unfoldable pub lnWide : ℕ → ℕ → ℕ
 unfolding lnMant
-lnWide n m = n * 3121657384082679 + lnMant m
+lnWide n m = n * ln2Fine + lnMant m
 
 unfoldable pub lnFixed : ℕ → ℕ
 unfolding exponent significand lnWide
 lnFixed b = lnWide (exponent b) (significand b)
 
--- |ln x| from there, again from below: 159 ln 2 is 496343524069145961 units, and lnFixed is at most 1320 too low
+-- |ln x| from there, again from below: lnFixed is at most 1320 too low
 unfoldable pub lnSize : ℕ → ℕ
-lnSize w = cond (ltb w 496343524069145961) (496343524069144641 - w) (w - 496343524069145961)
+lnSize w = cond (ltb w (159 * ln2Fine)) (159 * ln2Fine - 1320 - w) (w - 159 * ln2Fine)
 
 -- the sign's bit of ln x
 unfoldable pub lnSign : ℕ → ℕ
-lnSign w = cond (ltb w 496343524069145961) 0x80000000 0
+lnSign w = cond (ltb w (159 * ln2Fine)) (2 ^ 31) 0
 
 -- the bit pattern of w / 2^52, rounded to the nearest f32
 unfoldable pub rounded : ℕ → ℕ
 unfolding leadingZeros
-rounded w = cond (eqb w 0) 0 ((137 - leadingZeros 64 w) * 8388608 + (w * 2 ^ leadingZeros 64 w / 549755813888 + 1) / 2)
+rounded w = cond (eqb w 0) 0 ((137 - leadingZeros 64 w) * 2 ^ 23 + (w * 2 ^ leadingZeros 64 w / 2 ^ 39 + 1) / 2)
 
 -- the bit pattern of ln x from lnFixed
 unfoldable pub lnRounded : ℕ → ℕ
@@ -105,7 +106,7 @@ lnRounded w = rounded (lnSize w) + lnSign w
 unfoldable pub lnAt : ℕ → Float
 unfolding lnFixed lnRounded
 lnAt b =
-    cond (eqb (b % 0x80000000) 0) (inf true)
+    cond (eqb (b % 2 ^ 31) 0) (inf true)
     (cond (ltb b 0x7F800000) (ofBits binary32 (lnRounded (lnFixed b)))
     (cond (eqb b 0x7F800000) (inf false) nan))
 

@@ -2,12 +2,14 @@
 // definition (specs/Exp, Ln, Pow) and how near that is to the exact value (specs/Accuracy).
 
 mod exp;
-mod from_one;
+mod exp2;
+mod large;
 mod ln;
+mod log2;
+mod power;
 mod powers;
 mod powf;
 
 pub use exp::exp_f32;
-pub use from_one::powf_from_one;
 pub use ln::ln_f32;
 pub use powf::powf_f32;

@@ -2,7 +2,7 @@
 use crate::parameters::CurveParameters;
 use crate::parameters::Fsrs7Runtime;
 use elementary::exp_f32;
-use elementary::powf_from_one;
+use elementary::powf_f32;
 use float32::clamp;
 use float32::max;
 use float32::min;
@@ -46,7 +46,7 @@ pub(crate) fn decay_of(x: f32) -> f32
 fn decay1(p: CurveParameters, fast: f32) -> f32
     ensures { λ r. ⌜ r ≡ Runtime.decay1 p fast ⌝ }
 {
-    decay_of(p.w23 * powf_from_one(fast, p.power))
+    decay_of(p.w23 * powf_f32(fast, p.power))
 }
 
 fn factor1(p: CurveParameters, decay: f32) -> f32
@@ -64,13 +64,13 @@ fn d_timescale(p: CurveParameters, d: f32) -> f32
 fn weight1(p: CurveParameters, fast: f32) -> f32
     ensures { λ r. ⌜ r ≡ Runtime.weight1 p fast ⌝ }
 {
-    p.w27 * powf_from_one(fast, p.decline)
+    p.w27 * powf_f32(fast, p.decline)
 }
 
 fn weight2(p: CurveParameters, s: f32, d: f32) -> f32
     ensures { λ r. ⌜ r ≡ Runtime.weight2 p s d ⌝ }
 {
-    p.w28 * powf_from_one(s, p.w30) * exp_f32((d - 5.0) * p.weight)
+    p.w28 * powf_f32(s, p.w30) * exp_f32((d - 5.0) * p.weight)
 }
 
 // The curve at stabilities and a difficulty within their limits.
@@ -114,8 +114,8 @@ impl Curve {
     fn weighted(self, t: f32) -> f32
         ensures { λ r. ⌜ r ≡ Model.weighted self t ⌝ }
     {
-        self.weight1 * powf_from_one(base(self.factor1, t, self.fast), self.decay1)
-            + self.weight2 * powf_from_one(base(self.rate2, t, self.stability), self.decay2)
+        self.weight1 * powf_f32(base(self.factor1, t, self.fast), self.decay1)
+            + self.weight2 * powf_f32(base(self.rate2, t, self.stability), self.decay2)
     }
 
     // The chance of recall after t days.
@@ -128,9 +128,7 @@ impl Curve {
     fn dr1_dt(self, t: f32) -> f32
         ensures { λ r. ⌜ r ≡ Model.dr1 self t ⌝ }
     {
-        self.decay1
-            * powf_from_one(base(self.factor1, t, self.fast), self.decay1 - 1.0)
-            * self.factor1
+        self.decay1 * powf_f32(base(self.factor1, t, self.fast), self.decay1 - 1.0) * self.factor1
             / self.fast
     }
 
@@ -138,7 +136,7 @@ impl Curve {
         ensures { λ r. ⌜ r ≡ Model.dr2 self t ⌝ }
     {
         self.decay2
-            * powf_from_one(base(self.rate2, t, self.stability), self.decay2 - 1.0)
+            * powf_f32(base(self.rate2, t, self.stability), self.decay2 - 1.0)
             * self.factor2
             * self.timescale
             / self.stability

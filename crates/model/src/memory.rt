@@ -2,7 +2,7 @@
 use crate::parameters::Fsrs7Runtime;
 use crate::parameters::StabilityParameters;
 use elementary::exp_f32;
-use elementary::powf_from_one;
+use elementary::powf_f32;
 use float32::clamp;
 use float32::max;
 use float32::min;
@@ -61,7 +61,7 @@ fn pls(p: StabilityParameters, s: f32, r: f32) -> f32
 {
     min(
         s,
-        p.w10 * (powf_from_one(s + 1.0, p.w11) - 1.0) * exp_f32((1.0 - r) * p.w12),
+        p.w10 * (powf_f32(s + 1.0, p.w11) - 1.0) * exp_f32((1.0 - r) * p.w12),
     )
 }
 
@@ -78,7 +78,7 @@ fn sinc(p: StabilityParameters, s: f32, d: f32, r: f32, rating: u32) -> f32
 {
     p.growth
         * (11.0 - d)
-        * powf_from_one(s, p.decline)
+        * powf_f32(s, p.decline)
         * (exp_f32((1.0 - r) * p.w9) - 1.0)
         * where_rated(rating, 2, p.w13)
         * where_rated(rating, 4, p.w14)

@@ -42,70 +42,70 @@ module _ (x : Float) (u v : ℕ) (up : 0 < u) (vp : 0 < v) (h : HasValue x false
   le-float true a b g = ge-weaken a b v u (den x) (num x) up (omega (arith, cross)) g
 
 -- from units of 2^-52 to others
-ge-at : (s : Bool) (u v w a b : ℕ) → 0 < b → a * 4503599627370496 ≤ w * b → Ge s u v w 4503599627370496 → Ge s u v a b
-ge-at false u v w a b B h g = le-below a b w 4503599627370496 u v B (lit< tt) h g
-ge-at true u v w a b B h g = le-below a b w 4503599627370496 v u B (lit< tt) h g
+ge-at : (s : Bool) (u v w a b : ℕ) → 0 < b → a * 2 ^ 52 ≤ w * b → Ge s u v w (2 ^ 52) → Ge s u v a b
+ge-at false u v w a b B h g = le-below a b w (2 ^ 52) u v B (lit< tt) h g
+ge-at true u v w a b B h g = le-below a b w (2 ^ 52) v u B (lit< tt) h g
 
-le-at : (s : Bool) (u v w a b : ℕ) → 0 < b → w * b ≤ a * 4503599627370496 → Le s u v w 4503599627370496 → Le s u v a b
-le-at false u v w a b B h g = ge-above a b w 4503599627370496 u v B (lit< tt) h g
-le-at true u v w a b B h g = ge-above a b w 4503599627370496 v u B (lit< tt) h g
+le-at : (s : Bool) (u v w a b : ℕ) → 0 < b → w * b ≤ a * 2 ^ 52 → Le s u v w (2 ^ 52) → Le s u v a b
+le-at false u v w a b B h g = ge-above a b w (2 ^ 52) u v B (lit< tt) h g
+le-at true u v w a b B h g = ge-above a b w (2 ^ 52) v u B (lit< tt) h g
 
 -- ---- the rounding: z = 2^lz, y = 2^(137 - lz), h = 2^97
 unfoldable pub m-of : ℕ → ℕ
-m-of W = (W / 549755813888 + 1) / 2
+m-of W = (W / 2 ^ 39 + 1) / 2
 
-round-low : (w z y h t : ℕ) → z * y ≡ h * 1099511627776 → y ≤ 2 * t → (m-of (w * z) * y - t) * 4503599627370496 ≤ w * (h * 4503599627370496)
+round-low : (w z y h t : ℕ) → z * y ≡ h * 2 ^ 40 → y ≤ 2 * t → (m-of (w * z) * y - t) * 2 ^ 52 ≤ w * (h * 2 ^ 52)
 unfolding m-of
 round-low w z y h t e T =
-    let m = (w * z / 549755813888 + 1) / 2 in
-    let k : m * 1099511627776 ≤ w * z + 549755813888 = omega arith in
-    let a : m * 1099511627776 * y ≤ (w * z + 549755813888) * y = mul-le-mul-right y k in
-    let b : w * (z * y) ≡ w * (h * 1099511627776) = ap (λ (i : ℕ). w * i) e in
+    let m = (w * z / 2 ^ 39 + 1) / 2 in
+    let k : m * 2 ^ 40 ≤ w * z + 2 ^ 39 = omega arith in
+    let a : m * 2 ^ 40 * y ≤ (w * z + 2 ^ 39) * y = mul-le-mul-right y k in
+    let b : w * (z * y) ≡ w * (h * 2 ^ 40) = ap (λ (i : ℕ). w * i) e in
     omega arith
 
-round-high : (w z y h t : ℕ) → z * y ≡ h * 1099511627776 → y + 3000 * h ≤ 2 * t → (w + 1500) * (h * 4503599627370496) ≤ (m-of (w * z) * y + t) * 4503599627370496
+round-high : (w z y h t : ℕ) → z * y ≡ h * 2 ^ 40 → y + 3000 * h ≤ 2 * t → (w + 1500) * (h * 2 ^ 52) ≤ (m-of (w * z) * y + t) * 2 ^ 52
 unfolding m-of
 round-high w z y h t e T =
-    let m = (w * z / 549755813888 + 1) / 2 in
-    let k : w * z ≤ m * 1099511627776 + 549755813888 = omega arith in
-    let a : w * z * y ≤ (m * 1099511627776 + 549755813888) * y = mul-le-mul-right y k in
-    let b : w * (z * y) ≡ w * (h * 1099511627776) = ap (λ (i : ℕ). w * i) e in
+    let m = (w * z / 2 ^ 39 + 1) / 2 in
+    let k : w * z ≤ m * 2 ^ 40 + 2 ^ 39 = omega arith in
+    let a : w * z * y ≤ (m * 2 ^ 40 + 2 ^ 39) * y = mul-le-mul-right y k in
+    let b : w * (z * y) ≡ w * (h * 2 ^ 40) = ap (λ (i : ℕ). w * i) e in
     omega arith
 
-round-step : (w z y h : ℕ) → z * y ≡ h * 1099511627776 → 9223372036854775808 ≤ w * z → 8388608 * y * 4503599627370496 ≤ w * (h * 4503599627370496)
+round-step : (w z y h : ℕ) → z * y ≡ h * 2 ^ 40 → 2 ^ 63 ≤ w * z → 2 ^ 23 * y * 2 ^ 52 ≤ w * (h * 2 ^ 52)
 round-step w z y h e k =
-    let a : 9223372036854775808 * y ≤ w * z * y = mul-le-mul-right y k in
-    let b : w * (z * y) ≡ w * (h * 1099511627776) = ap (λ (i : ℕ). w * i) e in
+    let a : 2 ^ 63 * y ≤ w * z * y = mul-le-mul-right y k in
+    let b : w * (z * y) ≡ w * (h * 2 ^ 40) = ap (λ (i : ℕ). w * i) e in
     omega arith
 
 -- ---- a pattern with its sign
-signed : (s : Bool) (r : ℕ) → r < 2139095040 → HasValue (ofBits binary32 (r + cond s 2147483648 0)) s (units (r / 8388608) (r % 8388608)) (2 ^ 149)
+signed : (s : Bool) (r : ℕ) → r < 0x7F800000 → HasValue (ofBits binary32 (r + cond s (2 ^ 31) 0)) s (units (r / 2 ^ 23) (r % 2 ^ 23)) (2 ^ 149)
 signed false r h = rw (add-zero r) (value-pos r h)
 signed true r h =
-    subst (λ (z : ℕ). HasValue (ofBits binary32 (r + 2147483648)) true (units (z / 8388608) (z % 8388608)) (2 ^ 149)) (add-sub-cancel r 2147483648)
-    (value-neg (r + 2147483648) (omega arith) (omega arith))
+    subst (λ (z : ℕ). HasValue (ofBits binary32 (r + 2 ^ 31)) true (units (z / 2 ^ 23) (z % 2 ^ 23)) (2 ^ 149)) (add-sub-cancel r (2 ^ 31))
+    (value-neg (r + 2 ^ 31) (omega arith) (omega arith))
 
 pub rounded-zero : rounded 0 ≡ 0
 unfolding rounded
 rounded-zero = refl
 
-pub rounded-is : (w : ℕ) → 0 < w → rounded w ≡ (137 - leadingZeros 64 w) * 8388608 + m-of (w * 2 ^ leadingZeros 64 w)
+pub rounded-is : (w : ℕ) → 0 < w → rounded w ≡ (137 - leadingZeros 64 w) * 2 ^ 23 + m-of (w * 2 ^ leadingZeros 64 w)
 unfolding rounded m-of
 rounded-is w h = simp (ne-eqb w 0 (λ (e : w ≡ 0). no e))
   where
     no : w ≡ 0 → ⊥
     no e = omega arith
 
-m-low : (W : ℕ) → 9223372036854775808 ≤ W → 8388608 ≤ m-of W
+m-low : (W : ℕ) → 2 ^ 63 ≤ W → 2 ^ 23 ≤ m-of W
 unfolding m-of
 m-low W h = omega arith
 
-pub m-high : (W : ℕ) → W < 18446744073709551616 → m-of W ≤ 16777216
+pub m-high : (W : ℕ) → W < 2 ^ 64 → m-of W ≤ 2 ^ 24
 unfolding m-of
 m-high W h = omega arith
 
-module _ (x : Float) (s : Bool) (u v w : ℕ) (up : 0 < u) (vp : 0 < v) (h : HasValue x false u v) (g : Ge s u v w 4503599627370496) (l : Le s u v (w + 1500) 4503599627370496) where
-  near-zero : w ≡ 0 → WithinLn x (ofBits binary32 (0 + cond s 2147483648 0))
+module _ (x : Float) (s : Bool) (u v w : ℕ) (up : 0 < u) (vp : 0 < v) (h : HasValue x false u v) (g : Ge s u v w (2 ^ 52)) (l : Le s u v (w + 1500) (2 ^ 52)) where
+  near-zero : w ≡ 0 → WithinLn x (ofBits binary32 (0 + cond s (2 ^ 31) 0))
   near-zero e = record {
     sign = s;
     tolerance = 2 ^ 109;
@@ -118,27 +118,27 @@ module _ (x : Float) (s : Bool) (u v w : ℕ) (up : 0 < u) (vp : 0 < v) (h : Has
     };
   }
 
-  near-rounded : 0 < w → w < 18446744073709551616 → WithinLn x (ofBits binary32 (rounded w + cond s 2147483648 0))
+  near-rounded : 0 < w → w < 2 ^ 64 → WithinLn x (ofBits binary32 (rounded w + cond s (2 ^ 31) 0))
   near-rounded W0 W1 =
       let top = leading-top 64 w W0 W1 in
       go (leadingZeros 64 w) (top .0) (top .1) (top .2) (top .3) (rounded-is w W0)
     where
-      go : (z j : ℕ) → z + suc j ≡ 64 → 2 ^ j ≤ w → w < 2 ^ suc j → rounded w ≡ (137 - z) * 8388608 + m-of (w * 2 ^ z) → WithinLn x (ofBits binary32 (rounded w + cond s 2147483648 0))
+      go : (z j : ℕ) → z + suc j ≡ 64 → 2 ^ j ≤ w → w < 2 ^ suc j → rounded w ≡ (137 - z) * 2 ^ 23 + m-of (w * 2 ^ z) → WithinLn x (ofBits binary32 (rounded w + cond s (2 ^ 31) 0))
       go z j e lo hi is =
           let Z : ℕ = 2 ^ z in
           let Y : ℕ = 2 ^ (137 - z) in
           let W = w * Z in
-          let a : 2 ^ j * 2 ^ z ≡ 9223372036854775808 = sym (pow-add 2 j z) ∙ ap (λ (i : ℕ). 2 ^ i) (sixty-three z j e) in
-          let b : 2 ^ suc j * 2 ^ z ≡ 18446744073709551616 = sym (pow-add 2 (suc j) z) ∙ ap (λ (i : ℕ). 2 ^ i) (sixty-four z j e) in
-          let W-lo : 9223372036854775808 ≤ W = le-trans (le-of-eq (sym a)) (mul-le-mul-right Z lo) in
-          let W-hi : W < 18446744073709551616 = lt-of-lt-of-le (mul-lt-mul-of-pos-right hi (pow-pos z)) (le-of-eq b) in
-          let ZY : Z * Y ≡ 2 ^ 97 * 1099511627776 = sym (pow-add 2 z (137 - z)) ∙ ap (λ (i : ℕ). 2 ^ i) (all z j e) in
+          let a : 2 ^ j * 2 ^ z ≡ 2 ^ 63 = sym (pow-add 2 j z) ∙ ap (λ (i : ℕ). 2 ^ i) (sixty-three z j e) in
+          let b : 2 ^ suc j * 2 ^ z ≡ 2 ^ 64 = sym (pow-add 2 (suc j) z) ∙ ap (λ (i : ℕ). 2 ^ i) (sixty-four z j e) in
+          let W-lo : 2 ^ 63 ≤ W = le-trans (le-of-eq (sym a)) (mul-le-mul-right Z lo) in
+          let W-hi : W < 2 ^ 64 = lt-of-lt-of-le (mul-lt-mul-of-pos-right hi (pow-pos z)) (le-of-eq b) in
+          let ZY : Z * Y ≡ 2 ^ 97 * 2 ^ 40 = sym (pow-add 2 z (137 - z)) ∙ ap (λ (i : ℕ). 2 ^ i) (all z j e) in
           let m = m-of W in
-          let r = (137 - z) * 8388608 + m in
-          let val : HasValue (ofBits binary32 (rounded w + cond s 2147483648 0)) s (m * Y) (2 ^ 149) =
-          rw is (subst (λ (i : ℕ). HasValue (ofBits binary32 (r + cond s 2147483648 0)) s i (2 ^ 149)) (packed-units (137 - z) m (m-low W W-lo) (m-high W W-hi))
+          let r = (137 - z) * 2 ^ 23 + m in
+          let val : HasValue (ofBits binary32 (rounded w + cond s (2 ^ 31) 0)) s (m * Y) (2 ^ 149) =
+          rw is (subst (λ (i : ℕ). HasValue (ofBits binary32 (r + cond s (2 ^ 31) 0)) s i (2 ^ 149)) (packed-units (137 - z) m (m-low W W-lo) (m-high W W-hi))
           (signed s r (pattern z m (m-high W W-hi)))) in
-          let fin : (t : ℕ) → Y + 3000 * 2 ^ 97 ≤ 2 * t → (t ≡ 2 ^ 109) ⊎ (j : ℕ) × (t ≡ 2 ^ j) × Step (LnGe s x) j → WithinLn x (ofBits binary32 (rounded w + cond s 2147483648 0)) =
+          let fin : (t : ℕ) → Y + 3000 * 2 ^ 97 ≤ 2 * t → (t ≡ 2 ^ 109) ⊎ (j : ℕ) × (t ≡ 2 ^ j) × Step (LnGe s x) j → WithinLn x (ofBits binary32 (rounded w + cond s (2 ^ 31) 0)) =
           λ t T S. record {
             sign = s;
             tolerance = t;
@@ -153,7 +153,7 @@ module _ (x : Float) (s : Bool) (u v w : ℕ) (up : 0 < u) (vp : 0 < v) (h : Has
           elim (lt-or-ge Y (2 ^ 109)) [
             | inl k ↦ fin (2 ^ 109) (small-y Y (2 ^ 97) k) (inl refl)
             | inr k ↦ fin Y (large-y Y (2 ^ 97) k)
-                (inr (137 - z, refl, inr (ge-float x u v up vp h s (2 ^ (23 + (137 - z))) (2 ^ 149) (rw (pow-add 2 23 (137 - z)) (ge-at s u v w (8388608 * Y) (2 ^ 149) (pow-pos 149) (round-step w Z Y (2 ^ 97) ZY W-lo) g)))))
+                (inr (137 - z, refl, inr (ge-float x u v up vp h s (2 ^ (23 + (137 - z))) (2 ^ 149) (rw (pow-add 2 23 (137 - z)) (ge-at s u v w (2 ^ 23 * Y) (2 ^ 149) (pow-pos 149) (round-step w Z Y (2 ^ 97) ZY W-lo) g)))))
           ]
         where
           sixty-three : (z j : ℕ) → z + suc j ≡ 64 → j + z ≡ 63
@@ -165,7 +165,7 @@ module _ (x : Float) (s : Bool) (u v w : ℕ) (up : 0 < u) (vp : 0 < v) (h : Has
           all : (z j : ℕ) → z + suc j ≡ 64 → z + (137 - z) ≡ 137
           all z j e = omega arith
 
-          pattern : (z m : ℕ) → m ≤ 16777216 → (137 - z) * 8388608 + m < 2139095040
+          pattern : (z m : ℕ) → m ≤ 2 ^ 24 → (137 - z) * 2 ^ 23 + m < 0x7F800000
           pattern z m l = omega arith
 
           less : (y t h : ℕ) → y + 3000 * h ≤ 2 * t → y ≤ 2 * t
@@ -177,11 +177,11 @@ module _ (x : Float) (s : Bool) (u v w : ℕ) (up : 0 < u) (vp : 0 < v) (h : Has
           large-y : (y h : ℕ) → h * 4096 ≤ y → y + 3000 * h ≤ 2 * y
           large-y y h k = omega arith
 
-near-any : (x : Float) (s : Bool) (u v w : ℕ) → 0 < u → 0 < v → HasValue x false u v → Ge s u v w 4503599627370496 → Le s u v (w + 1500) 4503599627370496 → w < 18446744073709551616
-    → WithinLn x (ofBits binary32 (rounded w + cond s 2147483648 0))
+near-any : (x : Float) (s : Bool) (u v w : ℕ) → 0 < u → 0 < v → HasValue x false u v → Ge s u v w (2 ^ 52) → Le s u v (w + 1500) (2 ^ 52) → w < 2 ^ 64
+    → WithinLn x (ofBits binary32 (rounded w + cond s (2 ^ 31) 0))
 near-any x s u v w up vp h g l W1 =
     elim (eq-zero-or-pos w) [
-      | inl e ↦ subst (λ (i : ℕ). WithinLn x (ofBits binary32 (i + cond s 2147483648 0))) (sym (ap rounded e ∙ rounded-zero)) (near-zero x s u v w up vp h g l e)
+      | inl e ↦ subst (λ (i : ℕ). WithinLn x (ofBits binary32 (i + cond s (2 ^ 31) 0))) (sym (ap rounded e ∙ rounded-zero)) (near-zero x s u v w up vp h g l e)
       | inr p ↦ near-rounded x s u v w up vp h g l p W1
     ]
 
@@ -190,13 +190,13 @@ up-is : (w : ℕ) → 496343524069145961 ≤ w → lnRounded w ≡ rounded (w - 
 unfolding lnRounded lnSize lnSign
 up-is w h = simp (le-ltb w 496343524069145961 h)
 
-down-is : (w : ℕ) → w < 496343524069145961 → lnRounded w ≡ rounded (496343524069144641 - w) + 2147483648
+down-is : (w : ℕ) → w < 496343524069145961 → lnRounded w ≡ rounded (496343524069144641 - w) + 2 ^ 31
 unfolding lnRounded lnSize lnSign
 down-is w h = simp (lt-ltb w 496343524069145961 h)
 
 -- ---- x = u / 2^149 = m / 2^23 * 2^(n - 159)
-module _ (x : Float) (u n m : ℕ) (up : 0 < u) (h : HasValue x false u (2 ^ 149)) (lo : 8388608 ≤ m) (hi : m < 16777216) where
-  pub near-up : 159 ≤ n → n ≤ 286 → u * 8388608 ≡ 2 ^ (n - 159) * m * 2 ^ 149 → WithinLn x (ofBits binary32 (lnRounded (n * 3121657384082679 + lnMant m)))
+module _ (x : Float) (u n m : ℕ) (up : 0 < u) (h : HasValue x false u (2 ^ 149)) (lo : 2 ^ 23 ≤ m) (hi : m < 2 ^ 24) where
+  pub near-up : 159 ≤ n → n ≤ 286 → u * 2 ^ 23 ≡ 2 ^ (n - 159) * m * 2 ^ 149 → WithinLn x (ofBits binary32 (lnRounded (n * 3121657384082679 + lnMant m)))
   near-up N N′ e =
       let k = n - 159 in
       let w = n * 3121657384082679 + lnMant m in
@@ -204,7 +204,7 @@ module _ (x : Float) (u n m : ℕ) (up : 0 < u) (h : HasValue x false u (2 ^ 149
       rw (up-is w (omega arith), E)
       (near-any x false u (2 ^ 149) (k * 3121657384082679 + lnMant m) up (pow-pos 149) h (up-le m lo hi k u (2 ^ 149) e) (up-ge m lo hi k u (2 ^ 149) (omega arith) e) (omega (arith, lnMant-lt m lo hi)))
 
-  pub near-down : n < 159 → u * (2 ^ (159 - n) * 8388608) ≡ m * 2 ^ 149 → WithinLn x (ofBits binary32 (lnRounded (n * 3121657384082679 + lnMant m)))
+  pub near-down : n < 159 → u * (2 ^ (159 - n) * 2 ^ 23) ≡ m * 2 ^ 149 → WithinLn x (ofBits binary32 (lnRounded (n * 3121657384082679 + lnMant m)))
   near-down N e =
       let k = 159 - n in
       let w = n * 3121657384082679 + lnMant m in
@@ -215,39 +215,39 @@ module _ (x : Float) (u n m : ℕ) (up : 0 < u) (h : HasValue x false u (2 ^ 149
       (near-any x true u (2 ^ 149) t up (pow-pos 149) h (down-le m lo hi k t u (2 ^ 149) e E) (down-ge m lo hi k t u (2 ^ 149) (omega arith) e E) (omega arith))
 
 -- ---- leading zeros
-pub top64 : (w : ℕ) → 0 < w → w < 18446744073709551616 → (leadingZeros 64 w ≤ 63) × (w * 2 ^ leadingZeros 64 w < 18446744073709551616)
+pub top64 : (w : ℕ) → 0 < w → w < 2 ^ 64 → (leadingZeros 64 w ≤ 63) × (w * 2 ^ leadingZeros 64 w < 2 ^ 64)
 top64 w p h =
     let t = leading-top 64 w p h in
     go (leadingZeros 64 w) (t .0) (t .1) (t .3)
   where
-    go : (z j : ℕ) → z + suc j ≡ 64 → w < 2 ^ suc j → (z ≤ 63) × (w * 2 ^ z < 18446744073709551616)
+    go : (z j : ℕ) → z + suc j ≡ 64 → w < 2 ^ suc j → (z ≤ 63) × (w * 2 ^ z < 2 ^ 64)
     go z j e hi =
         let s : suc j + z ≡ 64 = omega arith in
-        let b : 2 ^ suc j * 2 ^ z ≡ 18446744073709551616 = sym (pow-add 2 (suc j) z) ∙ ap (λ (i : ℕ). 2 ^ i) s in
+        let b : 2 ^ suc j * 2 ^ z ≡ 2 ^ 64 = sym (pow-add 2 (suc j) z) ∙ ap (λ (i : ℕ). 2 ^ i) s in
         (omega arith, lt-of-lt-of-le (mul-lt-mul-of-pos-right hi (pow-pos z)) (le-of-eq b))
 
-pub rounded-lt : (w : ℕ) → w < 18446744073709551616 → rounded w < 2139095040
+pub rounded-lt : (w : ℕ) → w < 2 ^ 64 → rounded w < 0x7F800000
 rounded-lt w h =
     elim (eq-zero-or-pos w) [
-      | inl e ↦ subst (λ (i : ℕ). i < 2139095040) (sym (ap rounded e ∙ rounded-zero)) (lit< tt)
-      | inr p ↦ subst (λ (i : ℕ). i < 2139095040) (sym (rounded-is w p)) (go (leadingZeros 64 w) (m-of (w * 2 ^ leadingZeros 64 w)) (m-high (w * 2 ^ leadingZeros 64 w) (top64 w p h .1)))
+      | inl e ↦ subst (λ (i : ℕ). i < 0x7F800000) (sym (ap rounded e ∙ rounded-zero)) (lit< tt)
+      | inr p ↦ subst (λ (i : ℕ). i < 0x7F800000) (sym (rounded-is w p)) (go (leadingZeros 64 w) (m-of (w * 2 ^ leadingZeros 64 w)) (m-high (w * 2 ^ leadingZeros 64 w) (top64 w p h .1)))
     ]
   where
-    go : (z m : ℕ) → m ≤ 16777216 → (137 - z) * 8388608 + m < 2139095040
+    go : (z m : ℕ) → m ≤ 2 ^ 24 → (137 - z) * 2 ^ 23 + m < 0x7F800000
     go z m l = omega arith
 
-pub size-lt : (w : ℕ) → w < 18446744073709551616 → lnSize w < 18446744073709551616
+pub size-lt : (w : ℕ) → w < 2 ^ 64 → lnSize w < 2 ^ 64
 unfolding lnSize
 size-lt w h = go (ltb w 496343524069145961)
   where
-    go : (t : Bool) → cond t (496343524069144641 - w) (w - 496343524069145961) < 18446744073709551616
+    go : (t : Bool) → cond t (496343524069144641 - w) (w - 496343524069145961) < 2 ^ 64
     go true = omega arith
     go false = omega arith
 
-pub sign-mod : (w n : ℕ) → n < 2139095040 → (n + lnSign w) % 2147483648 ≤ 2139095040
+pub sign-mod : (w n : ℕ) → n < 0x7F800000 → (n + lnSign w) % 2 ^ 31 ≤ 0x7F800000
 unfolding lnSign
 sign-mod w n h = go (ltb w 496343524069145961)
   where
-    go : (t : Bool) → (n + cond t 2147483648 0) % 2147483648 ≤ 2139095040
+    go : (t : Bool) → (n + cond t (2 ^ 31) 0) % 2 ^ 31 ≤ 0x7F800000
     go true = omega arith
     go false = omega arith

@@ -1,164 +1,250 @@
--- powOf meets IsPow.
+-- powf meets IsPow.
 use mathlib.Core.Path.{_≡_, refl, sym, ap, _∙_, subst}
 use mathlib.Core.Logic.{_⊎_, inl, inr}
 use mathlib.Core.Bool.{Bool, true, false, not}
-use Prim.Native.Nat.{ℕ, zero, suc, _+_, _-_, _*_, _/_, _%_, _^_, _≤_, _<_}
-use native.Mathlib.Nat.{le-of-eq, lt-of-lt-of-le, not-le-of-lt, one-mul, mul-pos, mul-le-mul-left, mul-le-mul-right}
+use Prim.Native.Nat.{ℕ, _+_, _%_, _^_, _≤_, _<_}
+use native.Mathlib.Nat.{zero-add}
 use native.Mathlib.Omega.{arith}
-use borrow.Author.Tests.{lt-ltb, le-ltb}
-use lib.Dec.{T, ltb, lit<, lit≤}
+use lib.Dec.{T}
 use lib.IntN.{pos}
-use lib.Ieee.{Float, inf, fin, binary32, unlike, ofBits, toBits, fits}
+use lib.Ieee.{Float, nan, inf, fin, binary32, isNan, ofBits, toBits, fits}
 use lib.Ieee.Bits.{ofBits-toBits, toBits-lt}
-use lib.Ieee.Exact.{HasValue}
-use lib.Ieee.Positive.{num, den, den-pos}
-use Rattle.series.specs.Exp.{Within}
-use Rattle.series.proofs.Value.{units, units-pos, value-pos, value-neg}
 use Rattle.series.proofs.Cuts.{lt-or-ge}
-use Rattle.elementary.specs.Exp.{packed}
-use Rattle.elementary.specs.Pow.{logOf, turned, nearArg, zBits, powBits, powOf}
-use Rattle.elementary.specs.Accuracy.{PowGe, PowLe, Covered, IsPow}
-use Rattle.elementary.proofs.powf.Log.{dist, Side, Log, log-bounds}
-use Rattle.elementary.proofs.powf.Scale.{Scaled, Around, Arg, same-arg, diff-arg, m-small, scaled-near, scaled-tiny}
-use Rattle.elementary.proofs.powf.Near.{Bound, z-law}
-use Rattle.elementary.proofs.powf.Near as N
-use Rattle.elementary.proofs.powf.Order.{pow-order}
-use Rattle.elementary.proofs.Common.{number-of-bits, fraction-is}
-use Rattle.elementary.proofs.powf.Cases.{arg-near, bits-one, bits-z, at-regular, of-numbers}
+use Rattle.elementary.specs.Pow.{zeroSize, zeroBits, infBits, numBits, powOf}
+use Rattle.elementary.specs.Accuracy.{signOf, Finite, IsZero, IsOne, IsPlus, IsMinus, IsOdd, IsPow}
+use Rattle.elementary.proofs.Common.{number-of-bits, bits-of-number, infinity-is, minus-infinity-is, zero-is}
+use Rattle.elementary.proofs.power.Shown.{Shown}
+use Rattle.elementary.proofs.power.Finite.{finite-law}
+use Rattle.elementary.proofs.powf.Cases.{zero-odd, zero-even, size-plus, size-minus, inf-plus, inf-minus, to-inf-low, to-inf-high, num-zero, num-inf, num-to-inf, at-zero, at-one, at-below, at-num, at-regular, nan-not-one, of-nan-y, of-nan-y-one, of-nan-x, of-nan-x-zero, of-numbers}
+use Rattle.elementary.proofs.powf.Odd.{is-odd, not-odd}
 
-dist-le : (s : Bool) (w : ℕ) → 103079215104 ≤ w → w ≤ 996432412672 → dist s w ≤ 446676598784
-dist-le false w h k = omega arith
-dist-le true w h k = omega arith
+-- ---- NaN
+nan-is : (x : Float) → T (isNan x) → x ≡ nan
+unfolding isNan
+nan-is nan t = refl
+nan-is (inf s) t = absurd t
+nan-is (fin s m e) t = absurd t
 
--- ---- the argument of the exponential, by the signs of ln x and y
-module _ (a : ℕ) (lo : 603979776 ≤ a) (hi : a ≤ 1124073472) (w : ℕ) (W : 103079215104 ≤ w) (W′ : w ≤ 996432412672) where
-  arg-at : (s t : Bool) → Side s w → Arg (unlike s t) (nearArg (turned (not t) w) a) (a % 8388608 + 8388608) (dist s w) (2 ^ (135 - a / 8388608))
-  unfolding nearArg turned
-  arg-at false false i = same-arg (a % 8388608 + 8388608) (w - 549755813888) w (135 - a / 8388608) (omega arith) (omega arith) (m-small a lo hi) (omega arith) (omega arith)
-  arg-at false true i = diff-arg (a % 8388608 + 8388608) (w - 549755813888) (1099511627776 - w) (135 - a / 8388608) (omega arith) (omega arith) (m-small a lo hi) (omega arith) (omega arith)
-  arg-at true false i = diff-arg (a % 8388608 + 8388608) (549755813888 - w) w (135 - a / 8388608) (omega arith) (omega arith) (m-small a lo hi) (omega arith) (omega arith)
-  arg-at true true i = same-arg (a % 8388608 + 8388608) (549755813888 - w) (1099511627776 - w) (135 - a / 8388608) (omega arith) (omega arith) (m-small a lo hi) (omega arith) (omega arith)
+is-number : (x : Float) → isNan x ≡ false → T (not (isNan x))
+is-number x e = subst (λ (t : Bool). T (not t)) (sym e) tt
 
-around-zero : (b : Bool) → Around b 3196577161300672512 0
-around-zero false = refl
-around-zero true = refl
-
-one-is : zBits 3196577161300672512 ≡ 1065353216
-unfolding zBits packed
-one-is = refl
-
--- the pattern c of y has the sign t and the pattern a of |y|
-module _ (x y : Float) (s t : Bool) (w a : ℕ) (lg : Log x s w) (hy : HasValue y t (units (a / 8388608) (a % 8388608)) (2 ^ 149)) (top : a ≤ 1124073472) where
-  none : Scaled (units (a / 8388608) (a % 8388608)) (dist s w) 0 → Bound x y (ofBits binary32 1065353216)
-  none sc =
-      subst (λ (i : ℕ). Bound x y (ofBits binary32 i)) one-is
-      (z-law x y s t w (units (a / 8388608) (a % 8388608)) 0 lg hy sc 3196577161300672512 (around-zero (unlike s t)))
-
-  tiny : a < 603979776 → Bound x y (ofBits binary32 1065353216)
-  tiny h = none (scaled-tiny a (dist s w) h (dist-le s w (lg .least) (lg .most)))
-
-  some : 603979776 ≤ a → Bound x y (ofBits binary32 (zBits (nearArg (turned (not t) w) a)))
-  some h =
-      let r = arg-at a h top w (lg .least) (lg .most) s t (lg .side) in
-      z-law x y s t w (units (a / 8388608) (a % 8388608)) (r .v) lg hy (scaled-near a h top (dist s w) (r .v) (r .lo) (r .hi)) (nearArg (turned (not t) w) a) (r .at)
-
-module _ (x y : Float) (b c : ℕ) (ex : x ≡ ofBits binary32 b) (ey : y ≡ ofBits binary32 c) (p : 0 < b) (h : b < 2139095040) (l : c < 4294967296) (k : c % 2147483648 ≤ 1124073472) where
-  lg : Log x (ltb b 1065353216) (logOf b)
-  lg = log-bounds x b ex p h
-
-  record Sign : Type 0 where
-    t : Bool
-    is : ltb c 2147483648 ≡ not t
-    hy : HasValue y t (units (c % 2147483648 / 8388608) (c % 2147483648 % 8388608)) (2 ^ 149)
-
-  sign : Sign
-  sign = go (lt-or-ge c 2147483648)
-    where
-      go : (c < 2147483648) ⊎ (2147483648 ≤ c) → Sign
-      go (inl i) =
-          let e : c ≡ c % 2147483648 = omega arith in
-          record {
-            t = false;
-            is = lt-ltb c 2147483648 i;
-            hy = subst (λ (n : ℕ). HasValue y false (units (n / 8388608) (n % 8388608)) (2 ^ 149)) e
-                (subst (λ (z : Float). HasValue z false (units (c / 8388608) (c % 8388608)) (2 ^ 149)) (sym ey) (value-pos c (omega arith)));
-          }
-      go (inr i) =
-          let e : c - 2147483648 ≡ c % 2147483648 = omega arith in
-          record {
-            t = true;
-            is = le-ltb c 2147483648 i;
-            hy = subst (λ (n : ℕ). HasValue y true (units (n / 8388608) (n % 8388608)) (2 ^ 149)) e
-                (subst (λ (z : Float). HasValue z true (units ((c - 2147483648) / 8388608) ((c - 2147483648) % 8388608)) (2 ^ 149)) (sym ey) (value-neg c i (omega arith)));
-          }
-
-  bound : Bound x y (ofBits binary32 (powBits b c))
-  bound = go (lt-or-ge (c % 2147483648) 603979776) sign
-    where
-      go : (c % 2147483648 < 603979776) ⊎ (603979776 ≤ c % 2147483648) → Sign → Bound x y (ofBits binary32 (powBits b c))
-      go (inl i) g = rw (bits-one b c i) (tiny x y (ltb b 1065353216) (g .t) (logOf b) (c % 2147483648) lg (g .hy) k i)
-      go (inr i) g =
-          subst (λ (n : ℕ). Bound x y (ofBits binary32 n))
-          (sym (bits-z b c i
-          ∙ ap zBits (arg-near (turned (ltb c 2147483648) (logOf b)) (c % 2147483648) (omega arith)
-          ∙ ap (λ (q : Bool). nearArg (turned q (logOf b)) (c % 2147483648)) (g .is))))
-          (some x y (ltb b 1065353216) (g .t) (logOf b) (c % 2147483648) lg (g .hy) k i)
-
-pub bound-law : (x y : Float) → T (fits binary32 x) → T (fits binary32 y) → Covered x y → Bound x y (powOf x y)
-bound-law x y fx fy k =
-    let b = toBits binary32 x in
-    let c = toBits binary32 y in
-    let ex : x ≡ ofBits binary32 b = sym (ofBits-toBits binary32 x fx) in
-    let ey : y ≡ ofBits binary32 c = sym (ofBits-toBits binary32 y fy) in
-    let l : c < 4294967296 = toBits-lt binary32 y fy in
-    subst (Bound x y)
-    (sym (of-numbers x y (number-of-bits x (omega arith)) (number-of-bits y (omega arith)) ∙ at-regular b c (k .positive) (k .finite) (omega arith)))
-    (bound x y b c ex ey (k .positive) (k .finite) l (k .small))
-
-num-pos : (x : Float) → T (fits binary32 x) → 0 < toBits binary32 x → toBits binary32 x < 2139095040 → 0 < num x
-num-pos x f p h = go (num x) (fraction-is x false (units (b / 8388608) (b % 8388608)) (2 ^ 149) (subst (λ (z : Float). HasValue z false (units (b / 8388608) (b % 8388608)) (2 ^ 149)) (ofBits-toBits binary32 x f) (value-pos b h)))
+minus-number : (y : Float) → 2 ^ 31 < toBits binary32 y → T (not (isNan y))
+unfolding isNan toBits
+minus-number nan h = absurd (no h)
   where
-    b : ℕ
-    b = toBits binary32 x
+    no : 2 ^ 31 < 2143289344 → ⊥
+    no h = omega arith
+minus-number (inf s) h = tt
+minus-number (fin s m e) h = tt
 
-    go : (n : ℕ) → n * 2 ^ 149 ≡ units (b / 8388608) (b % 8388608) * den x → 0 < n
-    go zero e = absurd (no (units (b / 8388608) (b % 8388608) * den x) (2 ^ 149) (mul-pos (units-pos b p) (den-pos x)) e)
-      where
-        no : (k h : ℕ) → 0 < k → 0 * h ≡ k → ⊥
-        no k h K e = omega arith
-    go (suc n) e = omega arith
+-- ---- the infinity with the sign of a zero
+minus-zero-is : ofBits binary32 (2 ^ 31) ≡ fin true 0 (pos 0)
+unfolding ofBits
+minus-zero-is = refl
 
-pub pow-law : (x y : Float) → T (fits binary32 x) → T (fits binary32 y) → IsPow x y (powOf x y)
-pow-law x y fx fy = record {
-  near = λ k lo hi. near k lo hi (bound-law x y fx fy k);
-  under = λ k c d l h. under k c d l h (bound-law x y fx fy k);
-  over = λ k h. over k h (bound-law x y fx fy k);
-}
+signed : (x : Float) (b : ℕ) → x ≡ ofBits binary32 b → b < 2 ^ 32 → b % 2 ^ 31 ≡ 0
+    → ofBits binary32 (0x7F800000 + b) ≡ inf (signOf x)
+signed x b e l z = go (lt-or-ge b (2 ^ 31))
   where
-    ordered : Covered x y → (c d c′ d′ : ℕ) → PowGe x y c d → PowLe x y c′ d′ → c * d′ ≤ c′ * d
-    ordered k = pow-order x y (num-pos x fx (k .positive) (k .finite))
+    go : (b < 2 ^ 31) ⊎ (2 ^ 31 ≤ b) → ofBits binary32 (0x7F800000 + b) ≡ inf (signOf x)
+    go (inl i) =
+        let k : b ≡ 0 = omega arith in
+        ap (λ (n : ℕ). ofBits binary32 (0x7F800000 + n)) k ∙ infinity-is
+        ∙ sym (ap (λ (v : Float). inf (signOf v)) (e ∙ ap (ofBits binary32) k ∙ zero-is))
+    go (inr i) =
+        let k : b ≡ 2 ^ 31 = omega arith in
+        ap (λ (n : ℕ). ofBits binary32 (0x7F800000 + n)) k ∙ minus-infinity-is
+        ∙ sym (ap (λ (v : Float). inf (signOf v)) (e ∙ ap (ofBits binary32) k ∙ minus-zero-is))
 
-    near : Covered x y → PowGe x y 1 (2 ^ 126) → PowLe x y (2 ^ 127) 1 → Bound x y (powOf x y) → Within (PowGe x y) (PowLe x y) 2 (powOf x y)
-    near k lo hi (N.near w _ _) = w
-    near k lo hi (N.over e g) = absurd (not-le-of-lt (lit< tt) (ordered k (2 ^ 128 - 2 ^ 104) 1 (2 ^ 127) 1 g hi))
-    near k lo hi (N.under e l) = absurd (not-le-of-lt (lit< tt) (ordered k 1 (2 ^ 126) 3 (2 ^ 128) lo l))
+module _ (x y : Float) (fx : T (fits binary32 x)) (fy : T (fits binary32 y)) where
+  abbrev b : ℕ
+  b = toBits binary32 x
 
-    under : Covered x y → (c d : ℕ) → c * 2 ^ 127 < d → PowLe x y c d → Bound x y (powOf x y) → powOf x y ≡ fin false 0 (pos 0)
-    under k c d l h (N.near _ g _) = absurd (not-le-of-lt (lt-of-lt-of-le l (le-of-eq (sym (one-mul d)))) (ordered k 1 (2 ^ 127) c d g h))
-    under k c d l h (N.over e g) = absurd (far c d (2 ^ 128 - 2 ^ 104) (2 ^ 127) (lit≤ tt) (lit≤ tt) l (ordered k (2 ^ 128 - 2 ^ 104) 1 c d g h))
+  abbrev c : ℕ
+  c = toBits binary32 y
+
+  x-is : x ≡ ofBits binary32 b
+  x-is = sym (ofBits-toBits binary32 x fx)
+
+  y-is : y ≡ ofBits binary32 c
+  y-is = sym (ofBits-toBits binary32 y fy)
+
+  b-lt : b < 2 ^ 32
+  b-lt = toBits-lt binary32 x fx
+
+  c-lt : c < 2 ^ 32
+  c-lt = toBits-lt binary32 y fy
+
+  -- ---- kinds of arguments
+  minus-range : IsMinus y → c % 2 ^ 31 ≤ 0x7F800000
+  minus-range m = bits-of-number y fy (minus-number y m)
+
+  minus-some : IsMinus y → c % 2 ^ 31 ≡ 0 → ⊥
+  minus-some m z = omega (arith, c-lt)
+
+  plus-number : IsPlus y → T (not (isNan y))
+  plus-number p = number-of-bits y (omega (arith, p .number))
+
+  plus-some : IsPlus y → c % 2 ^ 31 ≡ 0 → ⊥
+  plus-some p z = omega (arith, p .above, p .number)
+
+  -- ---- x is ±0
+  module _ (z : IsZero x) where
+    from-zero : T (not (isNan y)) → (c % 2 ^ 31 ≡ 0 → ⊥) → powOf x y ≡ ofBits binary32 (zeroBits b c)
+    from-zero ny n =
+        of-numbers x y (number-of-bits x (omega arith)) ny ∙ at-num b c n other (omega (arith, b-lt))
+        ∙ ap (ofBits binary32) (num-zero b c z)
       where
-        far : (c d m n : ℕ) → 1 ≤ m → 1 ≤ n → c * n < d → m * d ≤ c * 1 → ⊥
-        far c d m n M N l g = omega (arith, mul-le-mul-right d M, mul-le-mul-left c N)
-    under k c d l h (N.under e _) = e
+        other : b ≡ 0x3F800000 → ⊥
+        other e = omega arith
 
-    over : Covered x y → PowGe x y (2 ^ 129) 1 → Bound x y (powOf x y) → powOf x y ≡ inf false
-    over k h (N.near _ _ l) = absurd (not-le-of-lt (lit< tt) (ordered k (2 ^ 129) 1 (2 ^ 128 + 2 ^ 104) 1 h l))
-    over k h (N.over e _) = e
-    over k h (N.under e l) = absurd (not-le-of-lt (lit< tt) (ordered k (2 ^ 129) 1 3 (2 ^ 128) h l))
+    zero-minus-odd : IsMinus y → IsOdd y → powOf x y ≡ inf (signOf x)
+    zero-minus-odd m o =
+        from-zero (minus-number y m) (minus-some m)
+        ∙ ap (ofBits binary32) (zero-odd b c (is-odd y c y-is c-lt (minus-range m) o)
+        ∙ ap (λ (n : ℕ). n + b) (size-minus c (omega arith)))
+        ∙ signed x b x-is b-lt z
 
--- an exact result below 2^-127 gives 0, and one from 2^129 gives +infinity
-pub under-gives-zero : (x y : Float) → T (fits binary32 x) → T (fits binary32 y) → Covered x y → (c d : ℕ) → c * 2 ^ 127 < d → PowLe x y c d → powOf x y ≡ fin false 0 (pos 0)
-under-gives-zero x y fx fy = pow-law x y fx fy .under
+    zero-minus : IsMinus y → (IsOdd y → ⊥) → powOf x y ≡ inf false
+    zero-minus m o =
+        from-zero (minus-number y m) (minus-some m)
+        ∙ ap (ofBits binary32) (zero-even b c (not-odd y c y-is c-lt (minus-range m) o) ∙ size-minus c (omega arith))
+        ∙ infinity-is
 
-pub over-gives-infinity : (x y : Float) → T (fits binary32 x) → T (fits binary32 y) → Covered x y → PowGe x y (2 ^ 129) 1 → powOf x y ≡ inf false
-over-gives-infinity x y fx fy = pow-law x y fx fy .over
+    zero-plus-odd : IsPlus y → IsOdd y → powOf x y ≡ x
+    zero-plus-odd p o =
+        from-zero (plus-number p) (plus-some p)
+        ∙ ap (ofBits binary32) (zero-odd b c (is-odd y c y-is c-lt (omega (arith, p .number)) o)
+        ∙ ap (λ (n : ℕ). n + b) (size-plus c (omega (arith, p .number))) ∙ zero-add b)
+        ∙ sym x-is
+
+    zero-plus : IsPlus y → (IsOdd y → ⊥) → powOf x y ≡ fin false 0 (pos 0)
+    zero-plus p o =
+        from-zero (plus-number p) (plus-some p)
+        ∙ ap (ofBits binary32) (zero-even b c (not-odd y c y-is c-lt (omega (arith, p .number)) o)
+        ∙ size-plus c (omega (arith, p .number)))
+        ∙ zero-is
+
+  -- ---- 1^y and x^±0
+  from-one : IsOne x → powOf x y ≡ ofBits binary32 0x3F800000
+  from-one e = go (isNan y) refl
+    where
+      go : (t : Bool) → isNan y ≡ t → powOf x y ≡ ofBits binary32 0x3F800000
+      go true i = of-nan-y-one x y (nan-is y (subst T (sym i) tt)) e
+      go false i = of-numbers x y (number-of-bits x (omega arith)) (is-number y i) ∙ at-one b c e
+
+  to-zero : IsZero y → powOf x y ≡ ofBits binary32 0x3F800000
+  to-zero z = go (isNan x) refl
+    where
+      ny : T (not (isNan y))
+      ny = number-of-bits y (omega arith)
+
+      go : (t : Bool) → isNan x ≡ t → powOf x y ≡ ofBits binary32 0x3F800000
+      go true i = of-nan-x-zero x y ny (nan-is x (subst T (sym i) tt)) z
+      go false i = of-numbers x y (is-number x i) ny ∙ at-zero b c z
+
+  -- ---- x above 0 to an infinity
+  module _ (p : IsPlus x) (i : c % 2 ^ 31 ≡ 0x7F800000) where
+    to-infinity : (b ≡ 0x3F800000 → ⊥) → powOf x y ≡ ofBits binary32 (numBits b c)
+    to-infinity other =
+        of-numbers x y (number-of-bits x (omega (arith, p .number))) (number-of-bits y (omega arith))
+        ∙ at-num b c some other (omega (arith, p .number))
+      where
+        some : c % 2 ^ 31 ≡ 0 → ⊥
+        some z = omega arith
+
+    nonzero : b % 2 ^ 31 ≡ 0 → ⊥
+    nonzero z = omega (arith, p .above, p .number)
+
+    small-power : b < 0x3F800000 → powOf x y ≡ ofBits binary32 (zeroSize c)
+    small-power l = to-infinity other ∙ ap (ofBits binary32) (num-to-inf b c nonzero finite i ∙ to-inf-low b c l)
+      where
+        other : b ≡ 0x3F800000 → ⊥
+        other e = omega arith
+
+        finite : b ≡ 0x7F800000 → ⊥
+        finite e = omega arith
+
+    large-power : 0x3F800000 < b → powOf x y ≡ ofBits binary32 (infBits c)
+    large-power l = to-infinity other ∙ ap (ofBits binary32) (go (lt-or-ge b 0x7F800000))
+      where
+        other : b ≡ 0x3F800000 → ⊥
+        other e = omega arith
+
+        less : {m n : ℕ} → m < n → m ≡ n → ⊥
+        less l e = omega arith
+
+        go : (b < 0x7F800000) ⊎ (0x7F800000 ≤ b) → numBits b c ≡ infBits c
+        go (inl j) = num-to-inf b c nonzero (less j) i ∙ to-inf-high b c (omega arith)
+        go (inr j) = num-inf b c nonzero (omega (arith, p .number))
+
+  -- ---- +infinity
+  from-infinity : b ≡ 0x7F800000 → T (not (isNan y)) → (c % 2 ^ 31 ≡ 0 → ⊥)
+      → powOf x y ≡ ofBits binary32 (infBits c)
+  from-infinity e ny n =
+      of-numbers x y (number-of-bits x (omega arith)) ny ∙ at-num b c n other (omega arith)
+      ∙ ap (ofBits binary32) (num-inf b c nonzero e)
+    where
+      other : b ≡ 0x3F800000 → ⊥
+      other k = omega arith
+
+      nonzero : b % 2 ^ 31 ≡ 0 → ⊥
+      nonzero z = omega arith
+
+  -- ---- NaN, and x below 0
+  from-nan : T (isNan x) → (IsZero y → ⊥) → powOf x y ≡ nan
+  from-nan t n = go (isNan y) refl
+    where
+      e : x ≡ nan
+      e = nan-is x t
+
+      go : (s : Bool) → isNan y ≡ s → powOf x y ≡ nan
+      go true i = of-nan-y x y (nan-is y (subst T (sym i) tt)) (nan-not-one x e)
+      go false i = of-nan-x x y (is-number y i) e n
+
+  from-minus : IsMinus x → (IsZero y → ⊥) → powOf x y ≡ nan
+  from-minus m n = go (isNan y) refl
+    where
+      other : b ≡ 0x3F800000 → ⊥
+      other e = omega arith
+
+      go : (s : Bool) → isNan y ≡ s → powOf x y ≡ nan
+      go true i = of-nan-y x y (nan-is y (subst T (sym i) tt)) other
+      go false i = of-numbers x y (minus-number x m) (is-number y i) ∙ at-below b c n other m
+
+  -- ---- a finite x above 0 and a finite y
+  finite-is : Finite x y → Shown x y (powOf x y)
+  finite-is f =
+      subst (Shown x y) (sym (of-numbers x y (number-of-bits x (omega (arith, f .finite)))
+      (number-of-bits y (omega (arith, f .number))) ∙ at-regular b c (f .positive) (f .finite) (f .number)))
+      (finite-law x y fx fy f)
+
+  pub pow-law : IsPow x y (powOf x y)
+  pow-law = record {
+    near = λ f. finite-is f .near;
+    under = λ f. finite-is f .under;
+    over = λ f. finite-is f .over;
+    zero-to-minus-odd = zero-minus-odd;
+    zero-to-minus = zero-minus;
+    zero-to-odd = zero-plus-odd;
+    zero-to-plus = zero-plus;
+    of-one = from-one;
+    to-zero = to-zero;
+    small-to-minus-infinity =
+        λ p l e. small-power p (omega arith) l ∙ ap (ofBits binary32) (size-minus c (omega arith)) ∙ infinity-is;
+    large-to-minus-infinity =
+        λ p l e. large-power p (omega arith) l ∙ ap (ofBits binary32) (inf-minus c (omega arith)) ∙ zero-is;
+    small-to-infinity =
+        λ p l e. small-power p (omega arith) l ∙ ap (ofBits binary32) (size-plus c (omega arith)) ∙ zero-is;
+    large-to-infinity =
+        λ p l e. large-power p (omega arith) l ∙ ap (ofBits binary32) (inf-plus c (omega arith)) ∙ infinity-is;
+    infinity-to-minus =
+        λ e m. from-infinity e (minus-number y m) (minus-some m) ∙ ap (ofBits binary32) (inf-minus c (omega arith))
+        ∙ zero-is;
+    infinity-to-plus =
+        λ e p. from-infinity e (plus-number p) (plus-some p)
+        ∙ ap (ofBits binary32) (inf-plus c (omega (arith, p .number))) ∙ infinity-is;
+    of-nan = from-nan;
+    to-nan = λ t n. of-nan-y x y (nan-is y t) n;
+    below = from-minus;
+  }

@@ -1,4 +1,5 @@
 -- `exp::limit_of` meets its contract.
+use Prim.Native.Nat.{_^_}
 use mathlib.Core.Path.{sym, ap}
 use borrow.Author.Tests.{lt-ltb, le-ltb}
 use Rattle.elementary.specs.Exp.{limit}
@@ -7,11 +8,11 @@ use Rattle.elementary.proofs.exp.limit_of.Tie as tie
 
 returns : tie.Need-returns
 unfolding limit
-returns c = sym (ap limit (lt-ltb (c .before .args .b) 2147483648 (c .if1 .taken)))
+returns c = sym (ap limit (lt-ltb (c .before .args .b) (2 ^ 31) (c .if1 .taken)))
 
 returns-2 : tie.Need-returns-2
 unfolding limit
-returns-2 c = sym (ap limit (le-ltb (c .before .args .b) 2147483648 (c .if1 .left)))
+returns-2 c = sym (ap limit (le-ltb (c .before .args .b) (2 ^ 31) (c .if1 .left)))
 
 pub limit-of-spec : {M : Type 1} → statement M
 limit-of-spec = tie.close (tie.spec returns returns-2)

@@ -1,5 +1,5 @@
 -- `exp::small_exp` meets its contract.
-use Prim.Native.Nat.{ℕ, _+_, _*_, _/_, _≤_, _<_}
+use Prim.Native.Nat.{ℕ, _+_, _*_, _/_, _^_, _≤_, _<_}
 use native.Mathlib.Nat.{mul-le-mul}
 use native.Mathlib.Omega.{arith}
 use mathlib.Core.Path.{refl}
@@ -9,8 +9,8 @@ use Rattle.elementary.proofs.exp.small_exp.Statement.{statement}
 use Rattle.elementary.proofs.exp.small_exp.Tie as tie
 
 -- the product is below 2^31 * 2^32
-fits : (s : ℕ) → s < 2147483648 → s * (2147483648 + s / 1024) ≤ 9223372036854775808
-fits s h = mul-le-mul {n₁ = s} {m₁ = 2147483648 + s / 1024} {n₂ = 2147483648} {m₂ = 4294967296} (omega arith) (omega arith)
+fits : (s : ℕ) → s < 2 ^ 31 → s * (2 ^ 31 + s / 1024) ≤ 2 ^ 63
+fits s h = mul-le-mul {n₁ = s} {m₁ = 2 ^ 31 + s / 1024} {n₂ = (2 ^ 31)} {m₂ = (2 ^ 32)} (omega arith) (omega arith)
 
 add-result : tie.Need-add-result
 add-result c = search needs

@@ -1,7 +1,7 @@
 -- `ln::ln_f32` meets its contract.
 use mathlib.Core.Path.{_≡_, refl, sym, ap, subst, _∙_}
 use mathlib.Core.Bool.{true}
-use Prim.Native.Nat.{ℕ, _%_, _≤_, _<_}
+use Prim.Native.Nat.{ℕ, _%_, _^_, _≤_, _<_}
 use native.Mathlib.Nat.{le-trans, pos-of-ne-zero}
 use native.Mathlib.Omega.{arith}
 use lib.Dec.{T, lit≤}
@@ -35,10 +35,10 @@ answer : (c : tie.Else1) (r : Float) → r ≡ lnAt (toBits binary32 (c .before 
 answer c r e = with-law (c .before) r (e ∙ sym (of-x (c .before .args .x) (is-number (c .before .args .x) (c .if1 .left))))
 
 -- a pattern from the infinity's up that is not -0's
-not-zero : (c : tie.Start) → 2139095040 ≤ toBits binary32 (c .args .x) → (toBits binary32 (c .args .x) ≡ 2147483648 → ⊥) → toBits binary32 (c .args .x) % 2147483648 ≡ 0 → ⊥
+not-zero : (c : tie.Start) → 0x7F800000 ≤ toBits binary32 (c .args .x) → (toBits binary32 (c .args .x) ≡ 2 ^ 31 → ⊥) → toBits binary32 (c .args .x) % 2 ^ 31 ≡ 0 → ⊥
 not-zero c h n z = n (go (toBits binary32 (c .args .x)) (toBits-lt binary32 (c .args .x) (held c)) h z)
   where
-    go : (b : ℕ) → b < 4294967296 → 2139095040 ≤ b → b % 2147483648 ≡ 0 → b ≡ 2147483648
+    go : (b : ℕ) → b < 2 ^ 32 → 0x7F800000 ≤ b → b % 2 ^ 31 ≡ 0 → b ≡ 2 ^ 31
     go b l h z = omega arith
 
 returns : tie.Need-returns
@@ -50,7 +50,7 @@ returns c =
 float-to-bits-b : tie.Need-float-to-bits-b
 float-to-bits-b c = is-number (c .before .args .x) (c .if1 .left)
 
-above : (b : ℕ) → (b ≡ 0 → ⊥) → b < 2139095040 → b % 2147483648 ≡ 0 → ⊥
+above : (b : ℕ) → (b ≡ 0 → ⊥) → b < 0x7F800000 → b % 2 ^ 31 ≡ 0 → ⊥
 above b n l z = n (omega arith)
 
 float-from-bits-result : tie.Need-float-from-bits-result
@@ -59,7 +59,7 @@ float-from-bits-result c = no-nan-bits 4286578688 (lit≤ tt)
 returns-2 : tie.Need-returns-2
 returns-2 c =
     let b = toBits binary32 (c .before .before .before .args .x) in
-    answer (c .before .before) (ofBits binary32 4286578688) (minus-infinity ∙ sym (at-zero b (ap (λ (n : ℕ). n % 2147483648) (c .if3 .taken))))
+    answer (c .before .before) (ofBits binary32 4286578688) (minus-infinity ∙ sym (at-zero b (ap (λ (n : ℕ). n % 2 ^ 31) (c .if3 .taken))))
 
 exponent-of-requires : tie.Need-exponent-of-requires
 exponent-of-requires c κs = (pos-of-ne-zero (c .if3 .left), c .before .if2 .taken)
@@ -106,7 +106,7 @@ float-from-bits-result-3 c = no-nan-bits 4286578688 (lit≤ tt)
 returns-5 : tie.Need-returns-5
 returns-5 c =
     let b = toBits binary32 (c .before .before .before .before .args .x) in
-    answer (c .before .before .before) (ofBits binary32 4286578688) (minus-infinity ∙ sym (at-zero b (ap (λ (n : ℕ). n % 2147483648) (c .if5 .taken))))
+    answer (c .before .before .before) (ofBits binary32 4286578688) (minus-infinity ∙ sym (at-zero b (ap (λ (n : ℕ). n % 2 ^ 31) (c .if5 .taken))))
 
 returns-6 : tie.Need-returns-6
 returns-6 c =

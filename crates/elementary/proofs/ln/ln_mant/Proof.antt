@@ -1,6 +1,6 @@
 -- `ln::ln_mant` meets its contract.
 use mathlib.Core.Path.{_≡_, sym, ap, ap₂, subst, _∙_}
-use Prim.Native.Nat.{ℕ, _+_, _*_, _/_, _%_, _≤_, _<_}
+use Prim.Native.Nat.{ℕ, _+_, _*_, _/_, _%_, _^_, _≤_, _<_}
 use native.Mathlib.Nat.{le-trans, le-of-eq}
 use native.Mathlib.Omega.{arith}
 use borrow.Author.Needs.{needs}
@@ -13,26 +13,26 @@ first-at-requires : tie.Need-first-at-requires
 first-at-requires c κs = search needs
 
 -- the product
-is : (c : tie.After-first-at) → c .before .args .m * (c .first-at .result % 65536) ≡ t-of (c .before .args .m)
-is c = ap (λ (z : ℕ). c .before .args .m * (z % 65536)) (c .first-at .ensures)
+is : (c : tie.After-first-at) → c .before .args .m * (c .first-at .result % 2 ^ 16) ≡ t-of (c .before .args .m)
+is c = ap (λ (z : ℕ). c .before .args .m * (z % 2 ^ 16)) (c .first-at .ensures)
 
-range : (c : tie.Start) → (274877906944 ≤ t-of (c .args .m)) × (t-of (c .args .m) < 277025390592)
+range : (c : tie.Start) → (2 ^ 38 ≤ t-of (c .args .m)) × (t-of (c .args .m) < 277025390592)
 range c = t-range (c .args .m) (c .pre .0) (c .pre .1)
 
 mul-t : tie.Need-mul-t
 mul-t c = omega (arith, is c, range (c .before))
 
-log-is : (c : tie.After-first-at) → c .first-at .result / 65536 * 32 ≡ l-of (i-of (c .before .args .m))
-log-is c = ap (λ (z : ℕ). z / 65536 * 32) (c .first-at .ensures)
+log-is : (c : tie.After-first-at) → c .first-at .result / 2 ^ 16 * 32 ≡ l-of (i-of (c .before .args .m))
+log-is c = ap (λ (z : ℕ). z / 2 ^ 16 * 32) (c .first-at .ensures)
 
-log-low : (c : tie.After-first-at) → c .first-at .result / 65536 * 32 ≤ 4503599627370496
+log-low : (c : tie.After-first-at) → c .first-at .result / 2 ^ 16 * 32 ≤ 2 ^ 52
 log-low c = le-trans (le-of-eq (log-is c)) (log-entry (i-of (c .before .args .m)) (i-lt (c .before .args .m) (c .before .pre .0) (c .before .pre .1)) .0)
 
 mul-result : tie.Need-mul-result
 mul-result c = omega (arith, log-low c)
 
 abbrev Asked : ℕ → Type 0
-Asked t = (t / 16777216 % 128 < 128) × (274877906944 + t / 16777216 % 128 * 16777216 ≤ t) × (t ≤ 274877906944 + (t / 16777216 % 128 + 1) * 16777216)
+Asked t = (t / 2 ^ 24 % 128 < 128) × (2 ^ 38 + t / 2 ^ 24 % 128 * 2 ^ 24 ≤ t) × (t ≤ 2 ^ 38 + (t / 2 ^ 24 % 128 + 1) * 2 ^ 24)
 
 ln-rest-requires : tie.Need-ln-rest-requires
 ln-rest-requires c κs =
@@ -41,7 +41,7 @@ ln-rest-requires c κs =
     subst Asked (sym (is c)) (j-lt m (s .pre .0) (s .pre .1), j-lo m (s .pre .0) (s .pre .1), j-hi m (s .pre .0) (s .pre .1))
 
 rest-is : (c : tie.After-ln-rest) → c .ln-rest .result ≡ lnRest (t-of (c .before .before .args .m)) (j-of (c .before .before .args .m))
-rest-is c = c .ln-rest .ensures ∙ ap (λ (t : ℕ). lnRest t (t / 16777216 % 128)) (is (c .before))
+rest-is c = c .ln-rest .ensures ∙ ap (λ (t : ℕ). lnRest t (t / 2 ^ 24 % 128)) (is (c .before))
 
 add-result : tie.Need-add-result
 add-result c =

@@ -1,7 +1,7 @@
 -- `ln::ln_rounded` meets its contract.
 use mathlib.Core.Path.{_≡_, sym, ap, ap₂, _∙_}
 use mathlib.Core.Bool.{Bool, true, false, cond}
-use Prim.Native.Nat.{ℕ, _+_, _≤_}
+use Prim.Native.Nat.{ℕ, _+_, _^_, _≤_}
 use native.Mathlib.Nat.{zero-add, pos-of-ne-zero}
 use native.Mathlib.Omega.{arith}
 use lib.Dec.{ltb, lit≤}
@@ -28,11 +28,11 @@ round-fixed-requires c κs = pos-of-ne-zero (c .if1 .left)
 sign-of-requires-2 : tie.Need-sign-of-requires-2
 sign-of-requires-2 c κs = tt
 
-sign-le : (w : ℕ) → lnSign w ≤ 2147483648
+sign-le : (w : ℕ) → lnSign w ≤ 2 ^ 31
 unfolding lnSign
 sign-le w = go (ltb w 496343524069145961)
   where
-    go : (t : Bool) → cond t 2147483648 0 ≤ 2147483648
+    go : (t : Bool) → cond t (2 ^ 31) 0 ≤ 2 ^ 31
     go true = lit≤ tt
     go false = lit≤ tt
 

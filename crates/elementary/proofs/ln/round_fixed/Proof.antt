@@ -9,7 +9,7 @@ use borrow.Author.Needs.{needs}
 use Rattle.elementary.proofs.ln.round_fixed.Statement.{statement}
 use Rattle.elementary.proofs.ln.round_fixed.Tie as tie
 
-top : (c : tie.Start) → (leadingZeros 64 (c .args .w) ≤ 63) × (c .args .w * 2 ^ leadingZeros 64 (c .args .w) < 18446744073709551616)
+top : (c : tie.Start) → (leadingZeros 64 (c .args .w) ≤ 63) × (c .args .w * 2 ^ leadingZeros 64 (c .args .w) < 2 ^ 64)
 top c = top64 (c .args .w) (c .pre) (omega arith)
 
 sub-result : tie.Need-sub-result
@@ -35,7 +35,7 @@ add-result-2 c = search needs
 
 returns : tie.Need-returns
 unfolding m-of
-returns c = let w = c .args .w in ap (λ (i : ℕ). (137 - leadingZeros 64 w) * 8388608 + (i / 549755813888 + 1) / 2) (mod-eq-of-lt (top c .1)) ∙ sym (rounded-is w (c .pre))
+returns c = let w = c .args .w in ap (λ (i : ℕ). (137 - leadingZeros 64 w) * 2 ^ 23 + (i / 2 ^ 39 + 1) / 2) (mod-eq-of-lt (top c .1)) ∙ sym (rounded-is w (c .pre))
 
 pub round-fixed-spec : {M : Type 1} → statement M
 round-fixed-spec = tie.close (tie.spec sub-result mul-result cast-result shl-result add-result cast-result-2 add-result-2 returns)

@@ -11,13 +11,15 @@ use Rattle.elementary.proofs.powf.is_odd.Statement.{statement}
 use Rattle.elementary.proofs.powf.is_odd.Tie as tie
 
 -- what the shift gives
-is : (c : tie.Then2) → 1 * 2 ^ (150 - c .before .before .args .a / 8388608) % 4294967296 ≡ 2 ^ (150 - c .before .before .args .a / 8388608)
+is : (c : tie.Then2) → 1 * 2 ^ (150 - c .before .before .args .a / 2 ^ 23) % 2 ^ 32 ≡ 2 ^
+    (150 - c .before .before .args .a / 2 ^ 23)
 is c =
     let a = c .before .before .args .a in
     let h = power-fits a (c .before .if1 .left) in
-    ap (λ (z : ℕ). z % 4294967296) (one-mul (2 ^ (150 - a / 8388608))) ∙ mod-eq-of-lt (small (2 ^ (150 - a / 8388608)) h)
+    ap (λ (z : ℕ). z % 2 ^ 32) (one-mul (2 ^ (150 - a / 2 ^ 23)))
+    ∙ mod-eq-of-lt (small (2 ^ (150 - a / 2 ^ 23)) h)
   where
-    small : (n : ℕ) → n ≤ 8388608 → n < 4294967296
+    small : (n : ℕ) → n ≤ 2 ^ 23 → n < 2 ^ 32
     small n h = omega arith
 
 returns : tie.Need-returns
@@ -36,12 +38,13 @@ mul-result : tie.Need-mul-result
 mul-result c = omega (arith, is c, power-fits (c .before .before .args .a) (c .before .if1 .left))
 
 rem-result : tie.Need-rem-result
-rem-result c = omega (arith, is c, pow-pos (150 - c .before .before .args .a / 8388608))
+rem-result c = omega (arith, is c, pow-pos (150 - c .before .before .args .a / 2 ^ 23))
 
 returns-2 : tie.Need-returns-2
 returns-2 c =
     let a = c .before .before .args .a in
-    ap (λ (p : ℕ). eqb ((a % 8388608 + 8388608) % (p * 2)) p) (is c) ∙ sym (odd-mid a (c .before .if1 .left) (c .if2 .taken))
+    ap (λ (p : ℕ). eqb ((a % 2 ^ 23 + 2 ^ 23) % (p * 2)) p) (is c)
+    ∙ sym (odd-mid a (c .before .if1 .left) (c .if2 .taken))
 
 returns-3 : tie.Need-returns-3
 returns-3 c = sym (odd-above (c .before .before .args .a) (c .if2 .left))

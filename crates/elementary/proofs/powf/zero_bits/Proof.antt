@@ -19,7 +19,8 @@ add-result c = omega (arith, c .zero-size .ensures, size-le (c .before .before .
 returns : tie.Need-returns
 returns c =
     let s = c .before .before .before in
-    ap (λ (z : ℕ). z + s .args .b) (c .zero-size .ensures) ∙ sym (zero-odd (s .args .b) (s .args .c) (sym (c .before .before .is-odd .ensures) ∙ c .before .if1 .taken))
+    ap (λ (z : ℕ). z + s .args .b) (c .zero-size .ensures)
+    ∙ sym (zero-odd (s .args .b) (s .args .c) (sym (c .before .before .is-odd .ensures) ∙ c .before .if1 .taken))
 
 zero-size-requires-2 : tie.Need-zero-size-requires-2
 zero-size-requires-2 c κs = search needs
@@ -27,7 +28,8 @@ zero-size-requires-2 c κs = search needs
 returns-2 : tie.Need-returns-2
 returns-2 c =
     let s = c .before .before .before in
-    c .zero-size2 .ensures ∙ sym (zero-even (s .args .b) (s .args .c) (sym (c .before .before .is-odd .ensures) ∙ c .before .if1 .left))
+    c .zero-size2 .ensures ∙ sym (zero-even (s .args .b) (s .args .c)
+    (sym (c .before .before .is-odd .ensures) ∙ c .before .if1 .left))
 
 pub zero-bits-spec : {M : Type 1} → statement M
 zero-bits-spec =

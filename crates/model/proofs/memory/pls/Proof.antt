@@ -3,8 +3,8 @@ use Rattle.model.specs.Model.{pls}
 use Rattle.model.proofs.memory.pls.Statement.{statement}
 use Rattle.model.proofs.memory.pls.Tie as tie
 
-powf-from-one-requires : tie.Need-powf-from-one-requires
-powf-from-one-requires c κs = search needs
+powf-f32-requires : tie.Need-powf-f32-requires
+powf-f32-requires c κs = search needs
 
 exp-f32-requires : tie.Need-exp-f32-requires
 exp-f32-requires c κs = search needs
@@ -18,8 +18,8 @@ returns c =
     rw (
       c .min .ensures,
       c .before .exp-f32 .ensures .0,
-      c .before .before .before .before .powf-from-one .ensures,
+      c .before .before .before .before .powf-f32 .ensures .0,
     )
 
 pub pls-spec : {M : Type 1} → statement M
-pls-spec = tie.close (tie.spec powf-from-one-requires exp-f32-requires min-requires returns)
+pls-spec = tie.close (tie.spec powf-f32-requires exp-f32-requires min-requires returns)

@@ -4,8 +4,8 @@ use Rattle.model.specs.Model.{sinc}
 use Rattle.model.proofs.memory.sinc.Statement.{statement}
 use Rattle.model.proofs.memory.sinc.Tie as tie
 
-powf-from-one-requires : tie.Need-powf-from-one-requires
-powf-from-one-requires c κs = search needs
+powf-f32-requires : tie.Need-powf-f32-requires
+powf-f32-requires c κs = search needs
 
 exp-f32-requires : tie.Need-exp-f32-requires
 exp-f32-requires c κs = search needs
@@ -23,14 +23,14 @@ returns c =
       c .where-rated2 .ensures,
       c .before .where-rated .ensures,
       c .before .before .exp-f32 .ensures .0,
-      c .before .before .before .before .powf-from-one .ensures,
+      c .before .before .before .before .powf-f32 .ensures .0,
     )
 
 pub sinc-spec : {M : Type 1} → statement M
 sinc-spec =
     tie.close
     (tie.spec
-    powf-from-one-requires
+    powf-f32-requires
     exp-f32-requires
     where-rated-requires
     where-rated-requires-2

@@ -1,0 +1,4 @@
+pub mod Curve
+pub mod Digits
+pub mod Value
+pub mod Words
