@@ -1,2 +1,3 @@
 pub mod Spans
 pub mod Laws
+pub mod Due

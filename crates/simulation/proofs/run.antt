@@ -4,4 +4,5 @@ pub mod LongerTable
 pub mod Answer
 pub mod Suits
 pub mod DemandThree
+pub mod Due
 pub mod Answers

@@ -1,3 +1,4 @@
 pub mod Loops
+pub mod Due
 pub mod Invariant
 pub mod State

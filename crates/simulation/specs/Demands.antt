@@ -1,27 +1,31 @@
 -- WHAT IS PROMISED OF A RUN: demand 3 (`DemandThree`), the contract of a call (`RunContract`), and the other demands (`Demands`). Definitions only.
-use Prim.Native.Nat.{ℕ, suc, _*_, _≤_}
+use Prim.Native.Nat.{ℕ, suc, _*_, _≤_, _<_}
 use mathlib.Core.Path.{_≡_}
 use mathlib.Core.Bool.{true}
 use mathlib.Core.Option.{some}
-use mathlib.Core.Logic.{_↔_}
+use mathlib.Core.Logic.{_↔_, _≢_}
 use mathlib.Core.List.{List, []}
 use lib.Ieee.{Float}
-use lib.ListN.{length}
-use Rattle.turns.specs.Sums.{sumTo}
+use lib.ListN.{length, getD}
+use Rattle.turns.specs.Sums.{bit, sumTo}
 use Rattle.turns.specs.Turns.{Turn, Demand, Rows}
+use Rattle.turns.specs.Run.{run}
 use Rattle.days.specs.Counts.{learnedAt, reviewedAt, correctAt, introducedAt}
 use Rattle.days.specs.Sums.{costAt}
+use Rattle.days.specs.Due.{dueDays}
 use Rattle.intervals.specs.Table.{heldIn}
 use Rattle.events.specs.Drawn.{Drawn}
 use Rattle.simulation.specs.declared.Refusal.{Refusal}
+use Rattle.simulation.specs.declared.Refusal.the-variants as refusal
 use Rattle.simulation.specs.declared.Check.the-variants as check
 use Rattle.simulation.specs.declared.Stop.{Stop}
 use Rattle.simulation.specs.declared.Progress.{Progress}
 use Rattle.simulation.specs.declared.Answer.{Answer}
 use Rattle.simulation.specs.declared.Answer.the-variants as answer
 use Rattle.simulation.specs.State.{State, Lent, listsOf, withTable}
-use Rattle.simulation.specs.Invariant.{lapsesIn}
+use Rattle.simulation.specs.Invariant.{lapsesIn, awaits}
 use Rattle.simulation.specs.Rules.{Rules}
+use Rattle.simulation.specs.Turn.{next}
 use Rattle.simulation.specs.RunRefusals.{StopCondition}
 use Rattle.simulation.specs.Entry.{Inputs, checked}
 use Rattle.simulation.specs.SetUp.{introducedBefore, setUp}
@@ -40,6 +44,10 @@ module _ {C : Type 0} (R : Rules C) (i : Inputs) (s : State C) where
 
   abbrev pub turnsOf : List (Turn Drawn)
   turnsOf = (runFrom R startOf) .turns
+
+  -- the state after n turns, or where the run has stopped before
+  abbrev pub stateAfter : ℕ → State C
+  stateAfter n = (run (next R) n [] startOf) .state
 
   -- what demand 3 says of the rows in lent lists: of the cards with a last date at set-up, of lapses, and of each day
   abbrev pub RowsOf : Lent C → Type 0
@@ -77,6 +85,11 @@ pub record RunContract (i : Inputs) (s : State Float) (r : Answer) (l : Lent Flo
   pub result : IsResult (simulated i s) r l
   pub demand-three : (p : Progress) → r ≡ answer.Finished p → DemandThree (rulesFor i) i s p l
 
+-- the due counts of a run's state: on each day that is counted at least the queued cards with a last date whose day it is, and at most the run's cards
+pub record DueBounds {C : Type 0} (cards span : ℕ) (s : State C) : Type 0 where
+  pub least : (d : ℕ) → d < dueDays span → sumTo cards (λ c. bit (awaits (s .cards) (s .queue) d c)) ≤ getD (s .due) d 0
+  pub most : (d : ℕ) → d < dueDays span → getD (s .due) d 0 ≤ cards
+
 -- THE DEMANDS beside the contract, of a run by rules R: `demands` has them at any way to draw
 pub record Demands {C : Type 0} (R : Rules C) (i : Inputs) (s : State C) : Type 0 where
   -- 1: an entry refusal, exactly by the table, writes nothing and takes no turn
@@ -90,3 +103,8 @@ pub record Demands {C : Type 0} (R : Rules C) (i : Inputs) (s : State C) : Type 
   pub demand-three : (p : Progress) → simulatedBy R i s .answer ≡ some (answer.Finished p) → DemandThree R i s p (listsOf (simulatedBy R i s .state))
   -- of every accepted call, refused in the run or not: it comes to its end or to a refusal within cards × (span + 1) turns, so its bound never shows
   pub ends-within : checked i s ≡ check.Passed → length (turnsOf R i s) ≤ cardsOf R i s * suc (R .span)
+  -- of every accepted call, after any number of turns and at its end: no due count comes to the top, and every queued card with a last date is counted
+  pub due-counts : checked i s ≡ check.Passed → (n : ℕ) → DueBounds (cardsOf R i s) (R .span) (stateAfter R i s n)
+  pub due-counts-left : checked i s ≡ check.Passed → DueBounds (cardsOf R i s) (R .span) (endOf R i s)
+  -- no accepted call answers refusal 9: a card with a last date is put off only from a day that counts it
+  pub no-due-refusal : checked i s ≡ check.Passed → (c : ℕ) (p : Progress) → simulatedBy R i s .answer ≢ some (answer.Refused (refusal.DueCount c) p)

@@ -70,6 +70,15 @@ module _ {A S X : Type 0} (next : S → Next A S X) where
         go (takes t s′) e ih = let h : R ts s t s′ × I s′ = rw e at (law ts s i) in rw (run-takes n ts s t s′ e) (ih t s′ (more c (h .0)) (h .1))
         go (stops x) e ih = rw (run-stops n ts s x e) c
 
+    -- what each turn keeps holds after any number of turns
+    pub run-keeps : (n : ℕ) (ts : List A) (s : S) → I s → I ((run next n ts s) .state)
+    run-keeps zero ts s i = i
+    run-keeps (suc n) ts s i = go (next s) refl (λ t s′ j. run-keeps n (t ∷ ts) s′ j)
+      where
+        go : (x : Next A S X) → next s ≡ x → ((t : A) (s′ : S) → I s′ → I ((run next n (t ∷ ts) s′) .state)) → I ((run next (suc n) ts s) .state)
+        go (takes t s′) e ih = let h : R ts s t s′ × I s′ = rw e at (law ts s i) in rw (run-takes n ts s t s′ e) (ih t s′ (h .1))
+        go (stops x) e ih = rw (run-stops n ts s x e) i
+
     -- if no chain from s₀ is longer than N, more fuel than N comes to the stop
     pub run-ends : (s₀ : S) (N : ℕ) → I s₀ → ((ts : List A) (s : S) → Chain R s₀ ts s → length ts ≤ N) → (x : X) × (next ((run next (suc N) [] s₀) .state) ≡ stops x)
     run-ends s₀ N i bound = go (came (suc N) [] s₀)

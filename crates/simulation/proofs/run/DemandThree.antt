@@ -48,13 +48,13 @@ use Rattle.simulation.proofs.set_up.Invariant.{set-up-few, set-up-start
 use Rattle.simulation.proofs.turn.Lawful.{turns-demand, turns-rows, ends}
 
 module _ {C : Type 0} (R : Rules C) (i : Inputs) (s : State C) (ok : Accepted i s) (fit : Suits R i) where
-  fine : RunBounds (R .span) (cardsOf R i s)
+  pub fine : RunBounds (R .span) (cardsOf R i s)
   fine = record { some = omega (arith, fit .span-is, ok .span-some); most = omega (arith, fit .span-is, ok .span-most); few = omega (arith, set-up-few (R .costs) i s ok, ok .deck-most) }
 
   begins : SetUp (columns (R .costs .none)) (R .costs) (R .span) (introducedBefore (i .existing) (i .existing-counts) (length (i .existing))) (startOf R i s)
   begins = subst (λ (z : ℕ). SetUp (columns (R .costs .none)) (R .costs) z (introducedBefore (i .existing) (i .existing-counts) (length (i .existing))) (startOf R i s)) (fit .span-is) (set-up-start (R .costs) i s ok)
 
-  good : StateInvariant (cardsOf R i s) (R .span) (startOf R i s)
+  pub good : StateInvariant (cardsOf R i s) (R .span) (startOf R i s)
   good = subst (λ (z : ℕ). StateInvariant (cardsOf R i s) z (startOf R i s)) (fit .span-is) (set-up-good (R .costs) i s ok)
 
   -- the bound on turns never shows: the run has stopped
