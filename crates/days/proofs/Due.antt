@@ -2,7 +2,7 @@
 --   add-long, move-long    the list is as long as it was
 --   added                  `addDue`: one more on its day
 --   moved                  `moveDue`: a dated card goes from its day to the next, another moves nothing
-use mathlib.Core.Path.{_≡_, refl, ap, _∙_}
+use mathlib.Core.Path.{_≡_, refl, _∙_}
 use mathlib.Core.Bool.{Bool, true, false, not, _&&_, cond}
 use mathlib.Core.List.{List}
 use Prim.Native.Nat.{ℕ, _+_, _-_, _≤_, _<_}

@@ -1,18 +1,17 @@
 -- WHAT IS PROMISED OF A RUN: demand 3 (`DemandThree`), the contract of a call (`RunContract`), and the other demands (`Demands`). Definitions only.
-use Prim.Native.Nat.{ℕ, suc, _*_, _≤_, _<_}
+use Prim.Native.Nat.{ℕ, suc, _*_, _≤_}
 use mathlib.Core.Path.{_≡_}
 use mathlib.Core.Bool.{true}
 use mathlib.Core.Option.{some}
 use mathlib.Core.Logic.{_↔_, _≢_}
 use mathlib.Core.List.{List, []}
 use lib.Ieee.{Float}
-use lib.ListN.{length, getD}
-use Rattle.turns.specs.Sums.{bit, sumTo}
+use lib.ListN.{length}
+use Rattle.turns.specs.Sums.{sumTo}
 use Rattle.turns.specs.Turns.{Turn, Demand, Rows}
 use Rattle.turns.specs.Run.{run}
 use Rattle.days.specs.Counts.{learnedAt, reviewedAt, correctAt, introducedAt}
 use Rattle.days.specs.Sums.{costAt}
-use Rattle.days.specs.Due.{dueDays}
 use Rattle.intervals.specs.Table.{heldIn}
 use Rattle.events.specs.Drawn.{Drawn}
 use Rattle.simulation.specs.declared.Refusal.{Refusal}
@@ -23,7 +22,7 @@ use Rattle.simulation.specs.declared.Progress.{Progress}
 use Rattle.simulation.specs.declared.Answer.{Answer}
 use Rattle.simulation.specs.declared.Answer.the-variants as answer
 use Rattle.simulation.specs.State.{State, Lent, listsOf, withTable}
-use Rattle.simulation.specs.Invariant.{lapsesIn, awaits}
+use Rattle.simulation.specs.Invariant.{lapsesIn, DueBounds}
 use Rattle.simulation.specs.Rules.{Rules}
 use Rattle.simulation.specs.Turn.{next}
 use Rattle.simulation.specs.RunRefusals.{StopCondition}
@@ -84,11 +83,6 @@ pub record DemandThree {C : Type 0} (R : Rules C) (i : Inputs) (s : State C) (p 
 pub record RunContract (i : Inputs) (s : State Float) (r : Answer) (l : Lent Float) : Type 0 where
   pub result : IsResult (simulated i s) r l
   pub demand-three : (p : Progress) → r ≡ answer.Finished p → DemandThree (rulesFor i) i s p l
-
--- the due counts of a run's state: on each day that is counted at least the queued cards with a last date whose day it is, and at most the run's cards
-pub record DueBounds {C : Type 0} (cards span : ℕ) (s : State C) : Type 0 where
-  pub least : (d : ℕ) → d < dueDays span → sumTo cards (λ c. bit (awaits (s .cards) (s .queue) d c)) ≤ getD (s .due) d 0
-  pub most : (d : ℕ) → d < dueDays span → getD (s .due) d 0 ≤ cards
 
 -- THE DEMANDS beside the contract, of a run by rules R: `demands` has them at any way to draw
 pub record Demands {C : Type 0} (R : Rules C) (i : Inputs) (s : State C) : Type 0 where

@@ -1,5 +1,5 @@
 -- WHAT A STATE MUST SATISFY for a run to be lawful from it, in parts: `Lengths`, `InOrder`, `TableInRange`, `Counts`, `DueCounts`. Set-up leaves such a state, and every turn
--- keeps it one, by any rules whose slots are lawful. Definitions only.
+-- keeps it one, by any rules whose slots are lawful; `DueBounds` is what it says of the due counts. Definitions only.
 use Prim.Native.Nat.{ℕ, _+_, _≤_, _<_, min}
 use mathlib.Core.Bool.{Bool, false, not, _&&_}
 use mathlib.Core.List.{List, []}
@@ -88,3 +88,8 @@ pub record StateInvariant {C : Type 0} (cards span : ℕ) (s : State C) : Type 0
   pub table : TableInRange (s .table)
   pub counts : Counts cards span s
   pub due : DueCounts cards span (s .cards) (s .queue) (s .due)
+
+-- WHAT IT SAYS OF THE DUE COUNTS: on each day that is counted at least the queued cards with a last date whose day it is, and at most the run's cards
+pub record DueBounds {C : Type 0} (cards span : ℕ) (s : State C) : Type 0 where
+  pub least : (d : ℕ) → d < dueDays span → sumTo cards (λ c. bit (awaits (s .cards) (s .queue) d c)) ≤ getD (s .due) d 0
+  pub most : (d : ℕ) → d < dueDays span → getD (s .due) d 0 ≤ cards

@@ -15,6 +15,15 @@ abbrev pub Lawful : {A S X : Type 0} → Steps A S → (S → Type 0) → List A
 Lawful R I ts s (takes t s′) = R ts s t s′ × I s′
 Lawful R I ts s (stops x) = Unit {0}
 
+-- a turn keeps I
+abbrev pub Keeps : {A S X : Type 0} → (S → Type 0) → Next A S X → Type 0
+Keeps I (takes t s) = I s
+Keeps I (stops x) = Unit {0}
+
+pub lawful-keeps : {A S X : Type 0} (R : Steps A S) (I : S → Type 0) (ts : List A) (s : S) (x : Next A S X) → Lawful R I ts s x → Keeps I x
+lawful-keeps R I ts s (takes t s′) h = h .1
+lawful-keeps R I ts s (stops x) h = tt
+
 module _ {A S X : Type 0} (next : S → Next A S X) where
   pub run-takes : (n : ℕ) (ts : List A) (s : S) (t : A) (s′ : S) → next s ≡ takes t s′ → run next (suc n) ts s ≡ run next n (t ∷ ts) s′
   run-takes n ts s t s′ e = rw (e, run)
@@ -47,6 +56,15 @@ module _ {A S X : Type 0} (next : S → Next A S X) where
       let j : k + (n - k) ≡ n = omega arith in
       ap (λ (i : ℕ). run next i ts s) (sym j) ∙ run-add k (n - k) ts s ∙ run-stopped (n - k) ((run next k ts s) .turns) ((run next k ts s) .state) x e
 
+  -- what each turn keeps holds after any number of turns
+  pub run-keeps : (I : S → Type 0) → ((s : S) → I s → Keeps I (next s)) → (n : ℕ) (ts : List A) (s : S) → I s → I ((run next n ts s) .state)
+  run-keeps I law zero ts s i = i
+  run-keeps I law (suc n) ts s i = go (next s) refl (law s i) (λ t s′. run-keeps I law n (t ∷ ts) s′)
+    where
+      go : (x : Next A S X) → next s ≡ x → Keeps I (next s) → ((t : A) (s′ : S) → I s′ → I ((run next n (t ∷ ts) s′) .state)) → I ((run next (suc n) ts s) .state)
+      go (takes t s′) e h ih = rw (run-takes n ts s t s′ e) (ih t s′ (rw e at h))
+      go (stops x) e h ih = rw (run-stops n ts s x e) i
+
   -- it has stopped, or the fuel is spent
   pub data Came (m : ℕ) (r : RunState A S) : Type 0 where
     stopped : (x : X) → next (r .state) ≡ stops x → Came m r
@@ -69,15 +87,6 @@ module _ {A S X : Type 0} (next : S → Next A S X) where
             → Chain R s₀ ((run next (suc n) ts s) .turns) ((run next (suc n) ts s) .state)
         go (takes t s′) e ih = let h : R ts s t s′ × I s′ = rw e at (law ts s i) in rw (run-takes n ts s t s′ e) (ih t s′ (more c (h .0)) (h .1))
         go (stops x) e ih = rw (run-stops n ts s x e) c
-
-    -- what each turn keeps holds after any number of turns
-    pub run-keeps : (n : ℕ) (ts : List A) (s : S) → I s → I ((run next n ts s) .state)
-    run-keeps zero ts s i = i
-    run-keeps (suc n) ts s i = go (next s) refl (λ t s′ j. run-keeps n (t ∷ ts) s′ j)
-      where
-        go : (x : Next A S X) → next s ≡ x → ((t : A) (s′ : S) → I s′ → I ((run next n (t ∷ ts) s′) .state)) → I ((run next (suc n) ts s) .state)
-        go (takes t s′) e ih = let h : R ts s t s′ × I s′ = rw e at (law ts s i) in rw (run-takes n ts s t s′ e) (ih t s′ (h .1))
-        go (stops x) e ih = rw (run-stops n ts s x e) i
 
     -- if no chain from s₀ is longer than N, more fuel than N comes to the stop
     pub run-ends : (s₀ : S) (N : ℕ) → I s₀ → ((ts : List A) (s : S) → Chain R s₀ ts s → length ts ≤ N) → (x : X) × (next ((run next (suc N) [] s₀) .state) ≡ stops x)

@@ -11,19 +11,18 @@ use lib.Dec.{eqb}
 use lib.ListN.{getD}
 use Rattle.turns.specs.Sums.{bit}
 use Rattle.cards.specs.declared.Choice.the-variants as choice
-use Rattle.cards.specs.Day.{isNew}
 use Rattle.cards.specs.Cards.{cardAt}
-use Rattle.cards.specs.Choices.{retires, choose, choiceOf}
+use Rattle.cards.specs.Choices.{choose, choiceOf}
 use Rattle.days.specs.Due.{noneDue}
 use Rattle.queue.specs.Queue.{front}
 use Rattle.queue.proofs.Laws.{front-queued}
 use Rattle.simulation.specs.State.{State}
 use Rattle.simulation.specs.Rules.{Rules}
 use Rattle.simulation.specs.Entry.{Inputs}
-use Rattle.simulation.specs.Invariant.{dayIn, newIn, RunBounds, StateInvariant}
-use Rattle.simulation.specs.RunRefusals.{turnCard, turnChoice, DueRefused}
+use Rattle.simulation.specs.Invariant.{dayIn, newIn, RunBounds, StateInvariant, DueBounds}
+use Rattle.simulation.specs.RunRefusals.{DueRefused}
 use Rattle.simulation.specs.Simulate.{bound, runFrom}
-use Rattle.simulation.specs.Demands.{startOf, cardsOf, endOf, stateAfter, DueBounds}
+use Rattle.simulation.specs.Demands.{startOf, cardsOf, endOf, stateAfter}
 use Rattle.simulation.proofs.entry.Accepted.{Accepted}
 use Rattle.simulation.proofs.turn.Due.{due-few, waits-one}
 use Rattle.simulation.proofs.turn.Invariant.{is-card, in-span}

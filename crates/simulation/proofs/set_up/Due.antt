@@ -1,7 +1,7 @@
 -- What a card's joining leaves of the due counts: `DueCounts` holds of one card more.
 --   due-new               a new card: nothing is counted
 --   due-kept, kept-long   an existing card: it is counted on its day
-use mathlib.Core.Path.{_≡_, refl, sym, ap, _∙_, subst}
+use mathlib.Core.Path.{_≡_, sym, ap, _∙_, subst}
 use mathlib.Core.Bool.{Bool, true, not, _&&_}
 use mathlib.Core.List.{List}
 use Prim.Native.Nat.{ℕ, suc, _+_, _≤_, _<_}

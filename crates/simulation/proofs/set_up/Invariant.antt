@@ -203,14 +203,18 @@ module _ {C : Type 0} (b : CostRule Drawn C) (i : Inputs) (s : State C) (ok : Ac
 
       go : (b : Bool) → isKept k ≡ b → Came (introducedBefore es ns n) n before → Came (introducedBefore es ns n + bit (b && not (isNew (k .«last_date»)))) (suc n) (cond b (addKeptCard span before k) before)
       go true e c =
-          let j = join rows (length (s .cards)) (length (s .counts)) (introducedBefore es ns n) (c .cards) before k (c .joining) (omega (arith, c .few, ok .existing-few, ok .cards-long)) (omega (arith, c .few, ok .existing-few, ok .counts-long)) (omega (arith, c .few, ok .existing-few, ok .queue-long)) (omega (arith, c .few, ok .existing-few, ok .deck-most)) (day-kept k (ok .cards-ok n (omega arith) e)) (lapses-kept k (ok .cards-ok n (omega arith) e)) in
-          let row : c .cards < length (before .cards) = omega (arith, c .few, ok .existing-few, ok .cards-long, c .joining .cards-are) in
+          let l : c .cards < deck = omega (arith, c .few, ok .existing-few) in
+          let fine = ok .cards-ok n (omega arith) e in
+          let j =
+          join rows (length (s .cards)) (length (s .counts)) (introducedBefore es ns n) (c .cards) before k (c .joining) (omega (arith, ok .cards-long)) (omega (arith, ok .counts-long))
+          (omega (arith, ok .queue-long)) (omega (arith, ok .deck-most)) (day-kept k fine) (lapses-kept k fine) in
+          let row : c .cards < length (before .cards) = omega (arith, ok .cards-long, c .joining .cards-are) in
           record {
             cards = suc (c .cards);
             few = omega (arith, c .few);
             joining = retained-same (introducedBefore es ns n + bit (not (isNew (k .«last_date»)))) (suc (c .cards)) before k j;
             due-long = kept-long span before k (c .due-long);
-            due = due-kept span before k (c .cards) (c .joining .fill) (j .fill) row (c .due) (omega (arith, c .few, ok .existing-few, ok .deck-most)) (c .due-long);
+            due = due-kept span before k (c .cards) (c .joining .fill) (j .fill) row (c .due) (omega (arith, ok .deck-most, c .joining .fill .count)) (c .due-long);
           }
       go false e c = record { cards = c .cards; few = omega (arith, c .few); joining = subst (λ (z : ℕ). Joining rows (length (s .cards)) (length (s .counts)) z (c .cards) before) (let z : introducedBefore es ns n ≡ introducedBefore es ns n + 0 = omega arith in z) (c .joining); due-long = c .due-long; due = c .due }
 
@@ -246,12 +250,16 @@ module _ {C : Type 0} (b : CostRule Drawn C) (i : Inputs) (s : State C) (ok : Ac
 
       go : Came (introducedBefore es ns (length es)) (all-kept .cards + n) before → Came (introducedBefore es ns (length es)) (all-kept .cards + suc n) (addCard before k)
       go c =
-          let j = join rows (length (s .cards)) (length (s .counts)) (introducedBefore es ns (length es)) (c .cards) before k (c .joining) (omega (arith, c .few, h, ok .cards-long)) (omega (arith, c .few, h, ok .counts-long)) (omega (arith, c .few, h, ok .queue-long)) (omega (arith, c .few, h, ok .deck-most)) (new-day n (omega (arith, h, ok .deck-most))) (new-lapses n) in
-          let row : c .cards < length (before .cards) = omega (arith, c .few, h, ok .cards-long, c .joining .cards-are) in
+          let l : c .cards < deck = omega (arith, c .few, h) in
+          let j =
+          join rows (length (s .cards)) (length (s .counts)) (introducedBefore es ns (length es)) (c .cards) before k (c .joining) (omega (arith, ok .cards-long)) (omega (arith, ok .counts-long))
+          (omega (arith, ok .queue-long)) (omega (arith, ok .deck-most)) (new-day n (omega (arith, h, ok .deck-most))) (new-lapses n) in
+          let row : c .cards < length (before .cards) = omega (arith, ok .cards-long, c .joining .cards-are) in
+          let as-many : introducedBefore es ns (length es) + bit (not (isNew (k .«last_date»))) ≡ introducedBefore es ns (length es) = omega (arith, ap (λ (b : Bool). bit (not b)) (new-new n)) in
           record {
             cards = suc (c .cards);
             few = omega (arith, c .few);
-            joining = subst (λ (z : ℕ). Joining rows (length (s .cards)) (length (s .counts)) z (suc (c .cards)) (addCard before k)) (let z : introducedBefore es ns (length es) + bit (not (isNew (k .«last_date»))) ≡ introducedBefore es ns (length es) = omega (arith, ap (λ (b : Bool). bit (not b)) (new-new n)) in z) j;
+            joining = subst (λ (z : ℕ). Joining rows (length (s .cards)) (length (s .counts)) z (suc (c .cards)) (addCard before k)) as-many j;
             due-long = unfold addCard in (c .due-long);
             due = due-new span before k (c .cards) (c .joining .fill) (j .fill) row (c .due) (new-new n);
           }
