@@ -1,4 +1,6 @@
--- What the writes of due counts leave on each day that is counted: one more where a card is counted, and one less where a dated card is put off.
+-- What the writes of due counts leave on each day that is counted: one more where a card is counted, one less where a
+-- dated card is put off.
+--   Below                  no count is at the top of a u32
 --   add-long, move-long    the list is as long as it was
 --   added                  `addDue`: one more on its day
 --   moved                  `moveDue`: a dated card goes from its day to the next, another moves nothing
@@ -18,7 +20,6 @@ use Rattle.days.specs.Counts.{saturatingSuc}
 use Rattle.days.specs.Due.{dueDays, addOneAt, addDue, moveDue}
 use Rattle.days.proofs.Laws.{raised-is}
 
--- no count that is kept is at the top of a u32
 abbrev pub Below : ℕ → List ℕ → Type 0
 Below span due = (i : ℕ) → i < dueDays span → getD due i 0 < 4294967295
 
@@ -31,14 +32,21 @@ module _ (span : ℕ) (due : List ℕ) (d : ℕ) where
       go true = length-set due d _
       go false = refl
 
-  pub added : dueDays span ≤ length due → Below span due → (i : ℕ) → i < dueDays span → getD (addDue span due d) i 0 ≡ getD due i 0 + bit (eqb d i)
+  pub added : dueDays span ≤ length due → Below span due
+      → (i : ℕ) → i < dueDays span → getD (addDue span due d) i 0 ≡ getD due i 0 + bit (eqb d i)
   unfolding addDue
   added long small i h = go (decLt d (dueDays span)) (ℕ-discrete i d)
     where
-      go : Dec (d < dueDays span) → Dec (i ≡ d) → getD (cond (ltb d (dueDays span)) (addOneAt due d) due) i 0 ≡ getD due i 0 + bit (eqb d i)
+      x : ℕ
+      x = saturatingSuc (getD due d 0)
+
+      go : Dec (d < dueDays span) → Dec (i ≡ d)
+          → getD (cond (ltb d (dueDays span)) (addOneAt due d) due) i 0 ≡ getD due i 0 + bit (eqb d i)
       go (yes l) (yes e) =
-          rw (lt-ltb d (dueDays span) l, e) (getD-set-same due d (saturatingSuc (getD due d 0)) 0 (omega arith) ∙ raised-is (getD due d 0) (small d l) ∙ omega (arith, at-eq d d refl))
-      go (yes l) (no e) = rw (lt-ltb d (dueDays span) l) (getD-set-other due d i (saturatingSuc (getD due d 0)) 0 e ∙ omega (arith, at-ne d i (omega (arith, e))))
+          rw (lt-ltb d (dueDays span) l, e)
+          (getD-set-same due d x 0 (omega arith) ∙ raised-is (getD due d 0) (small d l) ∙ omega (arith, at-eq d d refl))
+      go (yes l) (no e) =
+          rw (lt-ltb d (dueDays span) l) (getD-set-other due d i x 0 e ∙ omega (arith, at-ne d i (omega (arith, e))))
       go (no l) e = rw (le-ltb d (dueDays span) (omega (arith, l))) (omega (arith, at-ne d i (omega (arith, l))))
 
 module _ (span : ℕ) (due : List ℕ) (new : Bool) (d : ℕ) where
@@ -55,7 +63,8 @@ module _ (span : ℕ) (due : List ℕ) (new : Bool) (d : ℕ) where
 
   -- where the day that the card leaves counts it
   pub moved : dueDays span ≤ length due → Below span due → d < dueDays span → bit (not new) ≤ getD due d 0
-      → (i : ℕ) → i < dueDays span → getD (moveDue span due new d) i 0 + bit (not new && eqb d i) ≡ getD due i 0 + bit (not new && eqb (d + 1) i)
+      → (i : ℕ) → i < dueDays span
+      → getD (moveDue span due new d) i 0 + bit (not new && eqb d i) ≡ getD due i 0 + bit (not new && eqb (d + 1) i)
   unfolding moveDue
   moved long small l one i h = go new one
     where
@@ -69,7 +78,10 @@ module _ (span : ℕ) (due : List ℕ) (new : Bool) (d : ℕ) where
           at (yes e) = rw e (omega (arith, getD-set-same due d (getD due d 0 - 1) 0 (omega arith), at-eq d d refl))
           at (no e) = omega (arith, getD-set-other due d j (getD due d 0 - 1) 0 e, at-ne d j (omega (arith, e)))
 
-      go : (b : Bool) → bit (not b) ≤ getD due d 0 → getD (cond b due (addDue span less (d + 1))) i 0 + bit (not b && eqb d i) ≡ getD due i 0 + bit (not b && eqb (d + 1) i)
+      go : (b : Bool) → bit (not b) ≤ getD due d 0
+          → getD (cond b due (addDue span less (d + 1))) i 0 + bit (not b && eqb d i)
+          ≡ getD due i 0 + bit (not b && eqb (d + 1) i)
       go true n = refl
       go false n =
-          omega (arith, taken n i, added span less (d + 1) (omega (arith, length-set due d (getD due d 0 - 1))) (λ j u. omega (arith, taken n j, small j u)) i h)
+          let long′ : dueDays span ≤ length less = omega (arith, length-set due d (getD due d 0 - 1)) in
+          omega (arith, taken n i, added span less (d + 1) long′ (λ j u. omega (arith, taken n j, small j u)) i h)

@@ -40,7 +40,8 @@ put-stays false b new e = refl
 none-not : (new : Bool) (n : ℕ) → bit (not new) ≤ n → (not new ≡ true) × (eqb n 0 ≡ true) → ⊥
 none-not new n h e = omega (arith, ap bit (e .0), eqb-true n 0 (e .1))
 
-module _ {C : Type 0} (R : Rules C) (n : ℕ) (s : State C) (fit : RunBounds (R .span) n) (ok : StateInvariant n (R .span) s) where
+module _ {C : Type 0} (R : Rules C) (n : ℕ) (s : State C) (fit : RunBounds (R .span) n)
+    (ok : StateInvariant n (R .span) s) where
   bounds : DueBounds n (R .span) s
   bounds = record { least = ok .due .least; most = due-few n (R .span) (s .cards) (s .queue) (s .due) (ok .due) }
 
@@ -48,8 +49,10 @@ module _ {C : Type 0} (R : Rules C) (n : ℕ) (s : State C) (fit : RunBounds (R 
   unfolding choiceOf noneDue cardAt
   none-refused c h =
       let first = front (s .queue) in
+      let mine = is-card R n fit [] s ok (h .queued) in
+      let waits = front-queued (s .queue) (h .queued) in
       let kept = in-span R n fit [] s ok (h .queued) (put-stays _ _ _ (h .put-off)) in
-      let one = waits-one n (R .span) (s .cards) (s .queue) (s .due) (ok .due) first (is-card R n fit [] s ok (h .queued)) (front-queued (s .queue) (h .queued)) (omega (arith, kept)) in
+      let one = waits-one n (R .span) (s .cards) (s .queue) (s .due) (ok .due) first mine waits (omega (arith, kept)) in
       none-not (newIn (s .cards) first) (getD (s .due) (dayIn (s .cards) first) 0) one (both _ _ (h .none-due))
 
 module _ {C : Type 0} (R : Rules C) (i : Inputs) (s : State C) (ok : Accepted i s) (fit : Suits R i) where

@@ -1,4 +1,6 @@
--- What a turn leaves of the due counts: its card is taken from the day it waited for and counted on its next day, and no other card is moved.
+-- What a turn leaves of the due counts: its card is taken from the day it waited for and counted on its next day, and
+-- no other card is moved.
+--   waiting, reached                   1 for a card that waits for day d; 1 for one whose day is d or later
 --   due-few, due-below                 a due count is at most the cards, so it is not at the top
 --   waits-one                          the day of a queued card with a last date counts it
 --   due-put, due-event, due-retire     `DueCounts` after a putting off, an event, a retiring
@@ -33,11 +35,10 @@ module _ (cards : List (List Float)) (q : Queue) (d c : ℕ) where
   awaits-not : queued q c ≡ false → bit (awaits cards q d c) ≡ 0
   awaits-not e = rw e
 
--- as numbers, 1 for a card that waits for day d, and for one whose day is d or later
-abbrev waiting : List (List Float) → Queue → ℕ → ℕ → ℕ
+abbrev pub waiting : List (List Float) → Queue → ℕ → ℕ → ℕ
 waiting cards q d c = bit (awaits cards q d c)
 
-abbrev reached : List (List Float) → ℕ → ℕ → ℕ
+abbrev pub reached : List (List Float) → ℕ → ℕ → ℕ
 reached cards d c = bit (leb d (dayIn cards c))
 
 module _ (n span : ℕ) (cards : List (List Float)) (q : Queue) (due : List ℕ) (old : DueCounts n span cards q due) where
@@ -60,7 +61,8 @@ module _ (n span : ℕ) (cards : List (List Float)) (q : Queue) (due : List ℕ)
 
   -- card c is changed, and no other: what the counts have more is what the card has more
   module _ (cards′ : List (List Float)) (q′ : Queue) (c : ℕ) (is-card : c < n)
-      (same-day : (x : ℕ) → x ≢ c → dayIn cards′ x ≡ dayIn cards x) (same-new : (x : ℕ) → x ≢ c → newIn cards′ x ≡ newIn cards x)
+      (same-day : (x : ℕ) → x ≢ c → dayIn cards′ x ≡ dayIn cards x)
+      (same-new : (x : ℕ) → x ≢ c → newIn cards′ x ≡ newIn cards x)
       (same-queued : (x : ℕ) → x ≢ c → queued q′ x ≡ queued q x) where
     abbrev day : ℕ
     day = dayIn cards c
@@ -72,18 +74,29 @@ module _ (n span : ℕ) (cards : List (List Float)) (q : Queue) (due : List ℕ)
     new = newIn cards c
 
     changed : (due′ : List ℕ)
-        → ((d : ℕ) → d < dueDays span → getD due d 0 + bit (awaits cards′ q′ d c) ≤ getD due′ d 0 + bit (awaits cards q d c))
-        → ((d : ℕ) → d < dueDays span → getD due′ d 0 + bit (leb d day) ≤ getD due d 0 + bit (leb d day′))
+        → ((d : ℕ) → d < dueDays span → getD due d 0 + waiting cards′ q′ d c ≤ getD due′ d 0 + waiting cards q d c)
+        → ((d : ℕ) → d < dueDays span → getD due′ d 0 + reached cards d c ≤ getD due d 0 + reached cards′ d c)
         → DueCounts n span cards′ q′ due′
     changed due′ less more = record {
-      least = λ d h.
-          omega (arith, old .least d h, less d h, sum-at n c (waiting cards q d) (waiting cards′ q′ d) is-card (λ x ne. rw (same-day x ne, same-new x ne, same-queued x ne)));
-      most = λ d h. omega (arith, old .most d h, more d h, sum-at n c (reached cards d) (reached cards′ d) is-card (λ x ne. rw (same-day x ne)));
+      least = λ d h. omega (
+        arith,
+        old .least d h,
+        less d h,
+        sum-at n c (waiting cards q d) (waiting cards′ q′ d) is-card
+            (λ x ne. rw (same-day x ne, same-new x ne, same-queued x ne)),
+      );
+      most = λ d h. omega (
+        arith,
+        old .most d h,
+        more d h,
+        sum-at n c (reached cards d) (reached cards′ d) is-card (λ x ne. rw (same-day x ne)),
+      );
     }
 
     pub due-retire : day′ ≡ day → queued q′ c ≡ false → DueCounts n span cards′ q′ due
     due-retire e gone =
-        changed due (λ d h. omega (arith, awaits-not cards′ q′ d c gone)) (λ d h. omega (arith, ap (λ (x : ℕ). bit (leb d x)) e))
+        changed due (λ d h. omega (arith, awaits-not cards′ q′ d c gone))
+        (λ d h. omega (arith, ap (λ (x : ℕ). bit (leb d x)) e))
 
     module _ (few : n ≤ 65536) (long : dueDays span ≤ length due) where
       pub due-event : day < day′ → DueCounts n span cards′ q′ (addDue span due day′)
@@ -98,13 +111,17 @@ module _ (n span : ℕ) (cards : List (List Float)) (q : Queue) (due : List ℕ)
           → DueCounts n span cards′ q′ (moveDue span due new day)
       due-put is-queued en l next =
           changed due′ (λ d h. omega (arith, at d h, now d, awaits-is cards q d c is-queued))
-          (λ d h. omega (arith, at d h, and-le (not new) (eqb (day + 1) d), le-step d day (day + 1) (omega arith), ap (λ (x : ℕ). bit (leb d x)) next))
+          (λ d h. omega (arith, at d h, and-le (not new) (eqb (day + 1) d), later d))
         where
           due′ : List ℕ
           due′ = moveDue span due new day
 
-          at : (d : ℕ) → d < dueDays span → getD due′ d 0 + bit (not new && eqb day d) ≡ getD due d 0 + bit (not new && eqb (day + 1) d)
+          at : (d : ℕ) → d < dueDays span
+              → getD due′ d 0 + bit (not new && eqb day d) ≡ getD due d 0 + bit (not new && eqb (day + 1) d)
           at = moved span due new day long (due-below few) l (waits-one c is-card is-queued l)
+
+          later : (d : ℕ) → bit (leb d day) + bit (eqb (day + 1) d) ≤ bit (leb d day′)
+          later d = rw next (le-step d day (day + 1) (omega arith))
 
           -- now it waits for the next day, if it has a last date
           now : (d : ℕ) → bit (awaits cards′ q′ d c) ≤ bit (not new && eqb (day + 1) d)
