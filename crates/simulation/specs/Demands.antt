@@ -97,8 +97,10 @@ pub record Demands {C : Type 0} (R : Rules C) (i : Inputs) (s : State C) : Type 
   pub demand-three : (p : Progress) → simulatedBy R i s .answer ≡ some (answer.Finished p) → DemandThree R i s p (listsOf (simulatedBy R i s .state))
   -- of every accepted call, refused in the run or not: it comes to its end or to a refusal within cards × (span + 1) turns, so its bound never shows
   pub ends-within : checked i s ≡ check.Passed → length (turnsOf R i s) ≤ cardsOf R i s * suc (R .span)
-  -- of every accepted call, after any number of turns and at its end: no due count comes to the top, and every queued card with a last date is counted
+  -- of every accepted call, after any number of turns: on each day that is counted the due count is at most the cards, so it never comes to the top, and at
+  -- least the queued cards with a last date whose day it is
   pub due-counts : checked i s ≡ check.Passed → (n : ℕ) → DueBounds (cardsOf R i s) (R .span) (stateAfter R i s n)
+  -- and so at its end
   pub due-counts-left : checked i s ≡ check.Passed → DueBounds (cardsOf R i s) (R .span) (endOf R i s)
   -- no accepted call answers refusal 9: a card with a last date is put off only from a day that counts it
   pub no-due-refusal : checked i s ≡ check.Passed → (c : ℕ) (p : Progress) → simulatedBy R i s .answer ≢ some (answer.Refused (refusal.DueCount c) p)
