@@ -1,6 +1,6 @@
 -- The rows of days in longer lists: the places behind the days that a run has play no part, and stay as they are.
 --   event-own, cost-own, range-own, add-due-own, move-due-own    what each writes into a ++ b it writes into a
---   event-long, range-long, add-due-long, move-due-long          and lists keep their lengths
+--   event-long, range-long                                       and lists keep their lengths
 use mathlib.Core.Path.{_≡_, refl, sym, ap, _∙_}
 use mathlib.Core.Bool.{Bool, true, false, cond}
 use mathlib.Core.List.{List, [], _∷_, _++_}
@@ -85,14 +85,6 @@ module _ (r : Float → Float) (last : Float) where
       (range-own (addMemorized a d x) b m (d + 1) (λ z. omega (arith, l, memorized-long a d x)))
 
 -- ---- due counts
-pub add-due-long : (span : ℕ) (a : List ℕ) (d : ℕ) → length (addDue span a d) ≡ length a
-unfolding addDue
-add-due-long span a d = go (ltb d (dueDays span))
-  where
-    go : (t : Bool) → length (cond t (set a d (saturatingSuc (getD a d 0))) a) ≡ length a
-    go true = length-set a d _
-    go false = refl
-
 pub add-due-own : (span : ℕ) (a b : List ℕ) (d : ℕ) → dueDays span ≤ length a → addDue span (a ++ b) d ≡ addDue span a d ++ b
 unfolding addDue
 add-due-own span a b d l = go (ltb d (dueDays span)) refl
@@ -100,11 +92,6 @@ add-due-own span a b d l = go (ltb d (dueDays span)) refl
     go : (t : Bool) → ltb d (dueDays span) ≡ t → cond t (set (a ++ b) d (saturatingSuc (getD (a ++ b) d 0))) (a ++ b) ≡ cond t (set a d (saturatingSuc (getD a d 0))) a ++ b
     go true e = let h = ltb-true d (dueDays span) e in set-own a b d (omega (arith, h, l)) 0 saturatingSuc
     go false e = refl
-
-pub move-due-long : (span : ℕ) (a : List ℕ) (new : Bool) (d : ℕ) → length (moveDue span a new d) ≡ length a
-unfolding moveDue
-move-due-long span a true d = refl
-move-due-long span a false d = add-due-long span (set a d (getD a d 0 - 1)) (d + 1) ∙ length-set a d _
 
 pub move-due-own : (span : ℕ) (a b : List ℕ) (new : Bool) (d : ℕ) → dueDays span ≤ length a → d < length a → moveDue span (a ++ b) new d ≡ moveDue span a new d ++ b
 unfolding moveDue

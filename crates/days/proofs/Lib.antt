@@ -1,3 +1,4 @@
 pub mod Spans
 pub mod Laws
+pub mod Due
 pub mod Frame

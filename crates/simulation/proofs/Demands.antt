@@ -2,15 +2,19 @@
 -- `simulate`'s own contract.
 use mathlib.Core.Path.{_≡_, refl}
 use mathlib.Core.Option.{some}
-use mathlib.Core.Logic.{_↔_}
+use mathlib.Core.Logic.{_↔_, _≢_}
+use Prim.Native.Nat.{ℕ}
 use lib.ListN.{length}
 use lib.Ieee.{Float}
 use Rattle.draws.specs.Draws.{DrawRule}
 use Rattle.events.specs.Scalars.{plain}
 use Rattle.simulation.specs.declared.Refusal.{Refusal}
+use Rattle.simulation.specs.declared.Refusal.the-variants as refusal
 use Rattle.simulation.specs.declared.Check.the-variants as check
+use Rattle.simulation.specs.declared.Progress.{Progress}
 use Rattle.simulation.specs.declared.Answer.the-variants as answer
 use Rattle.simulation.specs.declared.Stop.{Stop}
+use Rattle.simulation.specs.declared.Stop.the-variants as stop
 use Rattle.simulation.specs.State.{State}
 use Rattle.simulation.specs.Rules.{Rules, rulesWith}
 use Rattle.simulation.specs.Entry.{Inputs, checked}
@@ -23,6 +27,7 @@ use Rattle.simulation.proofs.run.Suits.{suits}
 use Rattle.simulation.proofs.run.Table.{end-sound}
 use Rattle.simulation.proofs.run.Frame.{lists-free, cards-are, beyond-same}
 use Rattle.simulation.proofs.run.DemandThree.{few-turns}
+use Rattle.simulation.proofs.run.Due.{due-after, due-left, never-due}
 use Rattle.simulation.proofs.run.Answers.{ok-passed, told-stop, stop-told, ok-demand}
 
 module _ {C : Type 0} (R : Rules C) (i : Inputs) (s : State C) where
@@ -44,6 +49,16 @@ stops-exactly w i s e x =
     let by = stops-iff w (i .config) (plain (i .parameters)) (endOf R i s) (end-sound R (fit .slots) i s) x in
     (λ z. by .0 (told-stop R i s fit e x _ z), λ z. stop-told R i s fit e x (by .1 z))
 
+-- the answer tells the stop, and no state of the run has the condition of refusal 9
+no-due-refusal : (w : DrawRule) (i : Inputs) (s : State Float) → checked i s ≡ check.Passed → (c : ℕ) (p : Progress)
+    → simulatedBy (rulesWith w (i .config) (plain (i .parameters))) i s .answer ≢ some (answer.Refused (refusal.DueCount c) p)
+no-due-refusal w i s e c p z =
+    let R = rulesWith w (i .config) (plain (i .parameters)) in
+    let fit = suits w i s (accepted i s e) in
+    let stop = stop.Refused (refusal.DueCount c) in
+    let by = stops-iff w (i .config) (plain (i .parameters)) (endOf R i s) (end-sound R (fit .slots) i s) stop in
+    never-due R i s (accepted i s e) fit c (by .0 (told-stop R i s fit e stop p z))
+
 -- ALL OF THEM, whatever is drawn
 pub demands : (w : DrawRule) (i : Inputs) (s : State Float) → Demands (rulesWith w (i .config) (plain (i .parameters))) i s
 demands w i s =
@@ -57,4 +72,7 @@ demands w i s =
       same-run = λ s′ e. lists-free R i (suits w i s (accepted i s e)) s s′ e;
       demand-three = λ p e. ok-demand R i s (suits w i s (accepted i s (ok-passed R i s p e))) p e _ refl;
       ends-within = λ e. few-turns R i s (accepted i s e) (suits w i s (accepted i s e));
+      due-counts = λ e n. due-after R i s (accepted i s e) (suits w i s (accepted i s e)) n;
+      due-counts-left = λ e. due-left R i s (accepted i s e) (suits w i s (accepted i s e));
+      no-due-refusal = no-due-refusal w i s;
     }

@@ -5,4 +5,5 @@ pub mod Frame
 pub mod Answer
 pub mod Suits
 pub mod DemandThree
+pub mod Due
 pub mod Answers

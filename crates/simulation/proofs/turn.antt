@@ -1,5 +1,6 @@
 pub mod Views
 pub mod Slots
+pub mod Due
 pub mod Invariant
 pub mod Events
 pub mod Lawful

@@ -3,25 +3,28 @@ use Prim.Native.Nat.{ℕ, suc, _+_, _*_, _≤_}
 use mathlib.Core.Path.{_≡_}
 use mathlib.Core.Bool.{true}
 use mathlib.Core.Option.{some}
-use mathlib.Core.Logic.{_↔_}
+use mathlib.Core.Logic.{_↔_, _≢_}
 use mathlib.Core.List.{List, []}
 use lib.Ieee.{Float}
 use lib.ListN.{length}
 use Rattle.turns.specs.Sums.{sumTo}
 use Rattle.turns.specs.Turns.{Turn, Demand, Rows}
+use Rattle.turns.specs.Run.{run}
 use Rattle.days.specs.Counts.{learnedAt, reviewedAt, correctAt, introducedAt}
 use Rattle.days.specs.Sums.{costAt}
 use Rattle.intervals.specs.Table.{heldIn}
 use Rattle.events.specs.Drawn.{Drawn}
 use Rattle.simulation.specs.declared.Refusal.{Refusal}
+use Rattle.simulation.specs.declared.Refusal.the-variants as refusal
 use Rattle.simulation.specs.declared.Check.the-variants as check
 use Rattle.simulation.specs.declared.Stop.{Stop}
 use Rattle.simulation.specs.declared.Progress.{Progress}
 use Rattle.simulation.specs.declared.Answer.{Answer}
 use Rattle.simulation.specs.declared.Answer.the-variants as answer
 use Rattle.simulation.specs.State.{State, Lent, listsOf, withTable}
-use Rattle.simulation.specs.Invariant.{lapsesIn}
+use Rattle.simulation.specs.Invariant.{lapsesIn, DueBounds}
 use Rattle.simulation.specs.Rules.{Rules}
+use Rattle.simulation.specs.Turn.{next}
 use Rattle.simulation.specs.RunRefusals.{StopCondition}
 use Rattle.simulation.specs.Entry.{Inputs, listsOk, checked}
 use Rattle.simulation.specs.Frame.{firstPlaces, beyond}
@@ -41,6 +44,10 @@ module _ {C : Type 0} (R : Rules C) (i : Inputs) (s : State C) where
 
   abbrev pub turnsOf : List (Turn Drawn)
   turnsOf = (runFrom R startOf) .turns
+
+  -- the state after n turns, or where the run has stopped before
+  abbrev pub stateAfter : ℕ → State C
+  stateAfter n = (run (next R) n [] startOf) .state
 
   -- what demand 3 says of the rows in lent lists: of the cards with a last date at set-up, of lapses, and of each day
   abbrev pub RowsOf : Lent C → Type 0
@@ -96,3 +103,10 @@ pub record Demands {C : Type 0} (R : Rules C) (i : Inputs) (s : State C) : Type 
   pub demand-three : (p : Progress) → simulatedBy R i s .answer ≡ some (answer.Finished p) → DemandThree R i s p (listsOf (simulatedBy R i s .state))
   -- of every accepted call, refused in the run or not: it comes to its end or to a refusal within cards × (span + 1) turns, so its bound never shows
   pub ends-within : checked i s ≡ check.Passed → length (turnsOf R i s) ≤ cardsOf R i s * suc (R .span)
+  -- of every accepted call, after any number of turns: on each day that is counted the due count is at most the cards, so it never comes to the top, and at
+  -- least the queued cards with a last date whose day it is
+  pub due-counts : checked i s ≡ check.Passed → (n : ℕ) → DueBounds (cardsOf R i s) (R .span) (stateAfter R i s n)
+  -- and so at its end
+  pub due-counts-left : checked i s ≡ check.Passed → DueBounds (cardsOf R i s) (R .span) (endOf R i s)
+  -- no accepted call answers refusal 9: a card with a last date is put off only from a day that counts it
+  pub no-due-refusal : checked i s ≡ check.Passed → (c : ℕ) (p : Progress) → simulatedBy R i s .answer ≢ some (answer.Refused (refusal.DueCount c) p)

@@ -64,7 +64,7 @@ module _ {C : Type 0} (R : Rules C) (s : State C) where
     pub new-key : heldIn (s .table) (stabilityBucket (memory .stability)) (retentionBucket (turnCard .«desired_retention»)) ≡ none
     pub full : countIn (s .table) ≡ places (s .table)
 
-  -- 9: c, the first card, has a last date and is put off from a day that counts none
+  -- 9: c, the first card, has a last date and is put off from a day that counts none; no run comes to it (`Demands`, `no-due-refusal`)
   pub record DueRefused (c : ℕ) : Type 0 where
     pub queued : 0 < s .queue .len
     pub first : c ≡ front (s .queue)

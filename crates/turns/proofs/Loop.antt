@@ -15,6 +15,15 @@ abbrev pub Lawful : {A S X : Type 0} → Steps A S → (S → Type 0) → List A
 Lawful R I ts s (takes t s′) = R ts s t s′ × I s′
 Lawful R I ts s (stops x) = Unit {0}
 
+-- a turn keeps I
+abbrev pub Keeps : {A S X : Type 0} → (S → Type 0) → Next A S X → Type 0
+Keeps I (takes t s) = I s
+Keeps I (stops x) = Unit {0}
+
+pub lawful-keeps : {A S X : Type 0} (R : Steps A S) (I : S → Type 0) (ts : List A) (s : S) (x : Next A S X) → Lawful R I ts s x → Keeps I x
+lawful-keeps R I ts s (takes t s′) h = h .1
+lawful-keeps R I ts s (stops x) h = tt
+
 module _ {A S X : Type 0} (next : S → Next A S X) where
   pub run-takes : (n : ℕ) (ts : List A) (s : S) (t : A) (s′ : S) → next s ≡ takes t s′ → run next (suc n) ts s ≡ run next n (t ∷ ts) s′
   run-takes n ts s t s′ e = rw (e, run)
@@ -46,6 +55,15 @@ module _ {A S X : Type 0} (next : S → Next A S X) where
   run-enough k n ts s x h e =
       let j : k + (n - k) ≡ n = omega arith in
       ap (λ (i : ℕ). run next i ts s) (sym j) ∙ run-add k (n - k) ts s ∙ run-stopped (n - k) ((run next k ts s) .turns) ((run next k ts s) .state) x e
+
+  -- what each turn keeps holds after any number of turns
+  pub run-keeps : (I : S → Type 0) → ((s : S) → I s → Keeps I (next s)) → (n : ℕ) (ts : List A) (s : S) → I s → I ((run next n ts s) .state)
+  run-keeps I law zero ts s i = i
+  run-keeps I law (suc n) ts s i = go (next s) refl (law s i) (λ t s′. run-keeps I law n (t ∷ ts) s′)
+    where
+      go : (x : Next A S X) → next s ≡ x → Keeps I (next s) → ((t : A) (s′ : S) → I s′ → I ((run next n (t ∷ ts) s′) .state)) → I ((run next (suc n) ts s) .state)
+      go (takes t s′) e h ih = rw (run-takes n ts s t s′ e) (ih t s′ (rw e at h))
+      go (stops x) e h ih = rw (run-stops n ts s x e) i
 
   -- it has stopped, or the fuel is spent
   pub data Came (m : ℕ) (r : RunState A S) : Type 0 where

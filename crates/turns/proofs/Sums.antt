@@ -6,8 +6,8 @@ use native.Mathlib.Decide.{ℕ-discrete, decLt}
 use mathlib.Core.Bool.{Bool, true, false, _&&_}
 use mathlib.Core.Path.{_≡_, refl, ap}
 use mathlib.Core.Logic.{_≢_}
-use lib.Dec.{eqb, ltb}
-use borrow.Author.Tests.{eq-eqb, ne-eqb, lt-ltb, le-ltb}
+use lib.Dec.{eqb, ltb, leb}
+use borrow.Author.Tests.{eq-eqb, ne-eqb, lt-ltb, le-ltb, le-leb, lt-leb}
 use Rattle.turns.specs.Sums.{bit, sumTo}
 
 pub bit-le : (b : Bool) → bit b ≤ 1
@@ -43,6 +43,22 @@ lt-step d x y h = go (decLt d x) (ℕ-discrete x d)
     go (yes a) q = omega (arith, ap bit (lt-ltb d x a), ap bit (lt-ltb d y (omega arith)), at-ne x d (omega arith))
     go (no a) (yes e) = omega (arith, ap bit (le-ltb d x (omega arith)), ap bit (lt-ltb d y (omega arith)), bit-le (eqb x d))
     go (no a) (no e) = omega (arith, ap bit (le-ltb d x (omega arith)), at-ne x d e)
+
+-- who goes from day x to a later day y has now reached day y too, and every day that was reached before
+pub le-step : (d x y : ℕ) → x < y → bit (leb d x) + bit (eqb y d) ≤ bit (leb d y)
+le-step d x y h = go (decLt x d) (ℕ-discrete y d)
+  where
+    go : Dec (x < d) → Dec (y ≡ d) → bit (leb d x) + bit (eqb y d) ≤ bit (leb d y)
+    go (yes a) (yes e) = omega (arith, ap bit (lt-leb d x a), ap bit (le-leb d y (omega arith)), bit-le (eqb y d))
+    go (yes a) (no e) = omega (arith, ap bit (lt-leb d x a), at-ne y d e)
+    go (no a) q = omega (arith, ap bit (le-leb d y (omega arith)), at-ne y d (omega arith), bit-le (leb d x))
+
+pub here-le : (d x : ℕ) → bit (eqb x d) ≤ bit (leb d x)
+here-le d x = go (ℕ-discrete x d)
+  where
+    go : Dec (x ≡ d) → bit (eqb x d) ≤ bit (leb d x)
+    go (yes e) = omega (arith, ap bit (le-leb d x (omega arith)), bit-le (eqb x d))
+    go (no e) = omega (arith, at-ne x d e)
 
 pub sum-zero : (n : ℕ) → sumTo n (λ i. 0) ≡ 0
 sum-zero zero = refl

@@ -1,12 +1,11 @@
 -- The interval table of a run is sound after every turn, so refusal 8 means what the table's law says.
-use mathlib.Core.Path.{_≡_, refl}
 use mathlib.Core.Bool.{Bool, true, false}
-use mathlib.Core.List.{List, [], _∷_}
-use Prim.Native.Nat.{ℕ, zero, suc}
+use mathlib.Core.List.{List, []}
+use Prim.Native.Nat.{ℕ}
 use lib.Dec.{eqb}
 use Rattle.turns.specs.Turns.{Turn, putOff}
 use Rattle.turns.specs.Run.{Next, takes, stops, run}
-use Rattle.turns.proofs.Loop.{run-takes, run-stops}
+use Rattle.turns.proofs.Loop.{Keeps, run-keeps}
 use Rattle.cards.specs.declared.Card.{Card}
 use Rattle.cards.specs.declared.Choice.{Choice}
 use Rattle.cards.specs.declared.Choice.the-variants as choice
@@ -39,8 +38,7 @@ use Rattle.simulation.proofs.turn.Slots.{Slots}
 module _ {C : Type 0} (R : Rules C) (laws : Slots (R .model)) where
   -- what a turn leaves of the table
   abbrev After : Next (Turn Drawn) (State C) Stop → Type 0
-  After (takes t s) = Sound (s .table)
-  After (stops x) = Unit {0}
+  After = Keeps (λ s. Sound (s .table))
 
   module _ (s : State C) (ok : Sound (s .table)) where
     given : (c : ℕ) (k : Card) (new : Bool) (d : ℕ) (y : Memory) (x : Slot) → Sound (entered (s .table) x) → After (eventWithSlot R s c k new d y x)
@@ -89,13 +87,7 @@ module _ {C : Type 0} (R : Rules C) (laws : Slots (R .model)) where
 
   -- after any number of turns
   pub run-sound : (n : ℕ) (ts : List (Turn Drawn)) (s : State C) → Sound (s .table) → Sound ((run (next R) n ts s) .state .table)
-  run-sound zero ts s ok = ok
-  run-sound (suc n) ts s ok = go (next R s) refl (turn-after s ok) (λ t s′ h. run-sound n (t ∷ ts) s′ h)
-    where
-      go : (x : Next (Turn Drawn) (State C) Stop) → next R s ≡ x → After (next R s) → ((t : Turn Drawn) (s′ : State C) → Sound (s′ .table) → Sound ((run (next R) n (t ∷ ts) s′) .state .table))
-          → Sound ((run (next R) (suc n) ts s) .state .table)
-      go (takes t s′) e h ih = rw (run-takes (next R) n ts s t s′ e) (ih t s′ (rw e at h))
-      go (stops x) e h ih = rw (run-stops (next R) n ts s x e) ok
+  run-sound = run-keeps (next R) (λ s. Sound (s .table)) turn-after
 
 -- the table that a run comes to, from its emptied one
 pub end-sound : {C : Type 0} (R : Rules C) → Slots (R .model) → (i : Inputs) (s : State C) → Sound (endOf R i s .table)

@@ -18,7 +18,8 @@ use Rattle.cards.specs.declared.SimulatorConfig.{SimulatorConfig}
 use Rattle.cards.specs.Day.{dayOf}
 use Rattle.cards.specs.Cards.{cardAt, floatsOf, countsOf, writeFloats, writeCounts, isKept}
 use Rattle.days.specs.Due.{dueDays, addDue}
-use Rattle.days.proofs.Frame.{add-due-own, add-due-long}
+use Rattle.days.proofs.Due.{add-long}
+use Rattle.days.proofs.Frame.{add-due-own}
 use Rattle.queue.specs.Queue.{Queue, queue, bubbleUp, pushed}
 use Rattle.queue.proofs.Frame.{pushed-grown, bubble-long}
 use Rattle.simulation.specs.State.{State, keyOf}
@@ -148,7 +149,7 @@ module _ (span deck : ℕ) (s₀ s₀′ : Deck) (room : Room deck s₀) (room�
       let d : ℕ = dayOf (k .due) in
       record {
         own = withDue (grow o k) (addDue span (o .due) d);
-        exact = record { cards-are = q .exact .cards-are; counts-are = q .exact .counts-are; rows-are = q .exact .rows-are; due-are = add-due-long span (o .due) d ∙ p .exact .due-are };
+        exact = record { cards-are = q .exact .cards-are; counts-are = q .exact .counts-are; rows-are = q .exact .rows-are; due-are = add-long span (o .due) d ∙ p .exact .due-are };
         count = q .count;
         here = kept-is s k ∙ both s s₀ (q .here) (ap (λ (z : Deck). addDue span (z .due) d) (p .here) ∙ add-due-own span (o .due) (s₀ .due) d (omega (arith, p .exact .due-are)));
         there = kept-is s′ k ∙ both s′ s₀′ (q .there) (ap (λ (z : Deck). addDue span (z .due) d) (p .there) ∙ add-due-own span (o .due) (s₀′ .due) d (omega (arith, p .exact .due-are)));

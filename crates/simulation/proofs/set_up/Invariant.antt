@@ -26,6 +26,7 @@ use Rattle.cards.specs.declared.Card.{Card}
 use Rattle.cards.specs.Day.{dayOf, isNew}
 use Rattle.cards.specs.Cards.{cardAt, writeFloats, writeCounts, isKept, dateOk, historyOk, cardOk}
 use Rattle.cards.proofs.Later.{day-cut, whole-le}
+use Rattle.days.specs.Due.{dueDays}
 use Rattle.queue.specs.Queue.{queue, pushed}
 use Rattle.queue.specs.Sound.{Keyed}
 use Rattle.queue.proofs.Laws.{Filled, fill-none, fill-same, fill-next}
@@ -34,10 +35,11 @@ use Rattle.events.specs.Drawn.{Drawn}
 use Rattle.simulation.specs.State.{State}
 use Rattle.simulation.specs.Entry.{Inputs}
 use Rattle.simulation.specs.SetUp.{Deck, filled, newCard, addCard, addKeptCard, addExistingCard, addExistingCards, introducedBefore, addNewCards, newCardCount, emptyDeck, addAllCards, firstDayCounts, setUp}
-use Rattle.simulation.specs.Invariant.{dayIn, newIn, keyIn, lapsesIn, StateInvariant}
+use Rattle.simulation.specs.Invariant.{dayIn, newIn, keyIn, lapsesIn, DueCounts, StateInvariant}
 use Rattle.simulation.proofs.turn.Views.{columns}
 use Rattle.simulation.proofs.turn.Invariant.{write-long, else-key, else-day, else-new, own-day, own-new, own-key}
 use Rattle.simulation.proofs.turn.Events.{counts-long, own-lapses, else-lapses}
+use Rattle.simulation.proofs.set_up.Due.{due-new, due-kept, kept-long}
 use Rattle.simulation.proofs.entry.Accepted.{Accepted}
 use Rattle.simulation.proofs.Logic.{both}
 
@@ -171,6 +173,8 @@ module _ {C : Type 0} (b : CostRule Drawn C) (i : Inputs) (s : State C) (ok : Ac
     pub cards : ℕ
     pub few : cards ≤ most
     pub joining : Joining rows (length (s .cards)) (length (s .counts)) dated cards s′
+    pub due-long : dueDays span ≤ length (s′ .due)
+    pub due : DueCounts (s′ .queue .len) span (s′ .cards) (s′ .queue) (s′ .due)
 
   none : Came 0 0 (emptyDeck i s)
   unfolding emptyDeck
@@ -178,6 +182,8 @@ module _ {C : Type 0} (b : CostRule Drawn C) (i : Inputs) (s : State C) (ok : Ac
     cards = 0;
     few = omega arith;
     joining = record { cards-are = refl; counts-are = refl; fill = fill-none (keyIn (s .cards)) rows; near = λ c l. absurd (omega arith); news = refl; lapses = λ c l. absurd (omega arith) };
+    due-long = omega (arith, ok .due-long, filled-long 0 (dueDays span) (s .due));
+    due = record { least = λ d h. omega arith; most = λ d h. omega (arith, filled-at 0 0 (dueDays span) (s .due) d h (ok .due-long)) };
   }
 
   retained-same : (dated n : ℕ) (s′ : Deck) (k : Card) → Joining rows (length (s .cards)) (length (s .counts)) dated n (addCard s′ k) → Joining rows (length (s .cards)) (length (s .counts)) dated n (addKeptCard span s′ k)
@@ -196,13 +202,21 @@ module _ {C : Type 0} (b : CostRule Drawn C) (i : Inputs) (s : State C) (ok : Ac
       before = addExistingCards span es ns n (emptyDeck i s)
 
       go : (b : Bool) → isKept k ≡ b → Came (introducedBefore es ns n) n before → Came (introducedBefore es ns n + bit (b && not (isNew (k .«last_date»)))) (suc n) (cond b (addKeptCard span before k) before)
-      go true e c = record {
-        cards = suc (c .cards);
-        few = omega (arith, c .few);
-        joining = retained-same (introducedBefore es ns n + bit (not (isNew (k .«last_date»)))) (suc (c .cards)) before k
-            (join rows (length (s .cards)) (length (s .counts)) (introducedBefore es ns n) (c .cards) before k (c .joining) (omega (arith, c .few, ok .existing-few, ok .cards-long)) (omega (arith, c .few, ok .existing-few, ok .counts-long)) (omega (arith, c .few, ok .existing-few, ok .queue-long)) (omega (arith, c .few, ok .existing-few, ok .deck-most)) (day-kept k (ok .cards-ok n (omega arith) e)) (lapses-kept k (ok .cards-ok n (omega arith) e)));
-      }
-      go false e c = record { cards = c .cards; few = omega (arith, c .few); joining = subst (λ (z : ℕ). Joining rows (length (s .cards)) (length (s .counts)) z (c .cards) before) (let z : introducedBefore es ns n ≡ introducedBefore es ns n + 0 = omega arith in z) (c .joining) }
+      go true e c =
+          let l : c .cards < deck = omega (arith, c .few, ok .existing-few) in
+          let fine = ok .cards-ok n (omega arith) e in
+          let j =
+          join rows (length (s .cards)) (length (s .counts)) (introducedBefore es ns n) (c .cards) before k (c .joining) (omega (arith, ok .cards-long)) (omega (arith, ok .counts-long))
+          (omega (arith, ok .queue-long)) (omega (arith, ok .deck-most)) (day-kept k fine) (lapses-kept k fine) in
+          let row : c .cards < length (before .cards) = omega (arith, ok .cards-long, c .joining .cards-are) in
+          record {
+            cards = suc (c .cards);
+            few = omega (arith, c .few);
+            joining = retained-same (introducedBefore es ns n + bit (not (isNew (k .«last_date»)))) (suc (c .cards)) before k j;
+            due-long = kept-long span before k (c .due-long);
+            due = due-kept span before k (c .cards) (c .joining .fill) (j .fill) row (c .due) (omega (arith, ok .deck-most, c .joining .fill .count)) (c .due-long);
+          }
+      go false e c = record { cards = c .cards; few = omega (arith, c .few); joining = subst (λ (z : ℕ). Joining rows (length (s .cards)) (length (s .counts)) z (c .cards) before) (let z : introducedBefore es ns n ≡ introducedBefore es ns n + 0 = omega arith in z) (c .joining); due-long = c .due-long; due = c .due }
 
   -- ---- the new ones
   abbrev kept : Deck
@@ -225,7 +239,7 @@ module _ {C : Type 0} (b : CostRule Drawn C) (i : Inputs) (s : State C) (ok : Ac
 
   creates : (n : ℕ) → all-kept .cards + n ≤ deck → Came (introducedBefore es ns (length es)) (all-kept .cards + n) (addNewCards (i .retention) (i .config .«learn_limit») n kept)
   unfolding addNewCards
-  creates zero h = record { cards = all-kept .cards; few = omega arith; joining = all-kept .joining }
+  creates zero h = record { cards = all-kept .cards; few = omega arith; joining = all-kept .joining; due-long = all-kept .due-long; due = all-kept .due }
   creates (suc n) h = go (creates n (omega arith))
     where
       before : Deck
@@ -235,12 +249,20 @@ module _ {C : Type 0} (b : CostRule Drawn C) (i : Inputs) (s : State C) (ok : Ac
       k = newCard (i .retention) (i .config .«learn_limit») n
 
       go : Came (introducedBefore es ns (length es)) (all-kept .cards + n) before → Came (introducedBefore es ns (length es)) (all-kept .cards + suc n) (addCard before k)
-      go c = record {
-        cards = suc (c .cards);
-        few = omega (arith, c .few);
-        joining = subst (λ (z : ℕ). Joining rows (length (s .cards)) (length (s .counts)) z (suc (c .cards)) (addCard before k)) (let z : introducedBefore es ns (length es) + bit (not (isNew (k .«last_date»))) ≡ introducedBefore es ns (length es) = omega (arith, ap (λ (b : Bool). bit (not b)) (new-new n)) in z)
-            (join rows (length (s .cards)) (length (s .counts)) (introducedBefore es ns (length es)) (c .cards) before k (c .joining) (omega (arith, c .few, h, ok .cards-long)) (omega (arith, c .few, h, ok .counts-long)) (omega (arith, c .few, h, ok .queue-long)) (omega (arith, c .few, h, ok .deck-most)) (new-day n (omega (arith, h, ok .deck-most))) (new-lapses n));
-      }
+      go c =
+          let l : c .cards < deck = omega (arith, c .few, h) in
+          let j =
+          join rows (length (s .cards)) (length (s .counts)) (introducedBefore es ns (length es)) (c .cards) before k (c .joining) (omega (arith, ok .cards-long)) (omega (arith, ok .counts-long))
+          (omega (arith, ok .queue-long)) (omega (arith, ok .deck-most)) (new-day n (omega (arith, h, ok .deck-most))) (new-lapses n) in
+          let row : c .cards < length (before .cards) = omega (arith, ok .cards-long, c .joining .cards-are) in
+          let as-many : introducedBefore es ns (length es) + bit (not (isNew (k .«last_date»))) ≡ introducedBefore es ns (length es) = omega (arith, ap (λ (b : Bool). bit (not b)) (new-new n)) in
+          record {
+            cards = suc (c .cards);
+            few = omega (arith, c .few);
+            joining = subst (λ (z : ℕ). Joining rows (length (s .cards)) (length (s .counts)) z (suc (c .cards)) (addCard before k)) as-many j;
+            due-long = unfold addCard in (c .due-long);
+            due = due-new span before k (c .cards) (c .joining .fill) (j .fill) row (c .due) (new-new n);
+          }
 
   -- ---- the whole set-up
   room : all-kept .cards + newCardCount (i .config) (kept .queue .len) ≤ deck
@@ -258,7 +280,7 @@ module _ {C : Type 0} (b : CostRule Drawn C) (i : Inputs) (s : State C) (ok : Ac
   unfolding addAllCards
   all-joined =
       let c = creates (newCardCount (i .config) (kept .queue .len)) room in
-      record { cards = c .cards; few = omega (arith, c .few, room); joining = c .joining }
+      record { cards = c .cards; few = omega (arith, c .few, room); joining = c .joining; due-long = c .due-long; due = c .due }
 
   len-is : s₁ .queue .len ≡ all-joined .cards
   len-is = all-joined .joining .fill .count
@@ -301,6 +323,7 @@ module _ {C : Type 0} (b : CostRule Drawn C) (i : Inputs) (s : State C) (ok : Ac
           counts-long = omega (arith, len-is, all-joined .few, j .counts-are, ok .counts-long);
           days-long = omega (arith, ok .days-long, filled-long (firstDayCounts i) span (s .days));
           costs-long = omega (arith, ok .costs-long, filled-long (b .none) span (s .costs));
+          due-long = all-joined .due-long;
         };
         order = record {
           keyed = subst (λ (z : ℕ). Keyed z (keyIn (s₁ .cards)) (s₁ .queue)) (sym len-is) (j .fill .keyed);
@@ -313,6 +336,7 @@ module _ {C : Type 0} (b : CostRule Drawn C) (i : Inputs) (s : State C) (ok : Ac
           events = λ d h. omega (arith, ap (λ (l : List ℕ). getD l 0 0) (row-at d h), ap (λ (l : List ℕ). getD l 1 0) (row-at d h));
           lapses = λ c l. omega (arith, j .lapses c (omega (arith, l, len-is)));
         };
+        due = all-joined .due;
       }
     where
       news : (d : ℕ) → d < span → getD (getD (filled (firstDayCounts i) span (s .days)) d []) 3 0 + sumTo (s₁ .queue .len) (λ c. bit (newIn (s₁ .cards) c)) ≤ s₁ .queue .len

@@ -1,5 +1,5 @@
 -- Learnings and reviews are steps of the theory, and keep what the run's state keeps.
-use mathlib.Core.Path.{_≡_, refl, sym, ap, _∙_}
+use mathlib.Core.Path.{_≡_, refl, sym, ap, _∙_, subst}
 use mathlib.Core.Bool.{Bool, true, false, not, _&&_, cond}
 use mathlib.Core.List.{List, []}
 use mathlib.Core.Logic.{_≢_}
@@ -25,6 +25,8 @@ use Rattle.cards.proofs.Later.{day-later, day-bound}
 use Rattle.days.specs.Counts.{saturatingSuc, learnedAt, reviewedAt, correctAt, introducedAt, addLearn, addReview, addIntroducedFrom, addEvent}
 use Rattle.days.specs.Sums.{costAt, addCost}
 use Rattle.days.proofs.Laws.{raised-is, learn-long, learn-learned, learn-reviewed, learn-correct, learn-introduced, from-long, from-learned, from-reviewed, from-correct, from-introduced, review-long, review-learned, review-reviewed, review-introduced, review-correct, cost-long, cost-added}
+use Rattle.days.specs.Due.{dueDays, addDue}
+use Rattle.days.proofs.Due.{add-long}
 use Rattle.events.specs.declared.Memory.{Memory}
 use Rattle.queue.specs.Queue.{front, frontChanged}
 use Rattle.queue.specs.Sound.{Keyed}
@@ -38,8 +40,9 @@ use Rattle.events.specs.Drawn.{Drawn}
 use Rattle.simulation.specs.State.{State, cardIn, keyOf}
 use Rattle.simulation.specs.Turn.{cardAfterEvent, turnAs, eventTurn, afterEvent}
 use Rattle.simulation.specs.Rules.{Rules}
-use Rattle.simulation.specs.Invariant.{dayIn, newIn, keyIn, lapsesIn, RunBounds, StateInvariant}
+use Rattle.simulation.specs.Invariant.{dayIn, newIn, keyIn, lapsesIn, RunBounds, DueCounts, StateInvariant}
 use Rattle.simulation.proofs.turn.Views.{view, columns}
+use Rattle.simulation.proofs.turn.Due.{due-event}
 use Rattle.simulation.proofs.turn.Invariant.{write-long, else-key, else-day, else-new, own-day, own-new, own-key, is-card, has-row, first-is}
 
 -- a whole number is no minus infinity
@@ -157,6 +160,17 @@ module _ {C : Type 0} (R : Rules C) (cards : ℕ) (fine : RunBounds (R .span) ca
   unfolding cardAt
   later-cards i = omega (arith, lt-step i d (dayIn fs′ c) onward, sum-at cards c (λ j. bit (ltb i (dayIn fs j))) (λ j. bit (ltb i (dayIn fs′ j))) mine (λ j ne. ap (λ (y : ℕ). bit (ltb i y)) (else-day fs c k′ j ne)))
 
+  -- the card is counted on its new day
+  due-now : DueCounts cards (R .span) fs′ (frontChanged (s .queue) (keyOf k′)) (addDue (R .span) (s .due) (dayOf (k′ .due)))
+  unfolding cardAt
+  due-now =
+      subst (λ (z : ℕ). DueCounts cards (R .span) fs′ (frontChanged (s .queue) (keyOf k′)) (addDue (R .span) (s .due) z)) (own-day fs c k′ row)
+      (due-event cards (R .span) fs (s .queue) (s .due) (good .due) fs′ (frontChanged (s .queue) (keyOf k′)) c mine (else-day fs c k′) (else-new fs c k′)
+      (λ i ne. change-queued (s .queue) (keyOf k′) (good .order .keyed .sound) i) (fine .few) (good .lengths .due-long) onward)
+
+  due-long′ : dueDays (R .span) ≤ length (addDue (R .span) (s .due) (dayOf (k′ .due)))
+  due-long′ = omega (arith, good .lengths .due-long, add-long (R .span) (s .due) (dayOf (k′ .due)))
+
   -- a lapse a day at most
   lapses-then-few : k .lapses ≤ 4000000000 + d
   unfolding cardAt
@@ -229,6 +243,7 @@ module _ {C : Type 0} (R : Rules C) (cards : ℕ) (fine : RunBounds (R .span) ca
         counts-long = omega (arith, good .lengths .counts-long, counts-long (s .counts) c k′);
         days-long = omega (arith, good .lengths .days-long, from-long (addLearn rows d) (R .span - d) d, learn-long rows d);
         costs-long = omega (arith, good .lengths .costs-long, cost-long none (R .costs .plus) (s .costs) d (R .costs .cost (turnAs c d (learn rs))));
+        due-long = due-long′;
       };
       order = record {
         keyed = keyed′;
@@ -241,6 +256,7 @@ module _ {C : Type 0} (R : Rules C) (cards : ℕ) (fine : RunBounds (R .span) ca
         events = λ i l. omega (arith, good .counts .events i l, learn-row i, review-row i, later-cards i);
         lapses = lapses-few 0 (omega arith) (omega (arith, same-lapses));
       };
+      due = due-now;
     })
 
   -- ---- A REVIEW
@@ -303,6 +319,7 @@ module _ {C : Type 0} (R : Rules C) (cards : ℕ) (fine : RunBounds (R .span) ca
         counts-long = omega (arith, good .lengths .counts-long, counts-long (s .counts) c k′);
         days-long = omega (arith, good .lengths .days-long, review-long rows d (x .recalled));
         costs-long = omega (arith, good .lengths .costs-long, cost-long none (R .costs .plus) (s .costs) d (R .costs .cost (turnAs c d (review (x .recalled) rs))));
+        due-long = due-long′;
       };
       order = record {
         keyed = keyed′;
@@ -315,4 +332,5 @@ module _ {C : Type 0} (R : Rules C) (cards : ℕ) (fine : RunBounds (R .span) ca
         events = λ i l. omega (arith, good .counts .events i l, review-learned rows d (x .recalled) i, reviewed-row i, later-cards i);
         lapses = lapses-few (bit (not (x .recalled))) (bit-le (not (x .recalled))) more-lapses;
       };
+      due = due-now;
     })

@@ -23,7 +23,8 @@ use Rattle.days.specs.Counts.{learnedAt, reviewedAt}
 use Rattle.days.specs.Sums.{costAt, addForgettingCurveRange}
 use Rattle.days.specs.Due.{dueDays, noneDue}
 use Rattle.days.proofs.Laws.{cost-long}
-use Rattle.days.proofs.Frame.{event-own, event-long, cost-own, range-own, range-long, add-due-own, add-due-long, move-due-own, move-due-long}
+use Rattle.days.proofs.Frame.{event-own, event-long, cost-own, range-own, range-long, add-due-own, move-due-own}
+use Rattle.days.proofs.Due.{add-long, move-long}
 use Rattle.events.specs.declared.Memory.{Memory}
 use Rattle.events.specs.declared.Event.{Event}
 use Rattle.events.specs.declared.Event.the-variants as event
@@ -156,7 +157,7 @@ module _ {C : Type 0} (R : Rules C) (cards : ℕ) (fine : RunBounds (R .span) ca
         days-are = ex .days-are;
         costs-are = ex .costs-are;
         memorized-are = ex .memorized-are;
-        due-are = move-due-long (R .span) (s .due) (isNew (k .«last_date»)) d ∙ ex .due-are;
+        due-are = move-long (R .span) (s .due) (isNew (k .«last_date»)) d ∙ ex .due-are;
         queued = omega (arith, ex .queued, changed-same (s .queue) (keyOf (cardAfterPutOff k d)));
       }
 
@@ -184,7 +185,7 @@ module _ {C : Type 0} (R : Rules C) (cards : ℕ) (fine : RunBounds (R .span) ca
           days-are = event-long (s .days) (R .span) d (x .recalled) new ∙ ex .days-are;
           costs-are = cost-long (R .costs .none) (R .costs .plus) (s .costs) d _ ∙ ex .costs-are;
           memorized-are = curve-long (R .model) (s .memorized) k d ∙ ex .memorized-are;
-          due-are = add-due-long (R .span) (s .due) _ ∙ ex .due-are;
+          due-are = add-long (R .span) (s .due) _ ∙ ex .due-are;
           queued = omega (arith, ex .queued, changed-same (s .queue) (keyOf (cardAfterEvent k new x d (intervalOf t))));
         }
 

@@ -1,5 +1,5 @@
 -- What the run's state keeps, and that putting off and retiring are steps of the theory and keep it.
-use mathlib.Core.Path.{_≡_, refl, sym, ap}
+use mathlib.Core.Path.{_≡_, refl, sym, ap, _∙_}
 use mathlib.Core.Bool.{Bool, true, false}
 use mathlib.Core.List.{List}
 use mathlib.Core.Logic.{_≢_}
@@ -19,10 +19,11 @@ use Rattle.cards.specs.declared.Card.{Card}
 use Rattle.cards.specs.Day.{dayOf, isNew, nextDue}
 use Rattle.cards.specs.Cards.{noFloats, cardAt, floatsOf, writeFloats}
 use Rattle.cards.specs.Choices.{retires}
-use Rattle.cards.proofs.Later.{day-later, day-in-span, day-bound, one-in-range}
+use Rattle.cards.proofs.Later.{day-later, day-next, day-in-span, day-bound, one-in-range}
+use Rattle.days.proofs.Due.{move-long}
 use Rattle.queue.specs.Key as key
 use Rattle.queue.specs.Key.{cardPriority, priorityOf}
-use Rattle.queue.specs.Queue.{front}
+use Rattle.queue.specs.Queue.{front, frontChanged, popped}
 use Rattle.queue.specs.Sound.{queued}
 use Rattle.queue.proofs.Keys.{packed-day, priority-in}
 use Rattle.queue.proofs.Laws.{change-queued, pop-other, pop-front, front-queued, keyed-least, queued-named, requeue, unqueue}
@@ -32,6 +33,7 @@ use Rattle.simulation.specs.Turn.{cardAfterPutOff, afterPutOff, afterRet
 use Rattle.simulation.specs.Rules.{Rules}
 use Rattle.simulation.specs.Invariant.{difficultyIn, dayIn, newIn, keyIn, RunBounds, StateInvariant}
 use Rattle.simulation.proofs.turn.Views.{view, columns}
+use Rattle.simulation.proofs.turn.Due.{due-put, due-retire}
 use Rattle.simulation.proofs.Logic.{or-left}
 
 bits-same : (b : Bool) → key.bit b ≡ bit b
@@ -160,6 +162,7 @@ module _ {C : Type 0} (R : Rules C) (cards : ℕ) (fine : RunBounds (R .span) ca
       counts-long = good .lengths .counts-long;
       days-long = good .lengths .days-long;
       costs-long = good .lengths .costs-long;
+      due-long = omega (arith, good .lengths .due-long, move-long (R .span) (s .due) (isNew (k .«last_date»)) d);
     };
     order = record {
       keyed = requeue cards (keyIn fs) (s .queue) (good .order .keyed) (keyIn fs′) (keyOf k′) some (else-key fs c k′) (sym (own-key fs c k′ has-row));
@@ -172,6 +175,9 @@ module _ {C : Type 0} (R : Rules C) (cards : ℕ) (fine : RunBounds (R .span) ca
       events = λ i l. omega (arith, good .counts .events i l, lt-step i d (dayIn fs′ c) later, sum-at cards c (λ x. bit (ltb i (dayIn fs x))) (λ x. bit (ltb i (dayIn fs′ x))) is-card (λ x ne. ap (λ (y : ℕ). bit (ltb i y)) (else-day fs c k′ x ne)));
       lapses = λ x l. few x l (ℕ-discrete x c);
     };
+    due = due-put cards (R .span) fs (s .queue) (s .due) (good .due) fs′ (frontChanged (s .queue) (keyOf k′)) c is-card (else-day fs c k′) (λ x ne. put-new x)
+        (λ x ne. change-queued (s .queue) (keyOf k′) (good .order .keyed .sound) x) (fine .few) (good .lengths .due-long)
+        (front-queued (s .queue) some) (put-new c) (omega (arith, in-span e)) (put-own-day ∙ day-next d (omega (arith, in-span e, fine .most)) ∙ omega arith);
   }
     where
       later : d < dayIn fs′ c
@@ -209,6 +215,7 @@ module _ {C : Type 0} (R : Rules C) (cards : ℕ) (fine : RunBounds (R .span) ca
       counts-long = good .lengths .counts-long;
       days-long = good .lengths .days-long;
       costs-long = good .lengths .costs-long;
+      due-long = good .lengths .due-long;
     };
     order = record {
       keyed = unqueue cards (keyIn fs) (s .queue) (good .order .keyed);
@@ -221,4 +228,6 @@ module _ {C : Type 0} (R : Rules C) (cards : ℕ) (fine : RunBounds (R .span) ca
       events = good .counts .events;
       lapses = good .counts .lapses;
     };
+    due = due-retire cards (R .span) fs (s .queue) (s .due) (good .due) fs (popped (s .queue)) c is-card (λ x ne. refl) (λ x ne. refl)
+        (pop-other (s .queue) (good .order .keyed .sound)) refl (pop-front (s .queue) (good .order .keyed .sound));
   }

@@ -15,7 +15,7 @@ use Rattle.turns.proofs.Chain.{Chain, start, chain-map}
 use Rattle.turns.proofs.Moves.{few-turns}
 use Rattle.turns.proofs.Columns.{SetUp}
 use Rattle.turns.proofs.Demand.{Step, run-demand, run-rows}
-use Rattle.turns.proofs.Loop.{Lawful, run-chain, run-ends}
+use Rattle.turns.proofs.Loop.{Lawful, lawful-keeps, run-chain, run-keeps, run-ends}
 use Rattle.cards.specs.declared.Card.{Card}
 use Rattle.cards.specs.Day.{IntervalInRange, dayOf, isNew}
 use Rattle.cards.specs.Cards.{cardAt}
@@ -150,6 +150,10 @@ module _ {C : Type 0} (R : Rules C) (cards : ℕ) (fine : RunBounds (R .span) ca
       go : (b : Bool) → eqb (s .queue .len) 0 ≡ b → Lawful Steps Fit ts s (orElse b (stops stop.Ended) (turnOfCard R s (front (s .queue)) (cardIn s (front (s .queue))) (dayOf (cardIn s (front (s .queue)) .due))))
       go true e = tt
       go false e = let ne = eqb-false (s .queue .len) 0 e in law-turn ts s good (omega (arith, ne))
+
+  -- the state stays good
+  pub keeps : (s₀ : State C) → Fit s₀ → (n : ℕ) → Fit ((run (next R) n [] s₀) .state)
+  keeps s₀ good n = run-keeps (next R) Fit (λ s h. lawful-keeps Steps Fit [] s (next R s) (law [] s h)) n [] s₀ good
 
   -- DEMAND 3, of n turns from a state as set up
   module _ (introducedBefore : ℕ) (s₀ : State C) (z : SetUp (columns (R .costs .none)) (R .costs) (R .span) introducedBefore s₀) (good : Fit s₀) (n : ℕ) where
