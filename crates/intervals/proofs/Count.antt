@@ -1,6 +1,6 @@
 -- How many keys are held goes by what is held alone. Assumes nothing.
 --     same-count t t'                     two tables that hold the same hold as many, whatever their lengths
---     twin-of t t'    so they are twins, if the second is no shorter
+--     twin-of t t'    so they are same-entries, if the second is no shorter
 use mathlib.Core.Path.{_≡_, refl, sym, _∙_, ap}
 use mathlib.Core.Bool.{Bool, true, false, cond}
 use mathlib.Core.Option.{none}
@@ -15,10 +15,12 @@ use lib.ListN.{getD}
 use Rattle.intervals.specs.declared.Entry.{Entry}
 use Rattle.intervals.specs.declared.Entry.the-variants.{Found, Free, Full}
 use Rattle.intervals.specs.Table.{Table, places, freeAt, valueAt, lookupIn, countTo, heldIn, countIn}
-use Rattle.intervals.proofs.Probe.{true-false, Stands, lookup-at-is}
+use Rattle.intervals.specs.Table.{Stands}
+use Rattle.intervals.proofs.Probe.{true-false, lookup-at-is}
 use Rattle.intervals.proofs.Change.{same-is, same-self}
-use Rattle.intervals.proofs.Laws.{Sound, Answer, at, room, full, answer, free-none, full-none, stands-held}
-use Rattle.intervals.proofs.Laws.{some-none, count-free, count-used, count-zero, Twin}
+use Rattle.intervals.proofs.Laws.{Answer, at, room, full, answer, free-none, full-none, stands-held}
+use Rattle.intervals.specs.Table.{Sound}
+use Rattle.intervals.proofs.Laws.{some-none, count-free, count-used, count-zero, SameEntries}
 
 -- how many numbers below n pass a test
 count-if : (ℕ → Bool) → ℕ → ℕ
@@ -169,5 +171,5 @@ same-count t t' ok ok' held =
     le-antisymm (count-at-most t t' ok ok' held) (count-at-most t' t ok' ok (λ s r. sym (held s r)))
 
 -- two sound tables that hold the same, the second at least as long
-pub twin-of : (t t' : Table) → Sound t → Sound t' → places t ≤ places t' → ((s r : ℕ) → heldIn t s r ≡ heldIn t' s r) → Twin t t'
+pub twin-of : (t t' : Table) → Sound t → Sound t' → places t ≤ places t' → ((s r : ℕ) → heldIn t s r ≡ heldIn t' s r) → SameEntries t t'
 twin-of t t' ok ok' l held = record { sound = ok; sound' = ok'; longer = l; held = held; count = same-count t t' ok ok' held }

@@ -9,8 +9,8 @@
 --     free-count      Free: fewer keys are held than the table is long
 --     one-place, stands-held                      a key stands at one place, and is held where it stands: `countIn`, which counts used places, counts keys
 --     same-answer     two tables that hold the same under a key answer the same interval, or nothing
---     Twin            two tables, the second at least as long, that hold the same
---     twin-clear, twin-lookup, twin-enter         emptied tables are; lookups in both match unless the first is full; the same entry in both keeps it
+--     SameEntries            two tables, the second at least as long, that hold the same
+--     same-clear, same-lookup, same-enter         emptied tables are; lookups in both match unless the first is full; the same entry in both keeps it
 -- Assumes nothing.
 use mathlib.Core.Path.{_≡_, refl, sym, _∙_, ap}
 use mathlib.Core.Bool.{Bool, true, false, cond}
@@ -26,15 +26,11 @@ use Rattle.float32.specs.Numbers.{0ᶠ, 1ᶠ}
 use Rattle.intervals.specs.declared.Entry.{Entry}
 use Rattle.intervals.specs.declared.Entry.the-variants.{Found, Free, Full}
 use Rattle.intervals.specs.Table.{Table, places, isFree, sameKey, freeAt, keyAt, valueAt, lookupIn, enterIn}
-use Rattle.intervals.specs.Table.{clearIn, heldTo, countTo, heldIn, countIn, answerOf}
-use Rattle.intervals.proofs.Probe.{Case, free, here, other, caseOf, at-free, at-full, true-false, Stands}
+use Rattle.intervals.specs.Table.{clearIn, heldTo, countTo, heldIn, countIn, answerOf, Stands, Sound, LookupContract}
+use Rattle.intervals.proofs.Probe.{Case, free, here, other, caseOf, at-free, at-full, true-false}
 use Rattle.intervals.proofs.Probe.{lookup-at-is, lookup-free-is, lookup-full-is}
 use Rattle.intervals.proofs.Change.{Keeps, same-is, same-self, enter-places, value-same, free-same, key-same}
 use Rattle.intervals.proofs.Change.{value-other, free-other, key-other, keeps-lookup, takes-lookup}
-
--- a key that stands at a place is found there
-pub record Sound (t : Table) : Type 0 where
-  pub found : (s r p : ℕ) → Stands t s r p → lookupIn t s r ≡ Found p (valueAt t p)
 
 -- a place that the lookup of a key gave: a free one, or the key's own
 pub data Takes (t : Table) (s r p : ℕ) : Type 0 where
@@ -131,6 +127,10 @@ module _ (t : Table) (ok : Sound t) (s r : ℕ) where
 
   pub lookup-held : answerOf (lookupIn t s r) ≡ heldIn t s r
   lookup-held = lookup-held-by (answer t s r)
+
+-- what a lookup promises follows from its entry
+pub looked : (t : Table) (s r : ℕ) {f : Entry} → f ≡ lookupIn t s r → LookupContract t s r f
+looked t s r e = record { entry = e; answer = λ ok. ap answerOf e ∙ lookup-held t ok s r }
 
 -- ---- how many keys are held
 
@@ -406,7 +406,7 @@ stands-held t ok s r p a = found-held t ok s r p (valueAt t p) (ok .found s r p 
 -- ---- a longer table
 
 -- two tables that hold the same, the second at least as long
-pub record Twin (t t' : Table) : Type 0 where
+pub record SameEntries (t t' : Table) : Type 0 where
   pub sound : Sound t
   pub sound' : Sound t'
   pub longer : places t ≤ places t'
@@ -424,8 +424,8 @@ pub data Match : Entry → Entry → Type 0 where
   both-free : {p p' : ℕ} → Match (Free p) (Free p')
   first-full : {f : Entry} → Match Full f
 
-pub twin-clear : (t t' : Table) → places t ≤ places t' → Twin (clearIn t) (clearIn t')
-twin-clear t t' l =
+pub same-clear : (t t' : Table) → places t ≤ places t' → SameEntries (clearIn t) (clearIn t')
+same-clear t t' l =
     record {
       sound = clear-sound t;
       sound' = clear-sound t';
@@ -434,7 +434,7 @@ twin-clear t t' l =
       count = clear-count t ∙ sym (clear-count t');
     }
 
-module _ (t t' : Table) (w : Twin t t') (s r : ℕ) where
+module _ (t t' : Table) (w : SameEntries t t') (s r : ℕ) where
   match : Answer t s r → Answer t' s r → Match (lookupIn t s r) (lookupIn t' s r)
   match (at p v e) (at p' v' e') =
       let a = found-held t (w .sound) s r p v e in
@@ -451,35 +451,35 @@ module _ (t t' : Table) (w : Twin t t') (s r : ℕ) where
   match (room p e) (full e') = absurd (let l = free-count t s r p e in let l' = full-count t' s r e' in omega arith)
   match (full e) a = rw e first-full
 
-  pub twin-lookup : Match (lookupIn t s r) (lookupIn t' s r)
-  twin-lookup = match (answer t s r) (answer t' s r)
+  pub same-lookup : Match (lookupIn t s r) (lookupIn t' s r)
+  same-lookup = match (answer t s r) (answer t' s r)
 
   module _ (p p' : ℕ) (v : Float) (u : isFree v ≡ false) where
-    twin-count : Takes t s r p → Takes t' s r p' → countIn (enterIn t p s r v) ≡ countIn (enterIn t' p' s r v)
-    twin-count (new e) (new e') =
+    same-count : Takes t s r p → Takes t' s r p' → countIn (enterIn t p s r v) ≡ countIn (enterIn t' p' s r v)
+    same-count (new e) (new e') =
         count-new t (w .sound) s r p v u e ∙ (ap suc (w .count) ∙ sym (count-new t' (w .sound') s r p' v u e'))
-    twin-count (new e) (again {w = x} e') =
+    same-count (new e) (again {w = x} e') =
         absurd (some-none (found-held t' (w .sound') s r p' x e') (sym (w .held s r) ∙ free-none t (w .sound) s r p e))
-    twin-count (again {w = x} e) (new e') =
+    same-count (again {w = x} e) (new e') =
         absurd (some-none (found-held t (w .sound) s r p x e) (w .held s r ∙ free-none t' (w .sound') s r p' e'))
-    twin-count (again {w = x} e) (again {w = x'} e') =
+    same-count (again {w = x} e) (again {w = x'} e') =
         count-again t (w .sound) s r p v u x e ∙ (w .count ∙ sym (count-again t' (w .sound') s r p' v u x' e'))
 
-    twin-held-by : Takes t s r p → Takes t' s r p' → (s' r' : ℕ) → (b : Bool) → sameKey s r s' r' ≡ b
+    same-held-by : Takes t s r p → Takes t' s r p' → (s' r' : ℕ) → (b : Bool) → sameKey s r s' r' ≡ b
         → heldIn (enterIn t p s r v) s' r' ≡ heldIn (enterIn t' p' s r v) s' r'
-    twin-held-by a a' s' r' true e =
+    same-held-by a a' s' r' true e =
         let k = same-is s r s' r' e in
         rw (← (k .0), ← (k .1)) (enter-held t (w .sound) s r p v u a ∙ sym (enter-held t' (w .sound') s r p' v u a'))
-    twin-held-by a a' s' r' false e =
+    same-held-by a a' s' r' false e =
         let n : (s ≡ s' → r ≡ r' → ⊥) = λ x y. true-false (ap (λ (z : ℕ). sameKey s r z r') (sym x) ∙ (ap (λ (z : ℕ). sameKey s r s z) (sym y) ∙ same-self s r)) e in
         enter-other t (w .sound) s r p v u a s' r' n ∙ (w .held s' r' ∙ sym (enter-other t' (w .sound') s r p' v u a' s' r' n))
 
-    pub twin-enter : Takes t s r p → Takes t' s r p' → Twin (enterIn t p s r v) (enterIn t' p' s r v)
-    twin-enter a a' =
+    pub same-enter : Takes t s r p → Takes t' s r p' → SameEntries (enterIn t p s r v) (enterIn t' p' s r v)
+    same-enter a a' =
         record {
           sound = enter-sound t (w .sound) s r p v u a;
           sound' = enter-sound t' (w .sound') s r p' v u a';
           longer = omega (arith, enter-places t p s r v, enter-places t' p' s r v, w .longer);
-          held = λ s' r'. twin-held-by a a' s' r' (sameKey s r s' r') refl;
-          count = twin-count a a';
+          held = λ s' r'. same-held-by a a' s' r' (sameKey s r s' r') refl;
+          count = same-count a a';
         }

@@ -13,7 +13,7 @@ use native.Mathlib.Omega.{arith}
 use lib.Ieee.{Float}
 use Rattle.intervals.specs.declared.Entry.{Entry}
 use Rattle.intervals.specs.declared.Entry.the-variants.{Found, Free, Full}
-use Rattle.intervals.specs.Table.{Table, places, homeOf, nextOf, freeAt, keyAt, valueAt, probe, lookupIn}
+use Rattle.intervals.specs.Table.{Table, places, homeOf, nextOf, freeAt, keyAt, valueAt, probe, lookupIn, Stands}
 use Rattle.intervals.proofs.Steps.{home-lt, next-lt, next-wrap, next-on, step-free, step-here, step-on}
 use Rattle.intervals.proofs.Steps.{step-none, lookup-none}
 
@@ -43,12 +43,6 @@ free-full a b = let z : _≡_ {A = ℕ} 0 1 = cc in omega arith
 
 pub true-false : {b : Bool} → b ≡ true → b ≡ false → ⊥
 true-false a b = let z : _≡_ {A = ℕ} 0 1 = cc in omega arith
-
--- the key (s, r) stands at place p
-pub record Stands (t : Table) (s r p : ℕ) : Type 0 where
-  pub within : p < places t
-  pub used : freeAt t p ≡ false
-  pub key : keyAt t p s r ≡ true
 
 module _ (t : Table) (s r : ℕ) where
   -- found: the key stands there, with that interval

@@ -6,7 +6,7 @@
 --     slot-full-iff   there is no slot exactly where the key is not held and as many keys are held as the table is long
 --     slot-sound      a sound table stays sound
 --     interval-all, slot-all              what holds of all intervals held and of the fresh one holds of the slot's, and of all held after it
---     twin-slot       two tables that hold the same give the same slot but for its place, unless the shorter one is full
+--     same-slot       two tables that hold the same give the same slot but for its place, unless the shorter one is full
 --     range-both, range-fails, slot-full, slot-new, slot-held, slot-anew, not-found, not-entered      what the code finds, test by test
 --     scheduled-used  the fresh interval never marks a free place
 use mathlib.Core.Path.{_≡_, refl, sym, ap, _∙_}
@@ -39,8 +39,9 @@ use Rattle.intervals.proofs.Entry as entry-type
 use Rattle.intervals.proofs.Slot as slot-type
 use Rattle.intervals.proofs.Probe.{true-false, lookup-at-is}
 use Rattle.intervals.proofs.Change.{enter-places, value-same, free-other, value-other}
-use Rattle.intervals.proofs.Laws.{clamp-used, Sound, Takes, new, again, takes-within, enter-sound, full-iff}
-use Rattle.intervals.proofs.Laws.{Twin, Match, both-at, both-free, first-full, twin-lookup, twin-enter}
+use Rattle.intervals.proofs.Laws.{clamp-used, Takes, new, again, takes-within, enter-sound, full-iff}
+use Rattle.intervals.specs.Table.{Sound}
+use Rattle.intervals.proofs.Laws.{SameEntries, Match, both-at, both-free, first-full, same-lookup, same-enter}
 
 module _ (t : Table) (s r : ℕ) (certified : Float → Bool) (fresh : Float) where
   -- by what the lookup found
@@ -126,22 +127,22 @@ module _ (t : Table) (s r : ℕ) (certified : Float → Bool) (fresh : Float) wh
     slot-all = entered-by (slotIn certified fresh t s r) origin
 
 -- two tables that hold the same give the same interval and hold the same afterwards, unless the shorter has no place
-module _ (t t' : Table) (w : Twin t t') (s r : ℕ) (certified : Float → Bool) (fresh : Float) (u : isFree fresh ≡ false) where
+module _ (t t' : Table) (w : SameEntries t t') (s r : ℕ) (certified : Float → Bool) (fresh : Float) (u : isFree fresh ≡ false) where
   abbrev Same : Slot → Slot → Type 0
-  Same x x' = isFull x ≡ false → (intervalOf x ≡ intervalOf x') × (isFull x' ≡ false) × Twin (entered t x) (entered t' x')
+  Same x x' = isFull x ≡ false → (intervalOf x ≡ intervalOf x') × (isFull x' ≡ false) × SameEntries (entered t x) (entered t' x')
 
-  twin-by : (f f' : Entry) → lookupIn t s r ≡ f → lookupIn t' s r ≡ f' → Match f f' → Same (slotBy f certified fresh s r) (slotBy f' certified fresh s r)
-  twin-by f f' e e' (both-at {p = p} {p' = p'} {v = v}) = at (certified v)
+  same-by : (f f' : Entry) → lookupIn t s r ≡ f → lookupIn t' s r ≡ f' → Match f f' → Same (slotBy f certified fresh s r) (slotBy f' certified fresh s r)
+  same-by f f' e e' (both-at {p = p} {p' = p'} {v = v}) = at (certified v)
     where
       at : (b : Bool) → Same (pickSlot b (slot.Keep v) (slot.Enter p s r fresh)) (pickSlot b (slot.Keep v) (slot.Enter p' s r fresh))
       at true n = (refl, refl, w)
-      at false n = (refl, refl, twin-enter t t' w s r p p' fresh u (again e) (again e'))
-  twin-by f f' e e' (both-free {p = p} {p' = p'}) = λ n. (refl, refl, twin-enter t t' w s r p p' fresh u (new e) (new e'))
-  twin-by f f' e e' first-full = λ n. absurd (true-false refl n)
+      at false n = (refl, refl, same-enter t t' w s r p p' fresh u (again e) (again e'))
+  same-by f f' e e' (both-free {p = p} {p' = p'}) = λ n. (refl, refl, same-enter t t' w s r p p' fresh u (new e) (new e'))
+  same-by f f' e e' first-full = λ n. absurd (true-false refl n)
 
-  pub twin-slot : Same (slotIn certified fresh t s r) (slotIn certified fresh t' s r)
+  pub same-slot : Same (slotIn certified fresh t s r) (slotIn certified fresh t' s r)
   unfolding slotIn
-  twin-slot = twin-by (lookupIn t s r) (lookupIn t' s r) refl refl (twin-lookup t t' w s r)
+  same-slot = same-by (lookupIn t s r) (lookupIn t' s r) refl refl (same-lookup t t' w s r)
 
 -- a slot that is not to be entered leaves the table
 pub not-entered : (t : Table) (x : Slot) → OneOf (0 ∷ 2 ∷ []) (tagOf slot-type.the-type x) → t ≡ entered t x

@@ -13,7 +13,8 @@
 use mathlib.Core.Bool.{Bool, true, false, cond, _&&_}
 use mathlib.Core.List.{List, [], _∷_}
 use mathlib.Core.Option.{Option, none, some}
-use Prim.Native.Nat.{ℕ, zero, suc, _+_, _*_, _/_, _%_, min}
+use mathlib.Core.Path.{_≡_}
+use Prim.Native.Nat.{ℕ, zero, suc, _+_, _*_, _/_, _%_, _<_, min}
 use lib.Dec.{eqb}
 use lib.Ieee.{Float, nan, lt}
 use lib.ListN.{length, getD, set, replicate}
@@ -99,8 +100,24 @@ heldIn t s r = heldTo t s r (places t)
 abbrev pub countIn : Table → ℕ
 countIn t = countTo t (places t)
 
--- document 01's answer of a lookup: an interval or nothing
+-- what a lookup answers: an interval or nothing
 abbrev pub answerOf : Entry → Option Float
 answerOf (Found p v) = some v
 answerOf (Free p) = none
 answerOf Full = none
+
+-- ---- the table of a run
+-- the key (s, r) stands at place p
+pub record Stands (t : Table) (s r p : ℕ) : Type 0 where
+  pub within : p < places t
+  pub used : freeAt t p ≡ false
+  pub key : keyAt t p s r ≡ true
+
+-- a key that stands at a place is found there: so it is of an emptied table, and of every table that entries are made in where lookups say
+pub record Sound (t : Table) : Type 0 where
+  pub found : (s r p : ℕ) → Stands t s r p → lookupIn t s r ≡ Found p (valueAt t p)
+
+-- WHAT A LOOKUP PROMISES: its entry, by the definition; and its answer, an interval or nothing, is what is held under the key, whatever the table's length
+pub record LookupContract (t : Table) (s r : ℕ) (f : Entry) : Type 0 where
+  pub entry : f ≡ lookupIn t s r
+  pub answer : Sound t → answerOf f ≡ heldIn t s r

@@ -8,7 +8,7 @@ ghost use mathlib.Core.Path.{_≡_};
 ghost use mathlib.Core.List.{[], _∷_};
 ghost use Prim.Native.Nat.{_<_, min};
 ghost use lib.ListN.{length, set, replicate};
-ghost use Rattle.intervals.specs.Table.{table, mixOf, homeOf, nextOf, sameKey, lookupIn, enterIn};
+ghost use Rattle.intervals.specs.Table.{table, mixOf, homeOf, nextOf, sameKey, LookupContract, enterIn};
 ghost use Rattle.intervals.specs.Bucket.{pattern, bucketIndex, stabilityBucket, retentionBucket};
 ghost use Rattle.intervals.specs.Schedule.{isBelow, isNoLess, certifiesOne, certifiesRange, allFinite, certifies, slotOf, isFull, intervalOf, entered};
 ghost use Rattle.float32.specs.Numbers.{0ᶠ};
@@ -114,7 +114,7 @@ fn same(a: u32, b: u32, s: u32, r: u32) -> bool
 }
 
 pub fn lookup(keys: &[[u32; 2]], intervals: &[f32], s: u32, r: u32) -> Entry
-    ensures { λ f. ⌜ f ≡ lookupIn (table (now (keys .entry)) (now (intervals .entry))) s r ⌝ }
+    ensures { λ f. ⌜ LookupContract (table (now (keys .entry)) (now (intervals .entry))) s r f ⌝ }
 {
     let n = lesser(keys.len(), intervals.len());
     if n == 0 {

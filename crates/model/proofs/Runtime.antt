@@ -51,3 +51,54 @@ module _ (w : List Float) where
 
   pub curves-are : Runtime.curveOf (Runtime.runtimeOf w) ≡ Model.curveOf w
   curves-are = fun-ext curve-is
+
+-- ---- what is not read plays no part
+module _ (w w′ : List Float) (p : Runtime.SameRead w w′) where
+  m : (i : ℕ) → i < 15 → Model.at w i ≡ Model.at w′ i
+  m = p .memory
+
+  c : (i : ℕ) → 23 ≤ i → i < 34 → Model.at w i ≡ Model.at w′ i
+  c = p .curve
+
+  first-same : Runtime.firstOf w ≡ Runtime.firstOf w′
+  unfolding Runtime.firstOf
+  first-same = rw (m 0 (omega arith), m 1 (omega arith), m 2 (omega arith), m 3 (omega arith))
+
+  difficulty-same : Runtime.difficultyOf w ≡ Runtime.difficultyOf w′
+  unfolding Runtime.difficultyOf Model.initDifficulty
+  difficulty-same = rw (m 4 (omega arith), m 5 (omega arith), m 6 (omega arith))
+
+  stability-same : Model.setOf w 7 ≡ Model.setOf w′ 7
+  unfolding Model.setOf
+  stability-same =
+      rw (
+        m 7 (omega arith),
+        m 8 (omega arith),
+        m 9 (omega arith),
+        m 10 (omega arith),
+        m 11 (omega arith),
+        m 12 (omega arith),
+        m 13 (omega arith),
+        m 14 (omega arith),
+      )
+
+  curve-same : Runtime.curveParametersOf w ≡ Runtime.curveParametersOf w′
+  unfolding Runtime.curveParametersOf Model.decay2 Model.factor2
+  curve-same =
+      rw (
+        c 23 (omega arith) (omega arith),
+        c 24 (omega arith) (omega arith),
+        c 25 (omega arith) (omega arith),
+        c 26 (omega arith) (omega arith),
+        c 27 (omega arith) (omega arith),
+        c 28 (omega arith) (omega arith),
+        c 29 (omega arith) (omega arith),
+        c 30 (omega arith) (omega arith),
+        c 31 (omega arith) (omega arith),
+        c 32 (omega arith) (omega arith),
+        c 33 (omega arith) (omega arith),
+      )
+
+  pub runtime-same : Runtime.runtimeOf w ≡ Runtime.runtimeOf w′
+  unfolding Runtime.runtimeOf
+  runtime-same = rw (first-same, difficulty-same, stability-same, curve-same)

@@ -4,11 +4,13 @@
 -- only. Assumes nothing.
 --   firstOf w, difficultyOf w, curveParametersOf w   its parts; the fourth is `setOf w 7` of specs/Model
 --   runtimeOf w                       the whole
+--   SameRead w w′                     the same parameters where they are read
 --   initStability m rating            the stability of a new card
 --   curveAt p s d fast, curveOf m x   the curve of a state
-use Prim.Native.Nat.{ℕ}
+use Prim.Native.Nat.{ℕ, _≤_, _<_}
 use mathlib.Core.Bool.{cond}
 use mathlib.Core.List.{List}
+use mathlib.Core.Path.{_≡_}
 use lib.Dec.{eqb}
 use lib.Ieee.{Float, neg}
 use Rattle.float32.specs.Float32 as Float32
@@ -58,6 +60,11 @@ runtimeOf w =
       stability = setOf w 7;
       curve = curveParametersOf w;
     }
+
+-- two lists of parameters with the same numbers where FSRS-7 reads them: 0 to 14 and 23 to 33
+pub record SameRead (w w′ : List Float) : Type 0 where
+  pub memory : (i : ℕ) → i < 15 → at w i ≡ at w′ i
+  pub curve : (i : ℕ) → 23 ≤ i → i < 34 → at w i ≡ at w′ i
 
 -- ---- from what is kept
 

@@ -14,7 +14,8 @@ use lib.Ieee.Casts.{toSigned-in}
 use mir.Syntax.{w32, w64}
 use mir.Val.{toZ, ofZ}
 use mir.ValLaws.{toZ-ofZ}
-use Rattle.queue.specs.Key.{bit, shifted, priorityOf, packed, cardPriority, NoLater}
+use Rattle.turns.specs.Sums.{bit}
+use Rattle.queue.specs.Key.{shifted, priorityOf, packed, cardPriority, NoLater}
 
 -- an i32 is itself at 64 bits
 pub widened : (z : ℤ) → mag z < 2 ^ 31 → toZ w64 (ofZ w64 (toZ w32 (ofZ w32 z))) ≡ z

@@ -12,7 +12,7 @@ use borrow.Author.Tests.{eq-eqb, ne-eqb, eqb-true, lt-ltb, le-ltb}
 use lib.Dec.{eqb, ltb}
 use lib.ListN.{getD, set, length, length-set}
 use lib.Seq.{getD-set-same, getD-set-other}
-use Rattle.queue.specs.Queue.{Queue, queue, keyAt, cardAt, parent, bubbleUp, heapify, front, rekeyed, pushed, popped, frontChanged}
+use Rattle.queue.specs.Queue.{Queue, queue, keyAt, cardIndexAt, parent, bubbleUp, heapify, front, rekeyed, pushed, popped, frontChanged}
 use Rattle.queue.specs.Sound.{Sound, stands, queued, Keyed}
 use Rattle.queue.proofs.Loops.{push-is, pop-empty, pop-is, change-empty, change-is}
 use Rattle.queue.proofs.Order.{Rising, ordered-root, root-least}
@@ -37,10 +37,10 @@ module _ (q : Queue) (key : ℕ) where
   rekeyed-other : (i : ℕ) → i ≢ 0 → getD (rekeyed (q .rows) key) i [] ≡ getD (q .rows) i []
   rekeyed-other i ne = getD-set-other (q .rows) 0 i (key ∷ getD (getD (q .rows) 0 []) 1 0 ∷ []) [] ne
 
-  rekeyed-card : 0 < length (q .rows) → (i : ℕ) → cardAt (rekeyed (q .rows) key) i ≡ cardAt (q .rows) i
+  rekeyed-card : 0 < length (q .rows) → (i : ℕ) → cardIndexAt (rekeyed (q .rows) key) i ≡ cardIndexAt (q .rows) i
   rekeyed-card l i = at (ℕ-discrete i 0)
     where
-      at : Dec (i ≡ 0) → cardAt (rekeyed (q .rows) key) i ≡ cardAt (q .rows) i
+      at : Dec (i ≡ 0) → cardIndexAt (rekeyed (q .rows) key) i ≡ cardIndexAt (q .rows) i
       at (yes e) = rw e (rw (rekeyed-first l))
       at (no e) = rw (rekeyed-other i e)
 
@@ -102,12 +102,12 @@ module _ (q : Queue) (s : Sound q) (some : 0 < q .len) where
       at (yes e) = (n, omega arith, omega arith, rw e first-row, λ x. refl, λ x. absurd (omega arith))
       at (no e) = (i, omega arith, omega arith, other-row i e, λ x. absurd (e x), λ x. refl)
 
-  once-left : (i j : ℕ) → i < n → j < n → cardAt v i ≡ cardAt v j → i ≡ j
+  once-left : (i j : ℕ) → i < n → j < n → cardIndexAt v i ≡ cardIndexAt v j → i ≡ j
   once-left i j li lj e =
       let a = was i li in
       let b = was j lj in
-      let x : cardAt v i ≡ cardAt (q .rows) (a .0) = rw (a .3) in
-      let y : cardAt v j ≡ cardAt (q .rows) (b .0) = rw (b .3) in
+      let x : cardIndexAt v i ≡ cardIndexAt (q .rows) (a .0) = rw (a .3) in
+      let y : cardIndexAt v j ≡ cardIndexAt (q .rows) (b .0) = rw (b .3) in
       at (ℕ-discrete i 0) (ℕ-discrete j 0) (s .once (a .0) (b .0) (a .2) (b .2) (sym x ∙ e ∙ y))
     where
       at : Dec (i ≡ 0) → Dec (j ≡ 0) → was i li .0 ≡ was j lj .0 → i ≡ j
@@ -148,7 +148,7 @@ pop-law q s = at (ℕ-discrete (q .len) 0)
     at (no e) = pop-some q s (omega arith)
 
 -- ---- which cards are queued
-pub stands-here : (rows : List (List ℕ)) (n c i : ℕ) → i < n → cardAt rows i ≡ c → stands rows n c ≡ true
+pub stands-here : (rows : List (List ℕ)) (n c i : ℕ) → i < n → cardIndexAt rows i ≡ c → stands rows n c ≡ true
 stands-here rows zero c i l e = absurd (omega arith)
 stands-here rows (suc n) c i l e = at (ℕ-discrete i n) (stands-here rows n c i)
   where
@@ -156,16 +156,16 @@ stands-here rows (suc n) c i l e = at (ℕ-discrete i n) (stands-here rows n c i
     right true = refl
     right false = refl
 
-    at : Dec (i ≡ n) → (i < n → cardAt rows i ≡ c → stands rows n c ≡ true) → (eqb (cardAt rows n) c || stands rows n c) ≡ true
-    at (yes x) ih = rw (eq-eqb (cardAt rows n) c (ap (λ (z : ℕ). cardAt rows z) (sym x) ∙ e))
-    at (no x) ih = rw (ih (omega arith) e) (right (eqb (cardAt rows n) c))
+    at : Dec (i ≡ n) → (i < n → cardIndexAt rows i ≡ c → stands rows n c ≡ true) → (eqb (cardIndexAt rows n) c || stands rows n c) ≡ true
+    at (yes x) ih = rw (eq-eqb (cardIndexAt rows n) c (ap (λ (z : ℕ). cardIndexAt rows z) (sym x) ∙ e))
+    at (no x) ih = rw (ih (omega arith) e) (right (eqb (cardIndexAt rows n) c))
 
-pub stands-where : (rows : List (List ℕ)) (n c : ℕ) → stands rows n c ≡ true → (i : ℕ) × (i < n) × (cardAt rows i ≡ c)
+pub stands-where : (rows : List (List ℕ)) (n c : ℕ) → stands rows n c ≡ true → (i : ℕ) × (i < n) × (cardIndexAt rows i ≡ c)
 stands-where rows zero c e = absurd (false≢true e)
-stands-where rows (suc n) c e = at (eqb (cardAt rows n) c) refl e (stands-where rows n c)
+stands-where rows (suc n) c e = at (eqb (cardIndexAt rows n) c) refl e (stands-where rows n c)
   where
-    at : (a : Bool) → eqb (cardAt rows n) c ≡ a → (a || stands rows n c) ≡ true → (stands rows n c ≡ true → (i : ℕ) × (i < n) × (cardAt rows i ≡ c)) → (i : ℕ) × (i < suc n) × (cardAt rows i ≡ c)
-    at true x y ih = (n, omega arith, eqb-true (cardAt rows n) c x)
+    at : (a : Bool) → eqb (cardIndexAt rows n) c ≡ a → (a || stands rows n c) ≡ true → (stands rows n c ≡ true → (i : ℕ) × (i < n) × (cardIndexAt rows i ≡ c)) → (i : ℕ) × (i < suc n) × (cardIndexAt rows i ≡ c)
+    at true x y ih = (n, omega arith, eqb-true (cardIndexAt rows n) c x)
     at false x y ih = let t = ih y in (t .0, omega (arith, t .1), t .2)
 
 bool-eq : (a b : Bool) → (a ≡ true → b ≡ true) → (b ≡ true → a ≡ true) → a ≡ b
@@ -174,7 +174,7 @@ bool-eq false true f g = g refl
 bool-eq false false f g = refl
 
 -- two rows alike hold the same card
-card-same : (rows rows′ : List (List ℕ)) (i j : ℕ) → getD rows i [] ≡ getD rows′ j [] → cardAt rows i ≡ cardAt rows′ j
+card-same : (rows rows′ : List (List ℕ)) (i j : ℕ) → getD rows i [] ≡ getD rows′ j [] → cardIndexAt rows i ≡ cardIndexAt rows′ j
 card-same rows rows′ i j e = rw e
 
 key-same : (rows rows′ : List (List ℕ)) (i j : ℕ) → getD rows i [] ≡ getD rows′ j [] → keyAt rows i ≡ keyAt rows′ j
@@ -189,7 +189,7 @@ change-queued q key s c = go (frontChanged q key) (change-law q key s)
         v : List (List ℕ)
         v = rekeyed (q .rows) key
 
-        card : (i : ℕ) → i < q .len → cardAt v i ≡ cardAt (q .rows) i
+        card : (i : ℕ) → i < q .len → cardIndexAt v i ≡ cardIndexAt (q .rows) i
         card i l = let room = s .room in rekeyed-card q key (omega arith) i
 
         there : queued q′ c ≡ true → queued q c ≡ true
@@ -217,8 +217,8 @@ module _ (q : Queue) (s : Sound q) where
       go : (q′ : Queue) → Popped q q′ → queued q′ c ≡ queued q c
       go q′ w = bool-eq (queued q′ c) (queued q c) there back
         where
-          later : (i : ℕ) → cardAt (q .rows) i ≡ c → Dec (i ≡ 0) → 0 < i
-          later i e (yes x) = absurd (ne (sym e ∙ ap (λ (z : ℕ). cardAt (q .rows) z) x))
+          later : (i : ℕ) → cardIndexAt (q .rows) i ≡ c → Dec (i ≡ 0) → 0 < i
+          later i e (yes x) = absurd (ne (sym e ∙ ap (λ (z : ℕ). cardIndexAt (q .rows) z) x))
           later i e (no x) = omega arith
 
           there : queued q′ c ≡ true → queued q c ≡ true
@@ -262,7 +262,7 @@ module _ (q : Queue) (card key : ℕ) (fits : card < 2 ^ 32) (space : q .len < l
   last-row : getD joined (q .len) [] ≡ key ∷ card ∷ []
   last-row = getD-set-same (q .rows) (q .len) (key ∷ card ∷ []) [] space
 
-  pub last-card : cardAt joined (q .len) ≡ card
+  pub last-card : cardIndexAt joined (q .len) ≡ card
   last-card = rw last-row (omega arith)
 
   pub last-key : keyAt joined (q .len) ≡ key
@@ -271,16 +271,16 @@ module _ (q : Queue) (card key : ℕ) (fits : card < 2 ^ 32) (space : q .len < l
   pub same-row : (i : ℕ) → i ≢ q .len → getD joined i [] ≡ getD (q .rows) i []
   same-row i ne = getD-set-other (q .rows) (q .len) i (key ∷ card ∷ []) [] ne
 
-  not-card : (i : ℕ) → i < q .len → cardAt (q .rows) i ≢ card
+  not-card : (i : ℕ) → i < q .len → cardIndexAt (q .rows) i ≢ card
   not-card i l e = false≢true (sym new ∙ stands-here (q .rows) (q .len) card i l e)
 
-  once-joined : (i j : ℕ) → i < q .len + 1 → j < q .len + 1 → cardAt joined i ≡ cardAt joined j → i ≡ j
+  once-joined : (i j : ℕ) → i < q .len + 1 → j < q .len + 1 → cardIndexAt joined i ≡ cardIndexAt joined j → i ≡ j
   once-joined i j li lj e = at (ℕ-discrete i (q .len)) (ℕ-discrete j (q .len))
     where
       at : Dec (i ≡ q .len) → Dec (j ≡ q .len) → i ≡ j
       at (yes x) (yes y) = omega arith
-      at (yes x) (no y) = absurd (not-card j (omega arith) (sym (card-same joined (q .rows) j j (same-row j y)) ∙ sym e ∙ ap (λ (z : ℕ). cardAt joined z) x ∙ last-card))
-      at (no x) (yes y) = absurd (not-card i (omega arith) (sym (card-same joined (q .rows) i i (same-row i x)) ∙ e ∙ ap (λ (z : ℕ). cardAt joined z) y ∙ last-card))
+      at (yes x) (no y) = absurd (not-card j (omega arith) (sym (card-same joined (q .rows) j j (same-row j y)) ∙ sym e ∙ ap (λ (z : ℕ). cardIndexAt joined z) x ∙ last-card))
+      at (no x) (yes y) = absurd (not-card i (omega arith) (sym (card-same joined (q .rows) i i (same-row i x)) ∙ e ∙ ap (λ (z : ℕ). cardIndexAt joined z) y ∙ last-card))
       at (no x) (no y) = s .once i j (omega arith) (omega arith) (sym (card-same joined (q .rows) i i (same-row i x)) ∙ e ∙ card-same joined (q .rows) j j (same-row j y))
 
   joined-rising : Rising (keyAt joined) (q .len + 1) (q .len)
@@ -320,8 +320,8 @@ module _ (q : Queue) (card key : ℕ) (fits : card < 2 ^ 32) (space : q .len < l
               let u = w .from (t .0) (omega (arith, t .1, w .more)) in
               at (u .0) (u .1) (card-same joined (q′ .rows) (u .0) (t .0) (u .2) ∙ t .2) (ℕ-discrete (u .0) (q .len))
             where
-              at : (j : ℕ) → j < q .len + 1 → cardAt joined j ≡ c → Dec (j ≡ q .len) → (eqb card c || queued q c) ≡ true
-              at j l x (yes y) = rw (eq-eqb card c (sym last-card ∙ ap (λ (z : ℕ). cardAt joined z) (sym y) ∙ x))
+              at : (j : ℕ) → j < q .len + 1 → cardIndexAt joined j ≡ c → Dec (j ≡ q .len) → (eqb card c || queued q c) ≡ true
+              at j l x (yes y) = rw (eq-eqb card c (sym last-card ∙ ap (λ (z : ℕ). cardIndexAt joined z) (sym y) ∙ x))
               at j l x (no y) = or-right (eqb card c) (queued q c) (stands-here (q .rows) (q .len) c j (omega arith) (sym (card-same joined (q .rows) j j (same-row j y)) ∙ x))
 
           back : (a : Bool) → eqb card c ≡ a → (a || queued q c) ≡ true → queued q′ c ≡ true
@@ -336,7 +336,7 @@ module _ (q : Queue) (card key : ℕ) (fits : card < 2 ^ 32) (space : q .len < l
 
 -- ---- each card stands with its key
 pub keyed-same : (cards : ℕ) (k k′ : ℕ → ℕ) (q : Queue) → ((c : ℕ) → c < cards → k c ≡ k′ c) → Keyed cards k q → Keyed cards k′ q
-keyed-same cards k k′ q same w = record { sound = w .sound; named = w .named; key = λ i l. w .key i l ∙ same (cardAt (q .rows) i) (w .named i l) }
+keyed-same cards k k′ q same w = record { sound = w .sound; named = w .named; key = λ i l. w .key i l ∙ same (cardIndexAt (q .rows) i) (w .named i l) }
 
 module _ (cards : ℕ) (k : ℕ → ℕ) (q : Queue) (w : Keyed cards k q) where
   pub queued-named : (c : ℕ) → queued q c ≡ true → c < cards
@@ -365,13 +365,13 @@ module _ (cards : ℕ) (k : ℕ → ℕ) (q : Queue) (w : Keyed cards k q) where
           room : 0 < length (q .rows)
           room = omega (arith, w .sound .room)
 
-          card : (i j : ℕ) → getD v j [] ≡ getD (q′ .rows) i [] → cardAt (q .rows) j ≡ cardAt (q′ .rows) i
+          card : (i j : ℕ) → getD v j [] ≡ getD (q′ .rows) i [] → cardIndexAt (q .rows) j ≡ cardIndexAt (q′ .rows) i
           card i j e = sym (rekeyed-card q key room j) ∙ card-same v (q′ .rows) j i e
 
-          at : (j : ℕ) → j < q .len → Dec (j ≡ 0) → keyAt v j ≡ k′ (cardAt (q .rows) j)
+          at : (j : ℕ) → j < q .len → Dec (j ≡ 0) → keyAt v j ≡ k′ (cardIndexAt (q .rows) j)
           at j l (yes e) = rw e (rw (rekeyed-first q key room) own)
           at j l (no e) =
-              key-same v (q .rows) j j (rekeyed-other q key j e) ∙ w .key j l ∙ sym (others (cardAt (q .rows) j) (λ z. e (w .sound .once j 0 l some z)))
+              key-same v (q .rows) j j (rekeyed-other q key j e) ∙ w .key j l ∙ sym (others (cardIndexAt (q .rows) j) (λ z. e (w .sound .once j 0 l some z)))
 
   pub unqueue : Keyed cards k (popped q)
   unqueue = go (popped q) (pop-law q (w .sound))
@@ -390,7 +390,7 @@ module _ (cards : ℕ) (k : ℕ → ℕ) (q : Queue) (w : Keyed cards k q) where
       v : List (List ℕ)
       v = set (q .rows) (q .len) (k card ∷ card ∷ [])
 
-      at : (j : ℕ) → j < q .len + 1 → Dec (j ≡ q .len) → (cardAt v j < cards′) × (keyAt v j ≡ k (cardAt v j))
+      at : (j : ℕ) → j < q .len + 1 → Dec (j ≡ q .len) → (cardIndexAt v j < cards′) × (keyAt v j ≡ k (cardIndexAt v j))
       at j l (yes e) = rw e (
         subst (λ (z : ℕ). z < cards′) (sym (last-card q card (k card) fits space few (w .sound) new)) small,
         last-key q card (k card) fits space few (w .sound) new ∙ ap k (sym (last-card q card (k card) fits space few (w .sound) new)),

@@ -11,7 +11,7 @@ use borrow.Author.Tests.{lt-ltb, le-ltb, le-leb, lt-leb, eq-eqb, ne-eqb}
 use lib.ListN.{getD, set, length, List·getD-eq-default}
 use lib.Seq.{getD-set-same, getD-set-other, set-set}
 use lib.Dec.{ltb}
-use Rattle.queue.specs.Queue.{keyAt, cardAt, parent, swap, rise, bubbleUp, lesser, least, sink, heapify, queue, hasRoom, hasFront, pushed, popped, rekeyed, frontChanged}
+use Rattle.queue.specs.Queue.{keyAt, cardIndexAt, parent, swap, rise, bubbleUp, lesser, least, sink, heapify, queue, hasRoom, hasFront, pushed, popped, rekeyed, frontChanged}
 
 -- an exchange of the moving row with the one at q
 hole : (rows : List (List ℕ)) (row : List ℕ) (pos q : ℕ) → pos < length rows → q ≢ pos
@@ -284,7 +284,7 @@ module _ (rows : List (List ℕ)) (len : ℕ) where
   front-short : length rows < len → hasFront (queue rows len) ≡ false
   front-short h = rw (lt-leb len (length rows) h) (and-false (ltb 0 len))
 
-  pub peek-none : length rows ≡ 0 → 0 ≡ cardAt rows 0
+  pub peek-none : length rows ≡ 0 → 0 ≡ cardIndexAt rows 0
   peek-none e = rw (List·getD-eq-default rows [] {n = 0} (omega arith))
 
   module _ (card key : ℕ) where

@@ -6,7 +6,7 @@ use Prim.Native.Nat.{ℕ, _+_, _*_, _≤_, _<_}
 use native.Mathlib.Decide.{ℕ-discrete}
 use native.Mathlib.Omega.{arith}
 use lib.ListN.{getD, length, length-set}
-use Rattle.queue.specs.Queue.{keyAt, cardAt, parent, swap, bubbleUp, least, heapify}
+use Rattle.queue.specs.Queue.{keyAt, cardIndexAt, parent, swap, bubbleUp, least, heapify}
 use Rattle.queue.proofs.Order.{Ordered, Rising, Sinking, rise-step, sink-step, risen, sunken}
 use Rattle.queue.proofs.Steps.{swap-first, swap-second, swap-other, swapped, rise-keeps, least-below, least-child, sink-keeps}
 
@@ -14,12 +14,12 @@ use Rattle.queue.proofs.Steps.{swap-first, swap-second, swap-other, swa
 pub record Mixed (len : ℕ) (rows₀ rows : List (List ℕ)) : Type 0 where
   pub room : len ≤ length rows
   pub long : length rows ≡ length rows₀
-  pub once : (i j : ℕ) → i < len → j < len → cardAt rows i ≡ cardAt rows j → i ≡ j
+  pub once : (i j : ℕ) → i < len → j < len → cardIndexAt rows i ≡ cardIndexAt rows j → i ≡ j
   pub from : (i : ℕ) → i < len → (j : ℕ) × (j < len) × (getD rows₀ j [] ≡ getD rows i [])
   pub to : (i : ℕ) → i < len → (j : ℕ) × (j < len) × (getD rows j [] ≡ getD rows₀ i [])
   pub beyond : (i : ℕ) → len ≤ i → getD rows i [] ≡ getD rows₀ i []
 
-pub mixed-none : (len : ℕ) (rows : List (List ℕ)) → len ≤ length rows → ((i j : ℕ) → i < len → j < len → cardAt rows i ≡ cardAt rows j → i ≡ j) → Mixed len rows rows
+pub mixed-none : (len : ℕ) (rows : List (List ℕ)) → len ≤ length rows → ((i j : ℕ) → i < len → j < len → cardIndexAt rows i ≡ cardIndexAt rows j → i ≡ j) → Mixed len rows rows
 mixed-none len rows room once = record { room = room; long = refl; once = once; from = λ i l. (i, l, refl); to = λ i l. (i, l, refl); beyond = λ i l. refl }
 
 module _ (len : ℕ) (rows₀ rows : List (List ℕ)) (a b : ℕ) (la : a < len) (lb : b < len) (ne : a ≢ b) (m : Mixed len rows₀ rows) where
@@ -67,7 +67,7 @@ module _ (len : ℕ) (rows₀ rows : List (List ℕ)) (a b : ℕ) (la : a < len)
     beyond = λ i l. swap-other rows a b i (omega arith) (omega arith) ∙ m .beyond i l;
   }
     where
-      card : (i j : ℕ) → getD (swap rows a b) i [] ≡ getD rows j [] → cardAt (swap rows a b) i ≡ cardAt rows j
+      card : (i j : ℕ) → getD (swap rows a b) i [] ≡ getD rows j [] → cardIndexAt (swap rows a b) i ≡ cardIndexAt rows j
       card i j e = rw e
 
 -- the loops' end: heap order

@@ -1,6 +1,6 @@
 -- A card's order key: one number whose order is that of (day, reviews before new cards, priority). Assumes nothing.
 use mathlib.Core.Path.{_≡_}
-use mathlib.Core.Bool.{Bool, true, false}
+use mathlib.Core.Bool.{Bool}
 use mathlib.Core.Logic.{_⊎_}
 use Prim.Native.Nat.{ℕ, suc, _+_, _-_, _*_, _^_, _<_, min}
 use lib.IntN.{ℤ, pos, negsuc}
@@ -8,10 +8,7 @@ use lib.Dec.{T}
 use lib.Signed.{leZ}
 use lib.Ieee.{Float, binary32, ofBits, toSigned}
 use Rattle.float32.specs.Ops.{_*ᶠ_}
-
-abbrev pub bit : Bool → ℕ
-bit true = 1
-bit false = 0
+use Rattle.turns.specs.Sums.{bit}
 
 -- a number from −2 ^ 31 up, counted from there
 unfoldable pub shifted : ℤ → ℕ

@@ -12,8 +12,8 @@ abbrev pub keyAt : List (List ℕ) → ℕ → ℕ
 keyAt rows i = getD (getD rows i []) 0 0
 
 -- the card number of the row at a place, a u32
-abbrev pub cardAt : List (List ℕ) → ℕ → ℕ
-cardAt rows i = getD (getD rows i []) 1 0 % 2 ^ 32
+abbrev pub cardIndexAt : List (List ℕ) → ℕ → ℕ
+cardIndexAt rows i = getD (getD rows i []) 1 0 % 2 ^ 32
 
 abbrev pub parent : ℕ → ℕ
 parent i = (i - 1) / 2
@@ -62,7 +62,7 @@ queue rows n = record { rows = rows; len = n }
 
 -- the first card, 0 in an empty list
 abbrev pub front : Queue → ℕ
-front q = cardAt (q .rows) 0
+front q = cardIndexAt (q .rows) 0
 
 -- a place is free, and one more card can be counted in a u32
 abbrev pub hasRoom : Queue → Bool

@@ -4,7 +4,8 @@ ghost use mathlib.Core.Path.{_≡_};
 ghost use Prim.Native.Nat.{_+_, _-_, _*_, _^_, _<_, _≤_, min};
 ghost use lib.ListN.{set, length};
 ghost use Rattle.queue.specs.Queue.{keyAt, bubbleUp, sink, heapify, lesser, queue, front, pushed, popped, frontChanged};
-ghost use Rattle.queue.specs.Key.{bit, shifted, cardPriority};
+ghost use Rattle.turns.specs.Sums.{bit};
+ghost use Rattle.queue.specs.Key.{shifted, cardPriority};
 
 fn shifted(priority: i32) -> u64
     ensures { λ r. ⌜ (r ≡ shifted priority) × (r < 2 ^ 32) ⌝ }

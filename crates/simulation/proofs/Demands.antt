@@ -1,13 +1,17 @@
 -- THE DEMANDS, by number, of every call of the run, whatever is drawn: the record `Demands` of specs, filled in. Demand 2's equation and demand 3 stand in
 -- `simulate`'s own contract.
-use mathlib.Core.Path.{_≡_, refl}
+use mathlib.Core.Path.{_≡_, refl, sym, ap, _∙_}
+use mathlib.Core.List.{List}
 use mathlib.Core.Option.{some}
 use mathlib.Core.Logic.{_↔_, _≢_}
 use Prim.Native.Nat.{ℕ}
 use lib.ListN.{length}
 use lib.Ieee.{Float}
 use Rattle.draws.specs.Draws.{DrawRule}
-use Rattle.events.specs.Scalars.{plain}
+use Rattle.model.specs.Runtime.{SameRead}
+use Rattle.model.proofs.Runtime.{runtime-same}
+use Rattle.events.specs.Scalars.{Scalars, plain, kept}
+use Rattle.events.proofs.Loops.{kept-is}
 use Rattle.simulation.specs.declared.Refusal.{Refusal}
 use Rattle.simulation.specs.declared.Refusal.the-variants as refusal
 use Rattle.simulation.specs.declared.Check.the-variants as check
@@ -18,9 +22,10 @@ use Rattle.simulation.specs.declared.Stop.the-variants as stop
 use Rattle.simulation.specs.State.{State}
 use Rattle.simulation.specs.Rules.{Rules, rulesWith}
 use Rattle.simulation.specs.Entry.{Inputs, checked}
+use Rattle.simulation.specs.SetUp.{emptyDeck, addAllCards, setUp}
 use Rattle.simulation.specs.RunRefusals.{StopCondition}
 use Rattle.simulation.specs.Simulate.{progress, answerOf, resultFrom, simulatedBy}
-use Rattle.simulation.specs.Demands.{Demands, cardsOf, endOf, turnsOf}
+use Rattle.simulation.specs.Demands.{Demands, UnreadParameters, startOf, cardsOf, endOf, turnsOf}
 use Rattle.simulation.proofs.entry.Accepted.{accepted}
 use Rattle.simulation.proofs.turn.Stops.{stops-iff}
 use Rattle.simulation.proofs.run.Suits.{suits}
@@ -76,3 +81,11 @@ demands w i s =
       due-counts-left = λ e. due-left R i s (accepted i s e) (suits w i s (accepted i s e));
       no-due-refusal = no-due-refusal w i s;
     }
+
+-- what is not read of the parameters plays no part: the model is decided by what is kept of them
+same-model : (v v′ : List Float) → SameRead v v′ → plain v ≡ plain v′
+same-model v v′ p = sym (kept-is v) ∙ ap kept (runtime-same v v′ p) ∙ kept-is v′
+
+pub unread-parameters : (w : DrawRule) (i : Inputs) (s : State Float) (v : List Float) → UnreadParameters w i s v
+unfolding simulatedBy setUp emptyDeck addAllCards
+unread-parameters w i s v p e e′ = rw (e, e′) (ap (λ (x : Scalars). resultFrom (rulesWith w (i .config) x) (startOf (rulesWith w (i .config) x) i s)) (sym (same-model (i .parameters) v p)))

@@ -13,6 +13,9 @@ use Rattle.turns.specs.Run.{run}
 use Rattle.days.specs.Counts.{learnedAt, reviewedAt, correctAt, introducedAt}
 use Rattle.days.specs.Sums.{costAt}
 use Rattle.intervals.specs.Table.{heldIn}
+use Rattle.draws.specs.Draws.{DrawRule}
+use Rattle.model.specs.Runtime.{SameRead}
+use Rattle.events.specs.Scalars.{plain}
 use Rattle.events.specs.Drawn.{Drawn}
 use Rattle.simulation.specs.declared.Refusal.{Refusal}
 use Rattle.simulation.specs.declared.Refusal.the-variants as refusal
@@ -23,10 +26,10 @@ use Rattle.simulation.specs.declared.Answer.{Answer}
 use Rattle.simulation.specs.declared.Answer.the-variants as answer
 use Rattle.simulation.specs.State.{State, Lent, listsOf, withTable}
 use Rattle.simulation.specs.Invariant.{lapsesIn, DueBounds}
-use Rattle.simulation.specs.Rules.{Rules}
+use Rattle.simulation.specs.Rules.{Rules, rulesWith}
 use Rattle.simulation.specs.Turn.{next}
 use Rattle.simulation.specs.RunRefusals.{StopCondition}
-use Rattle.simulation.specs.Entry.{Inputs, listsOk, checked}
+use Rattle.simulation.specs.Entry.{Inputs, withParameters, listsOk, checked}
 use Rattle.simulation.specs.Frame.{firstPlaces, beyond}
 use Rattle.simulation.specs.SetUp.{keptCount, introducedBefore, newCardCount, setUp}
 use Rattle.simulation.specs.Simulate.{IsResult, progress, answerOf, rulesFor, runFrom, simulatedBy, simulated}
@@ -110,3 +113,9 @@ pub record Demands {C : Type 0} (R : Rules C) (i : Inputs) (s : State C) : Type 
   pub due-counts-left : checked i s ≡ check.Passed → DueBounds (cardsOf R i s) (R .span) (endOf R i s)
   -- no accepted call answers refusal 9: a card with a last date is put off only from a day that counts it
   pub no-due-refusal : checked i s ≡ check.Passed → (c : ℕ) (p : Progress) → simulatedBy R i s .answer ≢ some (answer.Refused (refusal.DueCount c) p)
+
+-- of two accepted calls that differ only in parameters 15 to 22 and in those past 33, one result, whatever is drawn
+abbrev pub UnreadParameters : DrawRule → Inputs → State Float → List Float → Type 0
+UnreadParameters w i s v =
+    SameRead (i .parameters) v → checked i s ≡ check.Passed → checked (withParameters v i) s ≡ check.Passed
+    → simulatedBy (rulesWith w (i .config) (plain v)) (withParameters v i) s ≡ simulatedBy (rulesWith w (i .config) (plain (i .parameters))) i s

@@ -28,6 +28,10 @@ pub record Inputs : Type 0 where
 abbrev pub inputs : SimulatorConfig → List Float → Float → ℕ → List (List Float) → List (List ℕ) → Inputs
 inputs config w retention seed existing counts = record { config = config; parameters = w; retention = retention; seed = seed; existing = existing; existing-counts = counts }
 
+-- the same inputs with other parameters
+abbrev pub withParameters : List Float → Inputs → Inputs
+withParameters w i = inputs (i .config) w (i .retention) (i .seed) (i .existing) (i .existing-counts)
+
 -- the first of the n numbers from i on that passes the test p, or i + n
 unfoldable pub firstWhere : (ℕ → Bool) → ℕ → ℕ → ℕ
 firstWhere p zero i = i

@@ -7,6 +7,7 @@ use native.Mathlib.Omega.{arith}
 use Rattle.intervals.specs.Table.{table, places, homeOf, nextOf, probe, lookupIn}
 use Rattle.intervals.proofs.Steps.{home-lt, next-lt, probe-free, probe-here, probe-on, step-none, lookup-none}
 use Rattle.intervals.proofs.Steps.{lookup-probe}
+use Rattle.intervals.proofs.Laws.{looked}
 use borrow.Author.Needs.{needs}
 use Rattle.intervals.proofs.lookup.Statement.{statement}
 use Rattle.intervals.proofs.lookup.Tie as tie
@@ -21,7 +22,7 @@ lesser-requires : tie.Need-lesser-requires Inv-loop μ-loop
 lesser-requires c κs = search needs
 
 returns : tie.Need-returns Inv-loop μ-loop
-returns c = sym (lookup-none (table (c .before .before .before .args .keys .now) (c .before .before .before .args .intervals .now)) (c .before .before .before .args .s) (c .before .before .before .args .r) (sym (c .before .lesser .ensures) ∙ c .if1 .taken))
+returns c = looked (table (c .before .before .before .args .keys .now) (c .before .before .before .args .intervals .now)) _ _ (sym (lookup-none (table (c .before .before .before .args .keys .now) (c .before .before .before .args .intervals .now)) (c .before .before .before .args .s) (c .before .before .before .args .r) (sym (c .before .lesser .ensures) ∙ c .if1 .taken)))
 
 home-requires : tie.Need-home-requires Inv-loop μ-loop
 home-requires c κs = search needs
@@ -45,9 +46,9 @@ returns-2 : tie.Need-returns-2 Inv-loop μ-loop
 returns-2 c =
     let at-loop = c .before .before .before in
     let start = at-loop .before .before .before .before .before in
-    sym
+    looked (table (start .args .keys .now) (start .args .intervals .now)) (start .args .s) (start .args .r) (sym
     (probe-free (table (start .args .keys .now) (start .args .intervals .now)) (start .args .s) (start .args .r) (at-loop .loop .left) (at-loop .loop .p) (omega arith) (c .if2 .taken))
-    ∙ at-loop .loop .inv .3
+    ∙ at-loop .loop .inv .3)
 
 mul-same : tie.Need-mul-same Inv-loop μ-loop
 mul-same c = search needs
@@ -75,9 +76,9 @@ returns-3 c =
     let at-if2 = c .before .before .before .before in
     let at-loop = at-if2 .before .before .before in
     let start = at-loop .before .before .before .before .before in
-    sym
+    looked (table (start .args .keys .now) (start .args .intervals .now)) (start .args .s) (start .args .r) (sym
     (probe-here (table (start .args .keys .now) (start .args .intervals .now)) (start .args .s) (start .args .r) (at-loop .loop .left) (at-loop .loop .p) (omega arith) (at-if2 .if2 .left) (sym (c .before .same .ensures) ∙ c .if3 .taken))
-    ∙ at-loop .loop .inv .3
+    ∙ at-loop .loop .inv .3)
 
 after-requires : tie.Need-after-requires Inv-loop μ-loop
 after-requires c κs = search needs
@@ -101,9 +102,10 @@ loop-again c = (
 returns-4 : tie.Need-returns-4 Inv-loop μ-loop
 returns-4 c =
     let start = c .before .before .before .before .before .before in
-    let z : c .before .loop .left ≡ 0 = omega arith in sym
+    let z : c .before .loop .left ≡ 0 = omega arith in
+    looked (table (start .args .keys .now) (start .args .intervals .now)) (start .args .s) (start .args .r) (sym
     (step-none (table (start .args .keys .now) (start .args .intervals .now)) (start .args .s) (start .args .r) (c .before .loop .p)) ∙
-    (rw z at (c .before .loop .inv .3))
+    (rw z at (c .before .loop .inv .3)))
 
 pub lookup-spec : {M : Type 1} → statement M
 lookup-spec =

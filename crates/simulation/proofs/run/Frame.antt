@@ -18,7 +18,7 @@ use Rattle.turns.specs.Run.{Next, takes, stops, RunState, run}
 use Rattle.turns.proofs.Loop.{Lawful, Follows, Same, run-follows}
 use Rattle.days.specs.Due.{dueDays}
 use Rattle.intervals.specs.Table.{Table, places, clearIn}
-use Rattle.intervals.proofs.Laws.{twin-clear, clear-places}
+use Rattle.intervals.proofs.Laws.{same-clear, clear-places}
 use Rattle.events.specs.Drawn.{Drawn}
 use Rattle.queue.specs.Queue.{queue}
 use Rattle.simulation.specs.declared.Check.the-variants as check
@@ -164,7 +164,7 @@ module _ {C : Type 0} (R : Rules C) (i : Inputs) (fit : Suits R i) (s s′ : Sta
 
   module _ (E : Type 0) (longer : places (s .table) ≤ places (s′ .table)) (even : E → places (s .table) ≡ places (s′ .table)) (x : Stop) (shared : Shared E x) (q : next R (endOf R i s) ≡ stops x) where
     tables : Alike E f f′
-    tables = record { same = refl; twin = twin-clear (s .table) (s′ .table) longer; even = λ z. omega (arith, even z, clear-places (s .table), clear-places (s′ .table)) }
+    tables = record { same = refl; entries = same-clear (s .table) (s′ .table) longer; even = λ z. omega (arith, even z, clear-places (s .table), clear-places (s′ .table)) }
 
     both : Same (Alike E) (next R) (run (next R) steps [] f) (run (next R) steps [] f′) x
     both = run-alike E R (fit .slots) steps f f′ tables x shared (own-here x q .stop)
@@ -190,7 +190,7 @@ module _ {C : Type 0} (R : Rules C) (i : Inputs) (fit : Suits R i) (s s′ : Sta
           turns-are = turns;
           places-are = subst (λ (n : ℕ). firstPlaces n (R .span) (endOf R i s′) ≡ withTable (endOf R i s′ .table) (firstPlaces n (R .span) (endOf R i s))) (sym cards-here)
               (second ∙ both .states .same ∙ ap (λ (t : Table). withTable t ((run (next R) steps [] f) .state)) (sym table′) ∙ ap (withTable (endOf R i s′ .table)) (sym first));
-          intervals-are = λ a b. rw (table, table′) (sym (both .states .twin .held a b));
+          intervals-are = λ a b. rw (table, table′) (sym (both .states .entries .held a b));
         }
 
 -- ---- the second call passes the entry too, and its table has as many places or more

@@ -24,7 +24,7 @@ use Rattle.intervals.specs.declared.Slot.{Slot}
 use Rattle.intervals.specs.declared.Slot.the-variants as slot
 use Rattle.intervals.specs.Table.{Table, places}
 use Rattle.intervals.specs.Schedule.{isFull, intervalOf, entered}
-use Rattle.intervals.proofs.Laws.{Twin}
+use Rattle.intervals.proofs.Laws.{SameEntries}
 use Rattle.events.specs.Drawn.{Drawn}
 use Rattle.simulation.specs.declared.Refusal.the-variants as refusal
 use Rattle.simulation.specs.declared.Stop.{Stop}
@@ -42,7 +42,7 @@ use Rattle.intervals.proofs.Change.{enter-places}
 -- the same state but for the table, which holds the same and is as long or longer; `E` says that it is as long
 pub record Alike {C : Type 0} (E : Type 0) (s s′ : State C) : Type 0 where
   pub same : s′ ≡ withTable (s′ .table) s
-  pub twin : Twin (s .table) (s′ .table)
+  pub entries : SameEntries (s .table) (s′ .table)
   pub even : E → places (s .table) ≡ places (s′ .table)
 
 -- the stops that both runs come to: the end, and with tables that are equally long every refusal
@@ -58,17 +58,17 @@ module _ {C : Type 0} (E : Type 0) (R : Rules C) (laws : Slots (R .model)) where
   abbrev Follow : Next (Turn Drawn) (State C) Stop → Next (Turn Drawn) (State C) Stop → Type 0
   Follow = Follows (Alike E) (Shared E)
 
-  module _ (s : State C) (t : Table) (w : Twin (s .table) t) (ev : E → places (s .table) ≡ places t) where
+  module _ (s : State C) (t : Table) (w : SameEntries (s .table) t) (ev : E → places (s .table) ≡ places t) where
     abbrev s′ : State C
     s′ = withTable t s
 
     -- the same interval from two slots, one for each table
-    handled-alike : (c : ℕ) (k : Card) (new : Bool) (d : ℕ) (y : Memory) (x x′ : Slot) → intervalOf x ≡ intervalOf x′ → Twin (entered (s .table) x) (entered t x′) → Alike E (afterEvent R s c k new d y x) (afterEvent R s′ c k new d y x′)
+    handled-alike : (c : ℕ) (k : Card) (new : Bool) (d : ℕ) (y : Memory) (x x′ : Slot) → intervalOf x ≡ intervalOf x′ → SameEntries (entered (s .table) x) (entered t x′) → Alike E (afterEvent R s c k new d y x) (afterEvent R s′ c k new d y x′)
     unfolding afterEvent
-    handled-alike c k new d y x x′ q tw = record { same = rw q; twin = tw; even = λ z. omega (arith, ev z, entered-places (s .table) x, entered-places t x′) }
+    handled-alike c k new d y x x′ q tw = record { same = rw q; entries = tw; even = λ z. omega (arith, ev z, entered-places (s .table) x, entered-places t x′) }
 
     slots-follow : (c : ℕ) (k : Card) (new : Bool) (d : ℕ) (y : Memory) (x x′ : Slot) (b : Bool) → isFull x ≡ b
-        → (isFull x ≡ false → (intervalOf x ≡ intervalOf x′) × (isFull x′ ≡ false) × Twin (entered (s .table) x) (entered t x′))
+        → (isFull x ≡ false → (intervalOf x ≡ intervalOf x′) × (isFull x′ ≡ false) × SameEntries (entered (s .table) x) (entered t x′))
         → (E → isFull x ≡ true → isFull x′ ≡ true)
         → Follow (eventWithSlot R s c k new d y x) (eventWithSlot R s′ c k new d y x′)
     slots-follow c k new d y slot.Full x′ true e h f = full
@@ -90,16 +90,16 @@ module _ {C : Type 0} (E : Type 0) (R : Rules C) (laws : Slots (R .model)) where
         go event.ChanceOutOfRange = λ z. refl
         go (event.Happened y) =
             let r = k .«desired_retention» in
-            slots-follow c k new d y (R .model .slot (s .table) (y .stability) r) (R .model .slot t (y .stability) r) (isFull (R .model .slot (s .table) (y .stability) r)) refl (laws .twins (s .table) t w (y .stability) r) (λ z. laws .fulls (s .table) t w (ev z) (y .stability) r)
+            slots-follow c k new d y (R .model .slot (s .table) (y .stability) r) (R .model .slot t (y .stability) r) (isFull (R .model .slot (s .table) (y .stability) r)) refl (laws .same-entries (s .table) t w (y .stability) r) (λ z. laws .fulls (s .table) t w (ev z) (y .stability) r)
 
     act-follows : (c : ℕ) (k : Card) (d : ℕ) (x : Choice) → Follow (act R s c k d x) (act R s′ c k d x)
     unfolding afterRetire afterPutOff
-    act-follows c k d choice.Retire = (refl, record { same = refl; twin = w; even = ev })
+    act-follows c k d choice.Retire = (refl, record { same = refl; entries = w; even = ev })
     act-follows c k d choice.PutOff = go (noneDue (s .due) (isNew (k .«last_date»)) d)
       where
         go : (b : Bool) → Follow (orElse b (refuses (refusal.DueCount c)) (takes (turnAs c d putOff) (afterPutOff R s c k d))) (orElse b (refuses (refusal.DueCount c)) (takes (turnAs c d putOff) (afterPutOff R s′ c k d)))
         go true = λ z. refl
-        go false = (refl, record { same = refl; twin = w; even = ev })
+        go false = (refl, record { same = refl; entries = w; even = ev })
     act-follows c k d choice.Learn = event-follows c k true d
     act-follows c k d choice.Review = event-follows c k false d
 
@@ -121,7 +121,7 @@ module _ {C : Type 0} (E : Type 0) (R : Rules C) (laws : Slots (R .model)) where
         go false = act-follows c k d (choiceOf (R .span) (R .lapse-limit) (R .limits) d k (learnedAt (s .days) d) (reviewedAt (s .days) d) (costAt (R .costs .none) (s .costs) d))
 
   follows : (s s′ : State C) → Alike E s s′ → Follow (next R s) (next R s′)
-  follows s s′ a = rw (a .same) (turn-follows s (s′ .table) (a .twin) (a .even))
+  follows s s′ a = rw (a .same) (turn-follows s (s′ .table) (a .entries) (a .even))
 
   -- the same turns, and states that differ in the table alone
   pub run-alike : (n : ℕ) (s s′ : State C) → Alike E s s′ → (x : Stop) → Shared E x → next R ((run (next R) n [] s) .state) ≡ stops x → Same (Alike E) (next R) (run (next R) n [] s) (run (next R) n [] s′) x

@@ -21,7 +21,6 @@ use Rattle.cards.specs.Cards.{noFloats, cardAt, floatsOf, writeFloats}
 use Rattle.cards.specs.Choices.{retires}
 use Rattle.cards.proofs.Later.{day-later, day-next, day-in-span, day-bound, one-in-range}
 use Rattle.days.proofs.Due.{move-long}
-use Rattle.queue.specs.Key as key
 use Rattle.queue.specs.Key.{cardPriority, priorityOf}
 use Rattle.queue.specs.Queue.{front, frontChanged, popped}
 use Rattle.queue.specs.Sound.{queued}
@@ -36,10 +35,6 @@ use Rattle.simulation.proofs.turn.Views.{view, columns}
 use Rattle.simulation.proofs.turn.Due.{due-put, due-retire}
 use Rattle.simulation.proofs.Logic.{or-left}
 
-bits-same : (b : Bool) → key.bit b ≡ bit b
-bits-same true = refl
-bits-same false = refl
-
 -- keys in order put places in order
 key-place : (d d′ : ℕ) (n n′ : Bool) (x x′ : Float) → d < 2147483648 → d′ < 2147483648 → cardPriority d n x ≤ cardPriority d′ n′ x′ → 2 * d + bit n ≤ 2 * d′ + bit n′
 unfolding cardPriority
@@ -47,7 +42,7 @@ key-place d d′ n n′ x x′ h h′ l =
     let e : min d (2 ^ 31 - 1) ≡ d = omega arith in
     let e′ : min d′ (2 ^ 31 - 1) ≡ d′ = omega arith in
     let p = packed-day (min d (2 ^ 31 - 1)) (min d′ (2 ^ 31 - 1)) n n′ (priorityOf x) (priorityOf x′) (priority-in x) (priority-in x′) l in
-    omega (arith, p, e, e′, bits-same n, bits-same n′)
+    omega (arith, p, e, e′)
 
 -- ---- rows of cards after one is written
 module _ (cards : List (List Float)) (c : ℕ) (k : Card) where

@@ -29,7 +29,7 @@ use Rattle.intervals.specs.declared.Slot.the-variants as slot
 use Rattle.intervals.specs.Schedule.{isFull}
 use Rattle.intervals.specs.Bucket.{stabilityBucket, retentionBucket}
 use Rattle.intervals.specs.Table.{places, heldIn, countIn}
-use Rattle.intervals.proofs.Laws.{Sound}
+use Rattle.intervals.specs.Table.{Sound}
 use Rattle.intervals.proofs.Schedule.{slot-full-iff}
 use Rattle.simulation.specs.declared.Refusal.{Refusal}
 use Rattle.simulation.specs.declared.Refusal.the-variants as refusal
