@@ -18,7 +18,7 @@ use Rattle.turns.specs.Sums.{bit}
 use Rattle.turns.proofs.Sums.{at-eq, at-ne}
 use Rattle.days.specs.Counts.{saturatingSuc}
 use Rattle.days.specs.Due.{dueDays, addOneAt, addDue, moveDue}
-use Rattle.days.proofs.Laws.{raised-is}
+use Rattle.days.proofs.Laws.{saturating-is}
 
 abbrev pub Below : ℕ → List ℕ → Type 0
 Below span due = (i : ℕ) → i < dueDays span → getD due i 0 < 4294967295
@@ -44,7 +44,7 @@ module _ (span : ℕ) (due : List ℕ) (d : ℕ) where
           → getD (cond (ltb d (dueDays span)) (addOneAt due d) due) i 0 ≡ getD due i 0 + bit (eqb d i)
       go (yes l) (yes e) =
           rw (lt-ltb d (dueDays span) l, e)
-          (getD-set-same due d x 0 (omega arith) ∙ raised-is (getD due d 0) (small d l) ∙ omega (arith, at-eq d d refl))
+          (getD-set-same due d x 0 (omega arith) ∙ saturating-is (getD due d 0) (small d l) ∙ omega (arith, at-eq d d refl))
       go (yes l) (no e) =
           rw (lt-ltb d (dueDays span) l) (getD-set-other due d i x 0 e ∙ omega (arith, at-ne d i (omega (arith, e))))
       go (no l) e = rw (le-ltb d (dueDays span) (omega (arith, l))) (omega (arith, at-ne d i (omega (arith, l))))

@@ -13,9 +13,9 @@ use Rattle.turns.specs.Sums.{bit}
 use Rattle.days.specs.Counts.{saturatingSuc, learnedAt, reviewedAt, correctAt, introducedAt, addLearn, addReview, addIntroduced, addIntroducedFrom}
 use Rattle.days.specs.Sums.{costAt, addCost}
 
-pub raised-is : (n : ℕ) → n < 4294967295 → saturatingSuc n ≡ n + 1
+pub saturating-is : (n : ℕ) → n < 4294967295 → saturatingSuc n ≡ n + 1
 unfolding saturatingSuc
-raised-is n h = rw (lt-ltb n 4294967295 h)
+saturating-is n h = rw (lt-ltb n 4294967295 h)
 
 -- ---- a row written anew: of its numbers one stays, or is one more
 module _ {A : Type 0} (rows : List (List A)) (d i j : ℕ) (row : List A) (x : A) where
@@ -34,7 +34,7 @@ raised-column rows d i j row h u e = go (ℕ-discrete i d)
   where
     go : Dec (i ≡ d) → getD (getD (set rows d row) i []) j 0 ≡ getD (getD rows i []) j 0 + bit (eqb d i)
     go (yes q) =
-        let own : getD (getD (set rows d row) d []) j 0 ≡ getD (getD rows d []) j 0 + 1 = ap (λ (l : List ℕ). getD l j 0) (getD-set-same rows d row [] h) ∙ e ∙ raised-is (getD (getD rows d []) j 0) u in
+        let own : getD (getD (set rows d row) d []) j 0 ≡ getD (getD rows d []) j 0 + 1 = ap (λ (l : List ℕ). getD l j 0) (getD-set-same rows d row [] h) ∙ e ∙ saturating-is (getD (getD rows d []) j 0) u in
         rw q (omega (arith, own, ap bit (eq-eqb d d refl)))
     go (no q) =
         let other : getD (getD (set rows d row) i []) j 0 ≡ getD (getD rows i []) j 0 = ap (λ (l : List ℕ). getD l j 0) (getD-set-other rows d i row [] q) in
@@ -153,12 +153,6 @@ review-correct rows d true i h u = raised-column rows d i 2 _ h u refl
 review-correct rows d false i h u = let e = same-column rows d i 2 (learnedAt rows d ∷ saturatingSuc (reviewedAt rows d) ∷ correctAt rows d ∷ introducedAt rows d ∷ []) 0 refl in omega (arith, e)
 
 -- ---- sums
-
--- within a list the default plays no part
-pub getD-any : {A : Type 0} (l : List A) (i : ℕ) (x y : A) → i < length l → getD l i x ≡ getD l i y
-getD-any [] i x y h = absurd (omega (arith, h))
-getD-any (z ∷ zs) zero x y h = refl
-getD-any (z ∷ zs) (suc i) x y h = getD-any zs i x y (omega (arith, h))
 
 module _ {C : Type 0} (none : C) (plus : C → C → C) (costs : List C) (d : ℕ) (x : C) where
   pub cost-long : length (addCost none plus costs d x) ≡ length costs

@@ -26,7 +26,7 @@ use Rattle.simulation.proofs.entry.Accepted.{accepted}
 use Rattle.simulation.proofs.run.Suits.{suits}
 use Rattle.simulation.proofs.run.DemandThree.{has-stopped, stops-so}
 use Rattle.simulation.proofs.run.Answers.{ok-demand}
-use Rattle.simulation.proofs.Logic.{not-one}
+use Rattle.turns.proofs.Logic.{not-one}
 
 not-finished : (r : Refusal) (p q : Progress) → answer.Refused r p ≡ answer.Finished q → ⊥
 not-finished r p q e = not-one cc

@@ -1,4 +1,3 @@
-pub mod Logic
 pub mod Lent
 pub mod Contract
 pub mod Demands

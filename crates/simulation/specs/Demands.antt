@@ -1,4 +1,10 @@
 -- WHAT IS PROMISED OF A RUN: demand 3 (`DemandThree`), the contract of a call (`RunContract`), and the other demands (`Demands`). Definitions only.
+--   startOf, cardsOf, stateAfter, endOf, turnsOf   a call's run: its start, cards, states and turns
+--   RowsOf, LongerTable, SameRun   parts of the claims
+--   DemandThree                    demand 3 of a call that ends Ok
+--   RunContract                    what `simulate` promises
+--   Demands                        all else that is claimed, whatever is drawn
+--   UnreadParameters               which parameters play no part
 use Prim.Native.Nat.{ℕ, suc, _+_, _*_, _≤_}
 use mathlib.Core.Path.{_≡_}
 use mathlib.Core.Bool.{true}

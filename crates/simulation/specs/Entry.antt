@@ -1,4 +1,8 @@
--- The entry's tests, in document 01's order. Definitions only.
+-- The entry's tests, in their order (docs/RULES.md, E1 to E9). Definitions only.
+--   Inputs, inputs, withParameters   what a run is given besides the lists that it writes
+--   firstWhere p n i                 the first number that passes a test
+--   checkParameters, listsOk, checkFirst   refusals 1, 6 and 5
+--   checked i s                      all tests, in their order
 use Prim.Native.Nat.{ℕ, zero, suc, _+_}
 use mathlib.Core.Bool.{Bool, true, false, not, _&&_, _||_, cond}
 use mathlib.Core.List.{List}

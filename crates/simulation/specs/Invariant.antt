@@ -1,5 +1,8 @@
 -- WHAT A STATE MUST SATISFY for a run to be lawful from it, in parts: `Lengths`, `InOrder`, `TableInRange`, `Counts`, `DueCounts`. Set-up leaves such a state, and every turn
 -- keeps it one, by any rules whose slots are lawful; `DueBounds` is what it says of the due counts. Definitions only.
+--   dayIn, newIn, keyIn, lapsesIn, ..   a card's numbers, by the lists of rows
+--   RunBounds                           of the span and the number of cards
+--   StateInvariant                      of a state: its parts are the records before it
 use Prim.Native.Nat.{ℕ, _+_, _≤_, _<_, min}
 use mathlib.Core.Bool.{Bool, false, not, _&&_}
 use mathlib.Core.List.{List, []}

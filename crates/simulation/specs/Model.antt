@@ -1,4 +1,7 @@
 -- THE MEMORY MODEL of a run: what the turn rule asks of one, and FSRS-7 with its interval table. Definitions only.
+--   Model      what the turn rule asks
+--   modelOf    FSRS-7 with its interval table, of a configuration and a model's scalars
+--   curveFor   a card's forgetting curve
 use Prim.Native.Nat.{ℕ}
 use mathlib.Core.Bool.{Bool}
 use lib.Ieee.{Float}
@@ -38,6 +41,6 @@ modelOf g x = record {
   slot = λ t s r. slotIn (λ v. certifies (λ d. x .chance d s) s r v (g .«max_ivl»)) (x .interval s r (g .«max_ivl»)) t (stabilityBucket s) (retentionBucket r);
 }
 
--- a card's forgetting curve, which a review asks for its chance and the held sums ask for each day
+-- a card's forgetting curve, which a review asks for its chance and the memorized sums ask for each day
 abbrev pub curveFor : Fsrs7Runtime → Card → Curve
 curveFor m k = Runtime.curveOf m (Plain.ofStability (k .stability))

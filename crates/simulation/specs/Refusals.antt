@@ -1,4 +1,4 @@
--- The numbers of document 01's table, "Where a call is turned away". Definitions only.
+-- The numbers of the refusals (docs/RULES.md, E8). Definitions only.
 use Prim.Native.Nat.{ℕ}
 use Rattle.simulation.specs.declared.Refusal.{Refusal}
 use Rattle.simulation.specs.declared.Refusal.the-variants as refusal

@@ -1,4 +1,6 @@
 -- THE RULES OF A RUN: all that a turn reads besides the state. Definitions only.
+--   Rules C            the record
+--   rulesWith, rulesOf   of a configuration, by any way to draw and by SplitMix64
 use Prim.Native.Nat.{ℕ}
 use lib.Ieee.{Float}
 use Rattle.draws.specs.Draws.{DrawRule, splitMix}

@@ -1,4 +1,4 @@
--- WHEN A RUN STOPS, AND HOW: a condition for each stop, on the state that the turns taken lead to, whose queue's first card has the turn. Definitions only.
+-- WHEN A RUN STOPS, AND HOW (docs/RULES.md, R1 to R4): a condition for each stop, on the state that the turns taken lead to, whose queue's first card has the turn. Definitions only.
 --   turnCard, turnDay, turnChoice   that card, its day, and what the turn does with it
 --   ChanceRefused, TableRefused, DueRefused   refusals 7, 8 and 9, with card c
 --   StopCondition R s x             the condition for the stop x

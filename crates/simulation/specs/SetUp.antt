@@ -1,4 +1,9 @@
--- How a run is set up from its inputs and the lent lists. Definitions only.
+-- How a run is set up from its inputs and the lent lists (docs/RULES.md, S1 to S5). Definitions only.
+--   newCard, newCardCount      a new card, and how many there are
+--   Deck, addCard              what the joining of cards writes, and one card more
+--   addKeptCard, addExistingCard, addExistingCards, addNewCards, addAllCards   existing and new cards
+--   keptCount, introducedBefore   how many existing cards are kept, and how many of these have a last date
+--   setUp none i s             the state that a run begins with
 use Prim.Native.Nat.{ℕ, zero, suc, _+_, _-_, _/_}
 use mathlib.Core.Bool.{true, not, _&&_, cond}
 use mathlib.Core.List.{List, [], _∷_}

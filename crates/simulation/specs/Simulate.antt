@@ -1,4 +1,9 @@
 -- THE RUN, from its inputs and the lent lists to its answer and the lists that it leaves. Definitions only.
+--   Result, answerOf, answerIf   an answer with the state that is left
+--   rulesFor i                   the rules of a run's inputs
+--   bound, runFrom, resultFrom   a run from a state
+--   simulatedBy R i s, simulated i s   a call, by any rules and by its own
+--   IsResult x r l               what a call says and leaves is the result x
 use Prim.Native.Nat.{ℕ, suc, _*_}
 use mathlib.Core.List.{[]}
 use mathlib.Core.Option.{Option, none, some}

@@ -1,4 +1,9 @@
 -- The state of a run: the lent lists, the queue's length and the state of the draws. Definitions only.
+--   mostCards, mostDays       the largest deck and the longest span
+--   State C, Lent C           the state of a run, and the lists as a caller has them
+--   state, listsOf            the one from the other
+--   keyOf k, cardIn s c       a card's order key; the card at place c
+--   withCards, withQueue, ..  a state with one part written anew
 use Prim.Native.Nat.{ℕ}
 use mathlib.Core.List.{List}
 use lib.Ieee.{Float}

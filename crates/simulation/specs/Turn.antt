@@ -1,4 +1,9 @@
--- THE TURN RULE of document 01, as one definition, `next`, over any rules of a run. Definitions only.
+-- THE TURN RULE (docs/RULES.md, T3 to T7) as one definition, `next`, over any rules of a run. Definitions only.
+--   cardAfterPutOff, cardAfterEvent      the card after a turn
+--   addForgettingCurve m memorized k e   what is memorized of a card up to day e
+--   afterRetire, afterPutOff, afterEvent the state after a turn
+--   eventOn, act, turnOfCard             what a turn does: an event, by a choice, of a card
+--   next R s                             the next turn, or the stop
 use Prim.Native.Nat.{ℕ, _-_}
 use mathlib.Core.Bool.{Bool, true, false, cond}
 use mathlib.Core.List.{List}

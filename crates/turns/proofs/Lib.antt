@@ -1,3 +1,4 @@
+pub mod Logic
 pub mod Sums
 pub mod Counting
 pub mod Chain

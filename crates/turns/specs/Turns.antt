@@ -1,4 +1,4 @@
--- The turns of a run, what is counted of them, and what is claimed of the whole list (document 01, "What demand 3 counts").
+-- THE TURNS OF A RUN, what is counted of them, and what is claimed of the whole list (docs/RULES.md, D2 to D5).
 -- A list of turns is kept LATEST FIRST: behind a turn stand the turns before it.
 -- Nothing here names a model version, a way to draw or a number format: `E` is whatever an event records besides its kind, such as its
 -- ratings, and `C` is whatever costs are, with their own sum.

@@ -1,5 +1,5 @@
 -- `cards::amounts_ok` meets its contract.
-use Rattle.cards.proofs.Basics.{not-true, not-false, and-true}
+use Rattle.turns.proofs.Logic.{not-true, not-false, and-true}
 use borrow.Author.Needs.{needs}
 use Rattle.cards.proofs.amounts_ok.Statement.{statement}
 use Rattle.cards.proofs.amounts_ok.Tie as tie

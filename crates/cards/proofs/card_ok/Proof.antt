@@ -1,5 +1,5 @@
 -- `cards::card_ok` meets its contract.
-use Rattle.cards.proofs.Basics.{not-true, not-false}
+use Rattle.turns.proofs.Logic.{not-true, not-false}
 use Rattle.cards.specs.Cards.{cardOk}
 use Rattle.cards.proofs.card_ok.Statement.{statement}
 use Rattle.cards.proofs.card_ok.Tie as tie

@@ -1,5 +1,5 @@
 -- `cards::config_ok` meets its contract.
-use Rattle.cards.proofs.Basics.{not-true, not-false}
+use Rattle.turns.proofs.Logic.{not-true, not-false}
 use Rattle.cards.specs.Config.{configOk}
 use Rattle.cards.proofs.config_ok.Statement.{statement}
 use Rattle.cards.proofs.config_ok.Tie as tie

@@ -1,7 +1,7 @@
 -- `cards::counts_at` meets its contract.
 use lib.ListN.{List·getD-eq-default}
 use mathlib.Core.Path.{sym}
-use Rattle.cards.proofs.Basics.{getD-any}
+use Rattle.turns.proofs.Logic.{getD-any}
 use borrow.Author.Needs.{needs}
 use Rattle.cards.proofs.counts_at.Statement.{statement}
 use Rattle.cards.proofs.counts_at.Tie as tie

@@ -2,7 +2,7 @@
 use lib.Ieee.{ofBits, ofFields, div}
 use lib.ListN.{List·getD-eq-default}
 use mathlib.Core.Path.{sym}
-use Rattle.cards.proofs.Basics.{getD-any}
+use Rattle.turns.proofs.Logic.{getD-any}
 use borrow.Author.Needs.{needs}
 use Rattle.cards.proofs.floats_at.Statement.{statement}
 use Rattle.cards.proofs.floats_at.Tie as tie

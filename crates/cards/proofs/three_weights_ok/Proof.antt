@@ -1,5 +1,5 @@
 -- `cards::three_weights_ok` meets its contract.
-use Rattle.cards.proofs.Basics.{not-true, not-false}
+use Rattle.turns.proofs.Logic.{not-true, not-false}
 use Rattle.cards.specs.Config.{weightsOk}
 use Rattle.draws.specs.Draws.{sumFrom}
 use borrow.Author.Needs.{needs}

@@ -2,7 +2,7 @@
 use mathlib.Core.List.{List}
 use lib.Ieee.{Float}
 use mathlib.Core.Path.{ap, _∙_}
-use Rattle.cards.proofs.Basics.{not-true, not-false}
+use Rattle.turns.proofs.Logic.{not-true, not-false}
 use Rattle.cards.specs.Config.{weightsOk, rowOf, transitionsOk}
 use Rattle.cards.proofs.transitions_ok.Statement.{statement}
 use Rattle.cards.proofs.transitions_ok.Tie as tie

@@ -2,7 +2,7 @@ use mathlib.Core.Path.{sym, ap}
 use lib.Seq.{set-out}
 use lib.ListN.{set}
 use lib.Ieee.{Float, binary32, add}
-use Rattle.days.proofs.Laws.{getD-any}
+use Rattle.turns.proofs.Logic.{getD-any}
 use Rattle.days.specs.Sums.{addCost}
 use borrow.Author.Needs.{needs}
 use Rattle.days.proofs.add_cost.Statement.{statement}

@@ -1,6 +1,6 @@
 use mathlib.Core.Path.{sym}
 use lib.ListN.{List·getD-eq-default}
-use Rattle.days.proofs.Laws.{getD-any}
+use Rattle.turns.proofs.Logic.{getD-any}
 use borrow.Author.Needs.{needs}
 use Rattle.days.proofs.cost_at.Statement.{statement}
 use Rattle.days.proofs.cost_at.Tie as tie

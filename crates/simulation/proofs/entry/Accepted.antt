@@ -16,7 +16,7 @@ use Rattle.simulation.specs.declared.Check.the-variants as check
 use Rattle.simulation.specs.State.{State}
 use Rattle.simulation.proofs.entry.FirstWhere.{none-before}
 use Rattle.simulation.specs.Entry.{Inputs, firstWhere, notFinite, notOk, failIf, checkParameters, listsOk, checkFirst, checked}
-use Rattle.simulation.proofs.Logic.{not-one, both, neither, unnot}
+use Rattle.turns.proofs.Logic.{not-one, both, neither, not-false}
 
 pub record Accepted {C : Type 0} (i : Inputs) (s : State C) : Type 0 where
   pub parameters-long : 34 ≤ length (i .parameters)
@@ -45,7 +45,7 @@ passes true r next e = absurd (not-one cc)
 passes false r next e = (refl, e)
 
 kept-ok : (a b : Bool) → (a && not b) ≡ false → a ≡ true → b ≡ true
-kept-ok true b e k = unnot b e
+kept-ok true b e k = not-false b e
 kept-ok false b e k = absurd (false≢true k)
 
 -- what refusal 6 asks, written out
@@ -79,8 +79,8 @@ accepted i s e =
     let p₈ = passes (ltb (firstWhere (notOk (i .existing) (i .existing-counts)) n 0) n) _ _ (p₇ .1) in
     let d = neither (eqb (g .«deck_size») 0) (ltb 65536 (g .«deck_size»)) (p₃ .0) in
     let t = neither (eqb (g .«learn_span») 0) (ltb 36500 (g .«learn_span»)) (p₄ .0) in
-    let c = both (configOk g) (isFinite (i .retention)) (unnot _ (p₅ .0)) in
-    let l₁ = both (eqb n (length (i .existing-counts))) _ (unnot _ (p₆ .0)) in
+    let c = both (configOk g) (isFinite (i .retention)) (not-false _ (p₅ .0)) in
+    let l₁ = both (eqb n (length (i .existing-counts))) _ (not-false _ (p₆ .0)) in
     let l₂ = both (eqb (length (s .table .keys)) (length (s .table .intervals))) _ (l₁ .1) in
     let l₃ = both (eqb (length (s .cards)) (length (s .counts))) _ (l₂ .1) in
     let l₄ = both (leb (g .«deck_size») (length (s .cards))) _ (l₃ .1) in
@@ -99,7 +99,7 @@ accepted i s e =
       span-most = ltb-false 36500 (g .«learn_span») (t .1);
       config-ok = c .0;
       retention-ok = c .1;
-      lists-ok = unnot _ (p₆ .0);
+      lists-ok = not-false _ (p₆ .0);
       existing-even = eqb-true n (length (i .existing-counts)) (l₁ .0);
       table-even = eqb-true (length (s .table .keys)) (length (s .table .intervals)) (l₂ .0);
       cards-even = even;

@@ -14,7 +14,7 @@ use Rattle.simulation.specs.declared.Refusal.the-variants as refusal
 use Rattle.simulation.specs.declared.Check.{Check}
 use Rattle.simulation.specs.declared.Check.the-variants as check
 use Rattle.simulation.specs.Entry.{firstWhere, notFinite, failIf, checkParameters}
-use Rattle.simulation.proofs.Logic.{not-one}
+use Rattle.turns.proofs.Logic.{not-one}
 use Rattle.simulation.proofs.entry.Accepted.{passes}
 
 fails : (b : Bool) (r : Refusal) (c next : Check) → (c ≡ check.Passed → ⊥) → (x y : Check) → (x ≡ c → y ≡ c) → failIf b r x ≡ c → failIf b r y ≡ c

@@ -27,7 +27,7 @@ use Rattle.simulation.proofs.entry.Accepted.{Accepted, accepted}
 use Rattle.simulation.proofs.run.Suits.{Suits}
 use Rattle.simulation.proofs.run.DemandThree.{has-stopped, stops-so, daily-rules, rows-are}
 use Rattle.simulation.proofs.run.Frame.{longer-table}
-use Rattle.simulation.proofs.Logic.{not-one}
+use Rattle.turns.proofs.Logic.{not-one}
 
 same-finished : (p q : Progress) → some (answer.Finished p) ≡ some (answer.Finished q) → p ≡ q
 same-finished p q e = cc

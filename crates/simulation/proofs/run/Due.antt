@@ -29,7 +29,7 @@ use Rattle.simulation.proofs.turn.Invariant.{is-card, in-span}
 use Rattle.simulation.proofs.turn.Lawful.{keeps}
 use Rattle.simulation.proofs.run.Suits.{Suits}
 use Rattle.simulation.proofs.run.DemandThree.{run-bounds, start-good}
-use Rattle.simulation.proofs.Logic.{not-one, both}
+use Rattle.turns.proofs.Logic.{not-one, both}
 
 -- a card that is put off is not retired
 put-stays : (a b new : Bool) → choose a b new ≡ choice.PutOff → a ≡ false

@@ -20,7 +20,7 @@ use Rattle.simulation.specs.State.{State, Lent, listsOf, state}
 use Rattle.simulation.specs.Rules.{Rules}
 use Rattle.simulation.specs.Turn.{next}
 use Rattle.simulation.specs.Steps.{stopIn, TurnContract, RunTurns}
-use Rattle.simulation.proofs.Logic.{not-one}
+use Rattle.turns.proofs.Logic.{not-one}
 
 -- the state of a state's lists
 state-is : {C : Type 0} (s : State C) (l : Lent C) (n r : ℕ) → l ≡ listsOf s → n ≡ s .queue .len → r ≡ s .draws → state l n r ≡ s

@@ -40,7 +40,7 @@ use Rattle.simulation.specs.Invariant.{RunBounds, StateInvariant}
 use Rattle.simulation.proofs.turn.Slots.{Slots, table-slots}
 use Rattle.simulation.proofs.turn.Views.{columns}
 use Rattle.simulation.proofs.entry.Accepted.{Accepted, accepted}
-use Rattle.simulation.proofs.Logic.{not-one, both}
+use Rattle.turns.proofs.Logic.{not-one, both}
 use Rattle.simulation.proofs.set_up.Invariant.{set-up-few, set-up-start, set-up-good}
 use Rattle.simulation.proofs.turn.Lawful.{turns-demand, turns-rows, ends}
 

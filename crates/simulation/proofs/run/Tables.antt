@@ -33,7 +33,7 @@ use Rattle.simulation.specs.State.{State, cardIn, withTable}
 use Rattle.simulation.specs.Rules.{Rules}
 use Rattle.simulation.specs.Turn.{refuses, turnAs, afterRetire, afterPutOff, afterEvent, eventWithSlot, eventWithDraw, eventOn, orElse, act, turnOfCard, next}
 use Rattle.simulation.proofs.turn.Slots.{Slots}
-use Rattle.simulation.proofs.Logic.{not-one}
+use Rattle.turns.proofs.Logic.{not-one}
 use Rattle.simulation.proofs.turn.Calls.{event-taken, event-full}
 use mathlib.Core.Logic.{_⊎_, inl, inr}
 use native.Mathlib.Omega.{arith}

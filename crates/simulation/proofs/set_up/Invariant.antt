@@ -41,7 +41,7 @@ use Rattle.simulation.proofs.turn.Invariant.{write-long, else-key, else
 use Rattle.simulation.proofs.turn.Events.{counts-long, own-lapses, else-lapses}
 use Rattle.simulation.proofs.set_up.Due.{due-new, due-kept, kept-long}
 use Rattle.simulation.proofs.entry.Accepted.{Accepted}
-use Rattle.simulation.proofs.Logic.{both}
+use Rattle.turns.proofs.Logic.{both}
 
 -- ---- a list with its first places filled
 pub filled-long : {A : Type 0} (x : A) (n : ℕ) (l : List A) → length (filled x n l) ≡ length l

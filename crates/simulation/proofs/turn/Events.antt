@@ -20,11 +20,11 @@ use Rattle.turns.proofs.Demand.{Step}
 use Rattle.cards.specs.declared.Card.{Card}
 use Rattle.cards.specs.Day.{IntervalInRange, dayOf, isNew}
 use Rattle.cards.specs.Cards.{cardAt, noCounts, writeFloats, writeCounts, countsOf}
-use Rattle.cards.proofs.Basics.{getD-any}
+use Rattle.turns.proofs.Logic.{getD-any}
 use Rattle.cards.proofs.Later.{day-later, day-bound}
 use Rattle.days.specs.Counts.{saturatingSuc, learnedAt, reviewedAt, correctAt, introducedAt, addLearn, addReview, addIntroducedFrom, addEvent}
 use Rattle.days.specs.Sums.{costAt, addCost}
-use Rattle.days.proofs.Laws.{raised-is, learn-long, learn-learned, learn-reviewed, learn-correct, learn-introduced, from-long, from-learned, from-reviewed, from-correct, from-introduced, review-long, review-learned, review-reviewed, review-introduced, review-correct, cost-long, cost-added}
+use Rattle.days.proofs.Laws.{saturating-is, learn-long, learn-learned, learn-reviewed, learn-correct, learn-introduced, from-long, from-learned, from-reviewed, from-correct, from-introduced, review-long, review-learned, review-reviewed, review-introduced, review-correct, cost-long, cost-added}
 use Rattle.days.specs.Due.{dueDays, addDue}
 use Rattle.days.proofs.Due.{add-long}
 use Rattle.events.specs.declared.Memory.{Memory}
@@ -275,7 +275,7 @@ module _ {C : Type 0} (R : Rules C) (cards : ℕ) (fine : RunBounds (R .span) ca
 
     lapsed : (b : Bool) (n : ℕ) → n < 4294967295 → cond b n (saturatingSuc n) ≡ n + bit (not b)
     lapsed true n l = omega arith
-    lapsed false n l = raised-is n l
+    lapsed false n l = saturating-is n l
 
     more-lapses : lapsesIn (writeCounts (s .counts) c k′) c ≡ lapsesIn (s .counts) c + bit (not (x .recalled))
     unfolding cardAfterEvent

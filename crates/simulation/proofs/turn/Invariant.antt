@@ -33,7 +33,7 @@ use Rattle.simulation.specs.Rules.{Rules}
 use Rattle.simulation.specs.Invariant.{difficultyIn, dayIn, newIn, keyIn, RunBounds, StateInvariant}
 use Rattle.simulation.proofs.turn.Views.{view, columns}
 use Rattle.simulation.proofs.turn.Due.{due-put, due-retire}
-use Rattle.simulation.proofs.Logic.{or-left}
+use Rattle.turns.proofs.Logic.{or-left}
 
 -- keys in order put places in order
 key-place : (d d′ : ℕ) (n n′ : Bool) (x x′ : Float) → d < 2147483648 → d′ < 2147483648 → cardPriority d n x ≤ cardPriority d′ n′ x′ → 2 * d + bit n ≤ 2 * d′ + bit n′

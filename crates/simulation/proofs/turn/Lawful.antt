@@ -42,7 +42,7 @@ use Rattle.simulation.proofs.turn.Views.{view, columns}
 use Rattle.simulation.proofs.turn.Slots.{Slots}
 use Rattle.simulation.proofs.turn.Invariant.{in-span, step-put, good-put, step-retire, good-retire}
 use Rattle.simulation.proofs.turn.Events.{step-learn, good-learn, step-review, good-review}
-use Rattle.simulation.proofs.Logic.{or-left, or-right, and-right}
+use Rattle.turns.proofs.Logic.{or-left, or-right, and-right}
 
 module _ {C : Type 0} (R : Rules C) (cards : ℕ) (fine : RunBounds (R .span) cards) (laws : Slots (R .model)) where
   abbrev Steps : List (Turn Drawn) → State C → Turn Drawn → State C → Type 0

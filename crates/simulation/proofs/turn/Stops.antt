@@ -40,7 +40,7 @@ use Rattle.simulation.specs.Rules.{Rules, rulesWith}
 use Rattle.simulation.specs.Turn.{refuses, turnAs, afterPutOff, eventWithSlot, eventWithDraw, eventOn, orElse, act, turnOfCard, next}
 use Rattle.simulation.specs.RunRefusals.{turnCard, turnDay, turnChoice, eventChoice, ChanceRefused, TableRefused, DueRefused, StopCondition}
 use Rattle.simulation.proofs.turn.Calls.{event-full}
-use Rattle.simulation.proofs.Logic.{not-one}
+use Rattle.turns.proofs.Logic.{not-one}
 
 happened-not : (y : Memory) → event.Happened y ≡ event.ChanceOutOfRange → ⊥
 happened-not y e = not-one cc

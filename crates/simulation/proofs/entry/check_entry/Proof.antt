@@ -1,7 +1,7 @@
 -- `simulation::entry::check_entry` meets its contract.
 use borrow.Author.Tests.{lt-ltb, le-ltb, eq-eqb, ne-eqb}
 use mathlib.Core.Path.{_≡_, sym, _∙_}
-use Rattle.cards.proofs.Basics.{not-true, not-false}
+use Rattle.turns.proofs.Logic.{not-true, not-false}
 use Rattle.simulation.specs.declared.Check.the-variants as check
 use Rattle.simulation.specs.Entry.{checkParameters, checked}
 use Rattle.simulation.proofs.entry.Parameters.{parameters-pass, parameters-fail}
