@@ -1,4 +1,4 @@
--- Each list is cut at a length that is at most its own.
+-- Each list is cut at a length that is at most its own, and a run leaves the front that it is lent as long as it was.
 use mathlib.Core.Path.{sym}
 use denote.Ref.{now}
 use lib.Seq.{length-take-le, length-front}
@@ -152,91 +152,137 @@ simulate-requires c κs = search needs
 
 same-length : tie.Need-same-length
 same-length c =
-    let at-run = c .before .before .before .before .before .before .before .before .before .before .before .before .before in
-    let at-cut = at-run .before .before .before .before .before .before .before .before .before .before .before .before in
-    let at-cut = at-cut .before .before .before .before .before .before .before .before .before .before .before .before in
-    let at-cut = at-cut .before .before .before .before .before .before .before .before .before .before .before .before in
-    let at-cut = at-cut .before in
+    let at-run = c .before .before .before .before .before .before .before .before .before .before .before in
+    let at-run = at-run .before .before in
+    let at-cut = at-run .before .before .before .before .before .before .before .before .before .before .before in
+    let at-cut = at-cut .before .before .before .before .before .before .before .before .before .before .before in
+    let at-cut = at-cut .before .before .before .before .before .before .before .before .before .before .before in
+    let at-cut = at-cut .before .before .before .before in
     let at-start = at-cut .before .before .before .before .before .before .before in
-    length-front (now (at-start .args .cards)) (at-run .simulate .last .0) (at-cut .at-most .result) (at-run .simulate .kept .0)
+    length-front
+    (now (at-start .args .cards))
+    (at-run .simulate .last .0)
+    (at-cut .at-most .result)
+    (at-run .simulate .kept .0)
 
 same-length-2 : tie.Need-same-length-2
 same-length-2 c =
-    let at-run = c .before .before .before .before .before .before .before .before .before .before .before .before .before in
-    let at-cut = at-run .before .before .before .before .before .before .before .before .before .before .before .before in
-    let at-cut = at-cut .before .before .before .before .before .before .before .before .before .before .before .before in
-    let at-cut = at-cut .before .before .before .before .before .before .before .before .before .before in
+    let at-run = c .before .before .before .before .before .before .before .before .before .before .before in
+    let at-run = at-run .before .before in
+    let at-cut = at-run .before .before .before .before .before .before .before .before .before .before .before in
+    let at-cut = at-cut .before .before .before .before .before .before .before .before .before .before .before in
+    let at-cut = at-cut .before .before .before .before .before .before .before .before .before .before .before in
+    let at-cut = at-cut .before in
     let at-start = at-cut .before .before .before .before .before .before .before .before .before .before in
-    length-front (now (at-start .args .counts)) (at-run .simulate .last .1 .0) (at-cut .at-most2 .result) (at-run .simulate .kept .1 .0)
+    length-front
+    (now (at-start .args .counts))
+    (at-run .simulate .last .1 .0)
+    (at-cut .at-most2 .result)
+    (at-run .simulate .kept .1 .0)
 
 same-length-3 : tie.Need-same-length-3
 same-length-3 c =
-    let at-run = c .before .before .before .before .before .before .before .before .before .before .before .before .before in
-    let at-cut = at-run .before .before .before .before .before .before .before .before .before .before .before .before in
-    let at-cut = at-cut .before .before .before .before .before .before .before .before .before .before .before .before in
-    let at-cut = at-cut .before .before .before .before .before .before .before in
-    let at-start = at-cut .before .before .before .before .before .before .before .before .before .before .before .before in
-    let at-start = at-start .before in
-    length-front (now (at-start .args .queue)) (at-run .simulate .last .1 .1 .0) (at-cut .at-most3 .result) (at-run .simulate .kept .1 .1 .0)
+    let at-run = c .before .before .before .before .before .before .before .before .before .before .before in
+    let at-run = at-run .before .before in
+    let at-cut = at-run .before .before .before .before .before .before .before .before .before .before .before in
+    let at-cut = at-cut .before .before .before .before .before .before .before .before .before .before .before in
+    let at-cut = at-cut .before .before .before .before .before .before .before .before .before in
+    let at-start = at-cut .before .before .before .before .before .before .before .before .before .before .before in
+    let at-start = at-start .before .before in
+    length-front
+    (now (at-start .args .queue))
+    (at-run .simulate .last .1 .1 .0)
+    (at-cut .at-most3 .result)
+    (at-run .simulate .kept .1 .1 .0)
 
 same-length-4 : tie.Need-same-length-4
 same-length-4 c =
-    let at-run = c .before .before .before .before .before .before .before .before .before .before .before .before .before in
-    let at-cut = at-run .before .before .before .before .before .before .before .before .before .before .before .before in
-    let at-cut = at-cut .before .before .before .before .before .before .before .before .before .before .before .before in
-    let at-cut = at-cut .before .before .before .before in
-    let at-start = at-cut .before .before .before .before .before .before .before .before .before .before .before .before in
-    let at-start = at-start .before .before .before .before in
-    length-front (now (at-start .args .days)) (at-run .simulate .last .1 .1 .1 .0) (at-cut .at-most4 .result) (at-run .simulate .kept .1 .1 .1 .0)
+    let at-run = c .before .before .before .before .before .before .before .before .before .before .before in
+    let at-run = at-run .before .before in
+    let at-cut = at-run .before .before .before .before .before .before .before .before .before .before .before in
+    let at-cut = at-cut .before .before .before .before .before .before .before .before .before .before .before in
+    let at-cut = at-cut .before .before .before .before .before .before in
+    let at-start = at-cut .before .before .before .before .before .before .before .before .before .before .before in
+    let at-start = at-start .before .before .before .before .before in
+    length-front
+    (now (at-start .args .days))
+    (at-run .simulate .last .1 .1 .1 .0)
+    (at-cut .at-most4 .result)
+    (at-run .simulate .kept .1 .1 .1 .0)
 
 same-length-5 : tie.Need-same-length-5
 same-length-5 c =
-    let at-run = c .before .before .before .before .before .before .before .before .before .before .before .before .before in
-    let at-cut = at-run .before .before .before .before .before .before .before .before .before .before .before .before in
-    let at-cut = at-cut .before .before .before .before .before .before .before .before .before .before .before .before in
-    let at-cut = at-cut .before in
-    let at-start = at-cut .before .before .before .before .before .before .before .before .before .before .before .before in
-    let at-start = at-start .before .before .before .before .before .before .before in
-    length-front (now (at-start .args .costs)) (at-run .simulate .last .1 .1 .1 .1 .0) (at-cut .at-most5 .result) (at-run .simulate .kept .1 .1 .1 .1 .0)
+    let at-run = c .before .before .before .before .before .before .before .before .before .before .before in
+    let at-run = at-run .before .before in
+    let at-cut = at-run .before .before .before .before .before .before .before .before .before .before .before in
+    let at-cut = at-cut .before .before .before .before .before .before .before .before .before .before .before in
+    let at-cut = at-cut .before .before .before in
+    let at-start = at-cut .before .before .before .before .before .before .before .before .before .before .before in
+    let at-start = at-start .before .before .before .before .before .before .before .before in
+    length-front
+    (now (at-start .args .costs))
+    (at-run .simulate .last .1 .1 .1 .1 .0)
+    (at-cut .at-most5 .result)
+    (at-run .simulate .kept .1 .1 .1 .1 .0)
 
 same-length-6 : tie.Need-same-length-6
 same-length-6 c =
-    let at-run = c .before .before .before .before .before .before .before .before .before .before .before .before .before in
-    let at-cut = at-run .before .before .before .before .before .before .before .before .before .before .before .before in
-    let at-cut = at-cut .before .before .before .before .before .before .before .before .before .before in
-    let at-start = at-cut .before .before .before .before .before .before .before .before .before .before .before .before in
-    let at-start = at-start .before .before .before .before .before .before .before .before .before .before in
-    length-front (now (at-start .args .memorized)) (at-run .simulate .last .1 .1 .1 .1 .1 .0) (at-cut .at-most6 .result) (at-run .simulate .kept .1 .1 .1 .1 .1 .0)
+    let at-run = c .before .before .before .before .before .before .before .before .before .before .before in
+    let at-run = at-run .before .before in
+    let at-cut = at-run .before .before .before .before .before .before .before .before .before .before .before in
+    let at-cut = at-cut .before .before .before .before .before .before .before .before .before .before .before in
+    let at-start = at-cut .before .before .before .before .before .before .before .before .before .before .before in
+    let at-start = at-start .before .before .before .before .before .before .before .before .before .before .before in
+    length-front
+    (now (at-start .args .memorized))
+    (at-run .simulate .last .1 .1 .1 .1 .1 .0)
+    (at-cut .at-most6 .result)
+    (at-run .simulate .kept .1 .1 .1 .1 .1 .0)
 
 same-length-7 : tie.Need-same-length-7
 same-length-7 c =
-    let at-run = c .before .before .before .before .before .before .before .before .before .before .before .before .before in
-    let at-cut = at-run .before .before .before .before .before .before .before .before .before .before .before .before in
-    let at-cut = at-cut .before .before .before .before .before .before .before in
-    let at-start = at-cut .before .before .before .before .before .before .before .before .before .before .before .before in
-    let at-start = at-start .before .before .before .before .before .before .before .before .before .before .before .before in
-    let at-start = at-start .before in
-    length-front (now (at-start .args .due)) (at-run .simulate .last .1 .1 .1 .1 .1 .1 .0) (at-cut .at-most7 .result) (at-run .simulate .kept .1 .1 .1 .1 .1 .1 .0)
+    let at-run = c .before .before .before .before .before .before .before .before .before .before .before in
+    let at-run = at-run .before .before in
+    let at-cut = at-run .before .before .before .before .before .before .before .before .before .before .before in
+    let at-cut = at-cut .before .before .before .before .before .before .before .before in
+    let at-start = at-cut .before .before .before .before .before .before .before .before .before .before .before in
+    let at-start = at-start .before .before .before .before .before .before .before .before .before .before .before in
+    let at-start = at-start .before .before .before in
+    length-front
+    (now (at-start .args .due))
+    (at-run .simulate .last .1 .1 .1 .1 .1 .1 .0)
+    (at-cut .at-most7 .result)
+    (at-run .simulate .kept .1 .1 .1 .1 .1 .1 .0)
 
 same-length-8 : tie.Need-same-length-8
 same-length-8 c =
-    let at-run = c .before .before .before .before .before .before .before .before .before .before .before .before .before in
-    let at-cut = at-run .before .before .before .before .before .before .before .before .before .before .before .before in
-    let at-cut = at-cut .before .before .before .before in
-    let at-start = at-cut .before .before .before .before .before .before .before .before .before .before .before .before in
-    let at-start = at-start .before .before .before .before .before .before .before .before .before .before .before .before in
-    let at-start = at-start .before .before .before .before in
-    length-front (now (at-start .args .keys)) (at-run .simulate .last .1 .1 .1 .1 .1 .1 .1 .0) (at-cut .at-most8 .result) (at-run .simulate .kept .1 .1 .1 .1 .1 .1 .1 .0)
+    let at-run = c .before .before .before .before .before .before .before .before .before .before .before in
+    let at-run = at-run .before .before in
+    let at-cut = at-run .before .before .before .before .before .before .before .before .before .before .before in
+    let at-cut = at-cut .before .before .before .before .before in
+    let at-start = at-cut .before .before .before .before .before .before .before .before .before .before .before in
+    let at-start = at-start .before .before .before .before .before .before .before .before .before .before .before in
+    let at-start = at-start .before .before .before .before .before .before in
+    length-front
+    (now (at-start .args .keys))
+    (at-run .simulate .last .1 .1 .1 .1 .1 .1 .1 .0)
+    (at-cut .at-most8 .result)
+    (at-run .simulate .kept .1 .1 .1 .1 .1 .1 .1 .0)
 
 same-length-9 : tie.Need-same-length-9
 same-length-9 c =
-    let at-run = c .before .before .before .before .before .before .before .before .before .before .before .before .before in
-    let at-cut = at-run .before .before .before .before .before .before .before .before .before .before .before .before in
-    let at-cut = at-cut .before in
-    let at-start = at-cut .before .before .before .before .before .before .before .before .before .before .before .before in
-    let at-start = at-start .before .before .before .before .before .before .before .before .before .before .before .before in
-    let at-start = at-start .before .before .before .before .before .before .before in
-    length-front (now (at-start .args .intervals)) (at-run .simulate .last .1 .1 .1 .1 .1 .1 .1 .1 .0) (at-cut .at-most9 .result) (at-run .simulate .kept .1 .1 .1 .1 .1 .1 .1 .1 .0)
+    let at-run = c .before .before .before .before .before .before .before .before .before .before .before in
+    let at-run = at-run .before .before in
+    let at-cut = at-run .before .before .before .before .before .before .before .before .before .before .before in
+    let at-cut = at-cut .before .before in
+    let at-start = at-cut .before .before .before .before .before .before .before .before .before .before .before in
+    let at-start = at-start .before .before .before .before .before .before .before .before .before .before .before in
+    let at-start = at-start .before .before .before .before .before .before .before .before .before in
+    length-front
+    (now (at-start .args .intervals))
+    (at-run .simulate .last .1 .1 .1 .1 .1 .1 .1 .1 .0)
+    (at-cut .at-most9 .result)
+    (at-run .simulate .kept .1 .1 .1 .1 .1 .1 .1 .1 .0)
 
 returns : tie.Need-returns
 returns c = search needs
