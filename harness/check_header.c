@@ -35,12 +35,13 @@ int main(void) {
     const float four[4] = {0, 0, 0, 1}, three[3] = {0, 0, 1}, twelve[12] = {1, 1, 1, 1, 1, 1, 1, 1, 1, 1, 1, 1};
     const float no_cards[1][6] = {{0}};
     const uint32_t no_counts[1][2] = {{0}};
-    float cards[1][6] = {{0}}, sums[1][2] = {{9, 9}};
+    float cards[1][6] = {{0}}, costs[1] = {9}, memorized[1] = {9};
     uint32_t counts[1][2] = {{0}}, days[1][4] = {{0}}, due[1] = {9};
     uint64_t queue[1][2] = {{0}}, answer[5] = {9, 9, 9, 9, 9};
     drill_simulate(w, 34, no_cards, 0, no_counts, 0, &numbers, 10, 100, &four, &three, &twelve, &twelve, &twelve, 0.9f, 42, cards, 1,
-                   counts, 1, queue, 1, days, 1, sums, 1, due, 1, keys, 2, intervals, 2, &answer);
-    good &= answer[0] == 0 && answer[2] == 2 && answer[3] == 1 && days[0][0] == 1 && days[0][3] == 1 && sums[0][0] == 1;
+                   counts, 1, queue, 1, days, 1, costs, 1, memorized, 1, due, 1, keys, 2, intervals, 2, &answer);
+    good &= answer[0] == 0 && answer[2] == 2 && answer[3] == 1 && days[0][0] == 1 && days[0][3] == 1 && costs[0] == 1;
+    good &= 0 < memorized[0] && memorized[0] <= 1;
     puts(good ? "header: compiled, linked, and each function called" : "header: a function answered wrongly");
     return !good;
 }

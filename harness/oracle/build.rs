@@ -169,7 +169,8 @@ fn traced(s: &mut Source) {
             "    /*dbg!((",
             "    trace.cards = cards.iter().map(probe::card_rows).collect();\n\
              \x20   trace.days = (0..config.learn_span).map(|d| [learn_cnt_per_day[d], review_cnt_per_day[d], correct_cnt_per_day[d], introduced_cnt_per_day[d]].map(|n| n as u32)).collect();\n\
-             \x20   trace.sums = (0..config.learn_span).map(|d| [cost_per_day[d], if record_daily_memorized { memorized_cnt_per_day[d] } else { 0.0 }]).collect();\n\
+             \x20   trace.costs = (0..config.learn_span).map(|d| cost_per_day[d]).collect();\n\
+             \x20   trace.memorized = (0..config.learn_span).map(|d| if record_daily_memorized { memorized_cnt_per_day[d] } else { 0.0 }).collect();\n\
              \x20   trace.due = due_cnt_per_day.iter().map(|&n: &usize| n as u32).collect();\n\
              \x20   trace.table = probe::table_rows(certified_interval_cache.as_ref());\n\
              \x20   trace.queue = probe::queue_rows(&card_priorities);\n\

@@ -1,6 +1,6 @@
-// Digests of a run's lists, of every place that was lent: a word for the cards with their counts, for the days with their sums,
-// for the due counts, and for the interval table. Each word goes in by a draw from the digest and the word. The table's is a
-// sum over the places in use, since where a key lies is the port's own matter.
+// Digests of a run's lists, of every place that was lent: a word for the cards with their counts, for the days with their costs
+// and what is memorized, for the due counts, and for the interval table. Each word goes in by a draw from the digest and the
+// word. The table's is a sum over the places in use, since where a key lies is the port's own matter.
 use crate::answers::drawn;
 use crate::answers::join;
 
@@ -44,10 +44,9 @@ fn day_at(d: u32, days: &[[u32; 4]], i: usize) -> u32 {
     d
 }
 
-fn sums_at(d: u32, sums: &[[f32; 2]], i: usize) -> u32 {
-    if i < sums.len() {
-        let row = sums[i];
-        return add_float(add_float(d, row[0]), row[1]);
+fn float_at(d: u32, list: &[f32], i: usize) -> u32 {
+    if i < list.len() {
+        return add_float(d, list[i]);
     }
     d
 }
@@ -75,14 +74,15 @@ fn at(
     cards: &[[f32; 6]],
     counts: &[[u32; 2]],
     days: &[[u32; 4]],
-    sums: &[[f32; 2]],
+    costs: &[f32],
+    memorized: &[f32],
     due: &[u32],
     keys: &[[u32; 2]],
     intervals: &[f32],
 ) -> Digests {
     Digests {
         cards: counts_at(card_at(d.cards, cards, i), counts, i),
-        days: sums_at(day_at(d.days, days, i), sums, i),
+        days: float_at(float_at(day_at(d.days, days, i), costs, i), memorized, i),
         due: due_at(d.due, due, i),
         table: std::num::wrapping_add_u32(d.table, entry_at(keys, intervals, i)),
     }
@@ -94,7 +94,8 @@ pub fn of_lists(
     cards: &[[f32; 6]],
     counts: &[[u32; 2]],
     days: &[[u32; 4]],
-    sums: &[[f32; 2]],
+    costs: &[f32],
+    memorized: &[f32],
     due: &[u32],
     keys: &[[u32; 2]],
     intervals: &[f32],
@@ -107,7 +108,18 @@ pub fn of_lists(
     };
     let mut i = 0;
     while i < n {
-        d = at(d, i, cards, counts, days, sums, due, keys, intervals);
+        d = at(
+            d,
+            i,
+            cards,
+            counts,
+            days,
+            costs,
+            memorized,
+            due,
+            keys,
+            intervals,
+        );
         i += 1;
     }
     d

@@ -4,8 +4,8 @@
 //   71: setting a is b: max_cost_perday, max_ivl, desired retention; then first_rating_prob, review_rating_prob, the two
 //       tables of transitions, and the costs, row by row
 //   72, 73: of existing card a difficulty, stability and last_date; due, interval and desired_retention. 74: reps and lapses
-//   75: list a is b places long: cards, counts, queue, days, sums, due, keys, intervals, existing cards, existing counts,
-//       parameters
+//   75: list a is b places long: cards, counts, queue, days, costs, memorized, due, keys, intervals, existing cards,
+//       existing counts, parameters
 use crate::record::Record;
 use cards::SimulatorConfig;
 use float32::from_bits;

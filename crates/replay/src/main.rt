@@ -84,7 +84,7 @@ fn run_step(
     settings: &mut [f32; 46],
     existing: &mut [[f32; 6]; 4096],
     existing_counts: &mut [[u32; 2]; 4096],
-    lengths: &mut [u32; 11],
+    lengths: &mut [u32; 12],
     r: record::Record,
 ) {
     let function = r.function;
@@ -105,7 +105,7 @@ fn main() {
     let mut settings = [0.0; 46];
     let mut existing = [[0.0; 6]; 4096];
     let mut existing_counts = [[0u32; 2]; 4096];
-    let mut lengths = [0u32; 11];
+    let mut lengths = [0u32; 12];
     let mut len = 0u32;
     let mut left = 100000u32;
     while left > 0 {

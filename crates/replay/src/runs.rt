@@ -23,16 +23,27 @@ fn show(
     cards: &[[f32; 6]],
     counts: &[[u32; 2]],
     days: &[[u32; 4]],
-    sums: &[[f32; 2]],
+    costs: &[f32],
+    memorized: &[f32],
     due: &[u32],
     keys: &[[u32; 2]],
     intervals: &[f32],
 ) {
     shown::answer(answer);
     if shown::has_run(answer) {
-        shown::rows(days, sums, span);
+        shown::rows(days, costs, memorized, span);
     }
-    let d = digest::of_lists(16384, cards, counts, days, sums, due, keys, intervals);
+    let d = digest::of_lists(
+        16384,
+        cards,
+        counts,
+        days,
+        costs,
+        memorized,
+        due,
+        keys,
+        intervals,
+    );
     shown::digests(d);
 }
 
@@ -42,7 +53,8 @@ fn called(
     counts: &mut [[u32; 2]],
     queue: &mut [[u64; 2]],
     days: &mut [[u32; 4]],
-    sums: &mut [[f32; 2]],
+    costs: &mut [f32],
+    memorized: &mut [f32],
     due: &mut [u32],
     keys: &mut [[u32; 2]],
     intervals: &mut [f32],
@@ -51,7 +63,7 @@ fn called(
     existing_counts: &[[u32; 2]],
     numbers: &[u32; 8],
     settings: &[f32; 46],
-    lengths: &[u32; 11],
+    lengths: &[u32; 12],
     seed: u64,
 ) -> Answer {
     let cards_len = at_most(lengths[0], cards.len());
@@ -62,26 +74,29 @@ fn called(
     let lent_queue = &mut queue[..queue_len];
     let days_len = at_most(lengths[3], days.len());
     let lent_days = &mut days[..days_len];
-    let sums_len = at_most(lengths[4], sums.len());
-    let lent_sums = &mut sums[..sums_len];
-    let due_len = at_most(lengths[5], due.len());
+    let costs_len = at_most(lengths[4], costs.len());
+    let lent_costs = &mut costs[..costs_len];
+    let memorized_len = at_most(lengths[5], memorized.len());
+    let lent_memorized = &mut memorized[..memorized_len];
+    let due_len = at_most(lengths[6], due.len());
     let lent_due = &mut due[..due_len];
-    let keys_len = at_most(lengths[6], keys.len());
+    let keys_len = at_most(lengths[7], keys.len());
     let lent_keys = &mut keys[..keys_len];
-    let intervals_len = at_most(lengths[7], intervals.len());
+    let intervals_len = at_most(lengths[8], intervals.len());
     let lent_intervals = &mut intervals[..intervals_len];
     simulation::simulate(
         lent_cards,
         lent_counts,
         lent_queue,
         lent_days,
-        lent_sums,
+        lent_costs,
+        lent_memorized,
         lent_due,
         lent_keys,
         lent_intervals,
-        &w[..at_most(lengths[10], w.len())],
-        &existing[..at_most(lengths[8], existing.len())],
-        &existing_counts[..at_most(lengths[9], existing_counts.len())],
+        &w[..at_most(lengths[11], w.len())],
+        &existing[..at_most(lengths[9], existing.len())],
+        &existing_counts[..at_most(lengths[10], existing_counts.len())],
         inputs::config_of(numbers, settings),
         settings[2],
         seed,
@@ -118,9 +133,9 @@ fn keep_cards(
     }
 }
 
-fn keep_lengths(lengths: &mut [u32; 11], n: u32) {
-    lengths[8] = n;
+fn keep_lengths(lengths: &mut [u32; 12], n: u32) {
     lengths[9] = n;
+    lengths[10] = n;
 }
 
 pub fn run(
@@ -129,14 +144,15 @@ pub fn run(
     settings: &[f32; 46],
     existing: &mut [[f32; 6]],
     existing_counts: &mut [[u32; 2]],
-    lengths: &mut [u32; 11],
+    lengths: &mut [u32; 12],
     r: Record,
 ) {
     let mut cards: [[f32; 6]; 4096] = [[9.0; 6]; 4096];
     let mut counts: [[u32; 2]; 4096] = [[9; 2]; 4096];
     let mut queue: [[u64; 2]; 4096] = [[9; 2]; 4096];
     let mut days: [[u32; 4]; 400] = [[9; 4]; 400];
-    let mut sums: [[f32; 2]; 400] = [[9.0; 2]; 400];
+    let mut costs: [f32; 400] = [9.0; 400];
+    let mut memorized: [f32; 400] = [9.0; 400];
     let mut due: [u32; 600] = [9; 600];
     let mut keys: [[u32; 2]; 16384] = [[9; 2]; 16384];
     let mut intervals: [f32; 16384] = [9.0; 16384];
@@ -145,7 +161,8 @@ pub fn run(
         &mut counts,
         &mut queue,
         &mut days,
-        &mut sums,
+        &mut costs,
+        &mut memorized,
         &mut due,
         &mut keys,
         &mut intervals,
@@ -163,7 +180,8 @@ pub fn run(
         &cards,
         &counts,
         &days,
-        &sums,
+        &costs,
+        &memorized,
         &due,
         &keys,
         &intervals,

@@ -2,7 +2,7 @@
 use crate::digest::Digests;
 use simulation::Answer;
 use simulation::Progress;
-use simulation::Refusal;
+use simulation::refusals;
 
 fn wide(x: u32) -> u64 {
     x as u64
@@ -18,36 +18,6 @@ fn blank() {
 
 fn end() {
     io::write_all(1, b"\n");
-}
-
-fn number_of(refusal: Refusal) -> u32 {
-    match refusal {
-        Refusal::Parameters(_) => 1,
-        Refusal::DeckSize => 2,
-        Refusal::TooManyCards => 2,
-        Refusal::LearnSpan => 3,
-        Refusal::Config => 4,
-        Refusal::ExistingCard(_) => 5,
-        Refusal::Lists => 6,
-        Refusal::ChanceOutOfRange(_) => 7,
-        Refusal::TableFull(_) => 8,
-        Refusal::DueCount(_) => 9,
-    }
-}
-
-fn second_of(refusal: Refusal) -> u32 {
-    match refusal {
-        Refusal::Parameters(i) => i,
-        Refusal::ExistingCard(i) => i,
-        Refusal::ChanceOutOfRange(c) => c,
-        Refusal::TableFull(c) => c,
-        Refusal::DueCount(c) => c,
-        Refusal::TooManyCards => 1,
-        Refusal::DeckSize => 0,
-        Refusal::LearnSpan => 0,
-        Refusal::Config => 0,
-        Refusal::Lists => 0,
-    }
 }
 
 fn numbers(number: u32, second: u32, p: Progress) {
@@ -67,7 +37,7 @@ fn numbers(number: u32, second: u32, p: Progress) {
 pub fn answer(a: Answer) {
     match a {
         Answer::Finished(p) => numbers(0, 0, p),
-        Answer::Refused(r, p) => numbers(number_of(r), second_of(r), p),
+        Answer::Refused(r, p) => numbers(refusals::number_of(r), refusals::second_of(r), p),
     }
 }
 
@@ -75,7 +45,7 @@ pub fn answer(a: Answer) {
 pub fn has_run(a: Answer) -> bool {
     match a {
         Answer::Finished(_) => true,
-        Answer::Refused(r, _) => number_of(r) > 6,
+        Answer::Refused(r, _) => refusals::number_of(r) > 6,
     }
 }
 
@@ -86,7 +56,7 @@ pub fn cards_of(a: Answer) -> u32 {
     }
 }
 
-fn day(counts: [u32; 4], sums: [f32; 2]) {
+fn day(counts: [u32; 4], cost: f32, memorized: f32) {
     word(counts[0]);
     blank();
     word(counts[1]);
@@ -95,25 +65,27 @@ fn day(counts: [u32; 4], sums: [f32; 2]) {
     blank();
     word(counts[3]);
     blank();
-    word(float32::to_bits(sums[0]));
+    word(float32::to_bits(cost));
     blank();
-    word(float32::to_bits(sums[1]));
+    word(float32::to_bits(memorized));
     end();
 }
 
-fn day_at(days: &[[u32; 4]], sums: &[[f32; 2]], i: usize) {
+fn day_at(days: &[[u32; 4]], costs: &[f32], memorized: &[f32], i: usize) {
     if i < days.len() {
-        if i < sums.len() {
-            day(days[i], sums[i]);
+        if i < costs.len() {
+            if i < memorized.len() {
+                day(days[i], costs[i], memorized[i]);
+            }
         }
     }
 }
 
-pub fn rows(days: &[[u32; 4]], sums: &[[f32; 2]], span: u32) {
+pub fn rows(days: &[[u32; 4]], costs: &[f32], memorized: &[f32], span: u32) {
     let n = span as usize;
     let mut i = 0;
     while i < n {
-        day_at(days, sums, i);
+        day_at(days, costs, memorized, i);
         i += 1;
     }
 }

@@ -31,8 +31,10 @@ unsafe extern "C" {
         queue_len: usize,
         days: *mut [u32; 4],
         days_len: usize,
-        sums: *mut [f32; 2],
-        sums_len: usize,
+        costs: *mut f32,
+        costs_len: usize,
+        memorized: *mut f32,
+        memorized_len: usize,
         due: *mut u32,
         due_len: usize,
         keys: *mut [u32; 2],
@@ -106,14 +108,15 @@ impl<T: Place> List<T> {
     }
 }
 
-/// How long each list is. The lent rows of cards and of counts are alike but where that is tried.
+/// How long each list is.
 #[derive(Clone, Debug, PartialEq)]
 pub struct Lengths {
     pub cards: usize,
     pub counts: usize,
     pub queue: usize,
     pub days: usize,
-    pub sums: usize,
+    pub costs: usize,
+    pub memorized: usize,
     pub due: usize,
     pub keys: usize,
     pub intervals: usize,
@@ -131,7 +134,8 @@ impl Lengths {
             counts: deck,
             queue: deck,
             days: span,
-            sums: span,
+            costs: span,
+            memorized: span,
             due: span + span / 2,
             keys: c.places,
             intervals: c.places,
@@ -141,23 +145,24 @@ impl Lengths {
     }
 
     /// The written lists but the cards with their counts and the interval table.
-    pub fn written(&mut self) -> [&mut usize; 4] {
-        [&mut self.queue, &mut self.days, &mut self.sums, &mut self.due]
+    pub fn written(&mut self) -> [&mut usize; 5] {
+        [&mut self.queue, &mut self.days, &mut self.costs, &mut self.memorized, &mut self.due]
     }
 
     /// The lists that have a place for each day.
-    pub fn of_days(&self) -> [usize; 2] {
-        [self.days, self.sums]
+    pub fn of_days(&self) -> [usize; 3] {
+        [self.days, self.costs, self.memorized]
     }
 
     /// The lengths in the order of the fields, with their names.
-    pub fn each(&mut self) -> [(&'static str, &mut usize); 10] {
+    pub fn each(&mut self) -> [(&'static str, &mut usize); 11] {
         [
             ("cards", &mut self.cards),
             ("counts", &mut self.counts),
             ("queue", &mut self.queue),
             ("days", &mut self.days),
-            ("sums", &mut self.sums),
+            ("costs", &mut self.costs),
+            ("memorized", &mut self.memorized),
             ("due", &mut self.due),
             ("keys", &mut self.keys),
             ("intervals", &mut self.intervals),
@@ -216,7 +221,8 @@ pub struct Lists {
     pub counts: List<[u32; 2]>,
     pub queue: List<[u64; 2]>,
     pub days: List<[u32; 4]>,
-    pub sums: List<[f32; 2]>,
+    pub costs: List<f32>,
+    pub memorized: List<f32>,
     pub due: List<u32>,
     pub keys: List<[u32; 2]>,
     pub intervals: List<f32>,
@@ -232,7 +238,8 @@ impl Lists {
             counts: List::new(n.counts),
             queue: List::new(n.queue),
             days: List::new(n.days),
-            sums: List::new(n.sums),
+            costs: List::new(n.costs),
+            memorized: List::new(n.memorized),
             due: List::new(n.due),
             keys,
             intervals: List::new(n.intervals),
@@ -270,8 +277,10 @@ impl Lists {
                 self.queue.places().len(),
                 self.days.places_mut().as_mut_ptr(),
                 self.days.places().len(),
-                self.sums.places_mut().as_mut_ptr(),
-                self.sums.places().len(),
+                self.costs.places_mut().as_mut_ptr(),
+                self.costs.places().len(),
+                self.memorized.places_mut().as_mut_ptr(),
+                self.memorized.places().len(),
                 self.due.places_mut().as_mut_ptr(),
                 self.due.places().len(),
                 self.keys.places_mut().as_mut_ptr(),
@@ -284,14 +293,6 @@ impl Lists {
         answer
     }
 
-    pub fn cost_mut(&mut self, day: usize) -> &mut f32 {
-        &mut self.sums.places_mut()[day][0]
-    }
-
-    pub fn memorized_mut(&mut self, day: usize) -> &mut f32 {
-        &mut self.sums.places_mut()[day][1]
-    }
-
     /// Whether every place but those that a run of so many cards and days may write is as it was lent; of the interval table
     /// a run may write every place.
     fn spared(&self, call: &Call, cards: usize, span: usize, places: usize) -> bool {
@@ -299,7 +300,8 @@ impl Lists {
             && self.counts.marked_but(cards)
             && self.queue.marked_but(cards)
             && self.days.marked_but(span)
-            && self.sums.marked_but(span)
+            && self.costs.marked_but(span)
+            && self.memorized.marked_but(span)
             && self.due.marked_but(span + span / 2)
             && self.keys.marked_but(self.keys.places().len())
             && self.keys.places().iter().skip(places).all(|k| *k == call.poison)
@@ -324,8 +326,8 @@ impl Lists {
             counts: self.counts.first(deck).to_vec(),
             queue: self.queue.first(queued.min(deck)).to_vec(),
             days: self.days.first(span).to_vec(),
-            costs: self.sums.first(span).iter().map(|row| bits(row[0])).collect(),
-            memorized: self.sums.first(span).iter().map(|row| bits(row[1])).collect(),
+            costs: self.costs.first(span).iter().map(|x| bits(*x)).collect(),
+            memorized: self.memorized.first(span).iter().map(|x| bits(*x)).collect(),
             due: self.due.first(span + span / 2).to_vec(),
             table: held(self.keys.places(), self.intervals.places()),
             spared: self.spared(call, deck, span, call.lengths.keys),

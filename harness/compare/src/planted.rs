@@ -60,8 +60,8 @@ fn bits() -> Vec<Named> {
         after("a card's column", |_, lists, _| lists.cards.places_mut().iter_mut().take(1).for_each(|row| flip(&mut row[4]))),
         after("lapses", |_, lists, answer| lists.counts.places_mut().iter_mut().take(answer[3] as usize).for_each(|row| row[1] ^= 1)),
         after("introduced on the last day", |call, lists, _| lists.days.places_mut()[call.case.learn_span as usize - 1][3] ^= 1),
-        after("a cost", |_, lists, _| flip(lists.cost_mut(0))),
-        after("memorized", |_, lists, _| flip(lists.memorized_mut(0))),
+        after("a cost", |_, lists, _| flip(&mut lists.costs.places_mut()[0])),
+        after("memorized", |_, lists, _| flip(&mut lists.memorized.places_mut()[0])),
         after("the last due count", |call, lists, _| {
             let span = call.case.learn_span as usize;
             lists.due.places_mut()[span + span / 2 - 1] ^= 1
@@ -80,10 +80,18 @@ fn beyond() -> Vec<Named> {
             }
         }),
         after("the guard place before the cards", |_, lists, _| lists.cards.guards_mut()[0][5] = 0.0),
+        after("the guard place after the costs", |_, lists, _| *lists.costs.guards_mut()[1] = 0.0),
+        after("the guard place before memorized", |_, lists, _| *lists.memorized.guards_mut()[0] = 0.0),
         after("the guard place before the due counts", |_, lists, _| *lists.due.guards_mut()[0] = 0),
         after("the guard place after the intervals", |_, lists, _| *lists.intervals.guards_mut()[1] = 0.0),
         after("a place beyond the days", |call, lists, _| {
             lists.days.places_mut().iter_mut().skip(call.case.learn_span as usize).for_each(|row| row[0] = 0)
+        }),
+        after("a cost beyond the days", |call, lists, _| {
+            lists.costs.places_mut().iter_mut().skip(call.case.learn_span as usize).for_each(|x| *x = 0.0)
+        }),
+        after("memorized beyond the days", |call, lists, _| {
+            lists.memorized.places_mut().iter_mut().skip(call.case.learn_span as usize).for_each(|x| *x = 0.0)
         }),
         after("a card's place beyond the run's cards", |_, lists, answer| {
             lists.cards.places_mut().iter_mut().skip(answer[3] as usize).for_each(|row| row[0] = 0.0)
@@ -92,14 +100,21 @@ fn beyond() -> Vec<Named> {
 }
 
 /// A list written at an entry's refusal.
-fn writes_at_refusal() -> Named {
-    named("a day written at an entry's refusal", |call, lists| {
-        let answer = port(call, lists);
-        if (1..=6).contains(&answer[0]) {
-            lists.days.places_mut().iter_mut().take(1).for_each(|row| row[0] = 0);
-        }
-        answer
-    })
+fn writes_at_refusal() -> Vec<Named> {
+    let writes = |name: &str, write: fn(&mut Lists)| {
+        named(&format!("{name} written at an entry's refusal"), move |call, lists| {
+            let answer = port(call, lists);
+            if (1..=6).contains(&answer[0]) {
+                write(lists);
+            }
+            answer
+        })
+    };
+    vec![
+        writes("a day", |lists| lists.days.places_mut().iter_mut().take(1).for_each(|row| row[0] = 0)),
+        writes("a cost", |lists| lists.costs.places_mut().iter_mut().take(1).for_each(|x| *x = 0.0)),
+        writes("memorized", |lists| lists.memorized.places_mut().iter_mut().take(1).for_each(|x| *x = 0.0)),
+    ]
 }
 
 /// Sizes, lengths and ways of making a call that are reached.
@@ -124,7 +139,7 @@ fn reached() -> Vec<Named> {
         }),
         after("memorized on the last of more than 400 days", |call, lists, _| {
             if call.case.learn_span > 400 {
-                flip(lists.memorized_mut(call.case.learn_span as usize - 1))
+                flip(&mut lists.memorized.places_mut()[call.case.learn_span as usize - 1])
             }
         }),
         refuses("lists of exactly the needed length refused", 6, |call| call.lengths == Lengths::needed(&call.case)),
@@ -196,6 +211,7 @@ fn nearly() -> Vec<Named> {
         before("retentions of cards kept within 0 to 1", |call| {
             call.case.existing.iter_mut().filter(|(row, _)| row[5].abs() > 2.0).for_each(|(row, _)| row[5] = row[5].clamp(0.0, 1.0))
         }),
+        after("costs and memorized in each other's place", |_, lists, _| std::mem::swap(&mut lists.costs, &mut lists.memorized)),
         before("seeds of 32 bits", |call| call.case.seed &= 0xFFFF_FFFF),
         before("reps of existing cards forgotten", |call| call.case.existing.iter_mut().for_each(|(_, n)| n[0] = 0)),
     ]
@@ -218,25 +234,36 @@ fn orders() -> Vec<Named> {
     (0..table.len() - 1).map(swapped).collect()
 }
 
-/// Each test of a length left out: the call is taken where only that list is at fault.
+/// Takes a call whose one fault a change of its lengths, towards the needed ones, mends.
+fn takes(name: &str, mend: impl Fn(&mut Lengths, &mut Lengths) + 'static) -> Named {
+    named(name, move |call, lists| {
+        let mut other = call.clone();
+        mend(&mut other.lengths, &mut Lengths::needed(&call.case));
+        if faults(call) == [(6, 0)] && faults(&other).is_empty() {
+            *lists = Lists::of(&other);
+            return port(&other, lists);
+        }
+        port(call, lists)
+    })
+}
+
+/// Each test of a length left out; and cards and counts compared only with each other, or not at all.
 fn untested() -> Vec<Named> {
-    (0..10)
-        .map(|i| {
-            let mut none = Lengths::needed(&crate::cases::usual(1, 1));
-            let name = none.each()[i].0;
-            named(&format!("the length of {name} not tested"), move |call, lists| {
-                let mut needed = call.clone();
-                needed.lengths = Lengths::needed(&call.case);
-                let mut other = call.clone();
-                *other.lengths.each()[i].1 = *needed.lengths.each()[i].1;
-                if faults(call) == [(6, 0)] && faults(&other).is_empty() {
-                    *lists = Lists::of(&other);
-                    return port(&other, lists);
-                }
-                port(call, lists)
-            })
-        })
-        .collect()
+    let mut any = Lengths::needed(&crate::cases::usual(1, 1));
+    let each = any.each().into_iter().enumerate();
+    let one = |i: usize| move |n: &mut Lengths, needed: &mut Lengths| *n.each()[i].1 = *needed.each()[i].1;
+    let mut all: Vec<Named> = each.map(|(i, (name, _))| takes(&format!("the length of {name} not tested"), one(i))).collect();
+    all.push(takes("rows of cards and of counts only compared", |n, needed| {
+        if n.cards == n.counts {
+            (n.cards, n.counts) = (needed.cards, needed.counts)
+        }
+    }));
+    all.push(takes("rows of cards and of counts not compared", |n, needed| {
+        if n.cards.min(n.counts) >= needed.cards {
+            (n.cards, n.counts) = (needed.cards, needed.counts)
+        }
+    }));
+    all
 }
 
 /// The last card or day of the calls that chance does not make.
@@ -247,7 +274,7 @@ fn large() -> Vec<Named> {
         .map(|&made| {
             after(&format!("the last cost, {made}"), move |call, lists, _| {
                 if call.made == made {
-                    flip(lists.cost_mut(call.case.learn_span as usize - 1))
+                    flip(&mut lists.costs.places_mut()[call.case.learn_span as usize - 1])
                 }
             })
         })
@@ -346,7 +373,7 @@ pub fn main(n: u64) {
     let calls = edges::calls();
     let stored: Vec<Stored> = stored_runs::calls().into_iter().map(|(call, _)| with_text(call)).collect();
     control(n, &calls, &stored);
-    let by_chance = [bits(), beyond(), vec![writes_at_refusal()], reached(), nearly()].into_iter().flatten().collect();
+    let by_chance = [bits(), beyond(), writes_at_refusal(), reached(), nearly()].into_iter().flatten().collect();
     let mut seen = leaves() + each_seen(by_chance, |wrong| seen_by_chance(wrong, OWN, n));
     for (name, rule) in rules() {
         seen += u64::from(seen_by_chance(&port, rule, n) || not_seen(name));

@@ -36,7 +36,7 @@ fn published_alike(r: &SimulationResult, t: &Trace) {
     for d in 0..t.days.len() {
         let row = [r.learn_cnt_per_day[d], r.review_cnt_per_day[d], r.correct_cnt_per_day[d], r.introduced_cnt_per_day[d]];
         assert!(row.map(|n| n as u32) == t.days[d], "the trace's day {d} is not the published one");
-        assert!(bits(r.cost_per_day[d]) == bits(t.sums[d][0]) && bits(r.memorized_cnt_per_day[d]) == bits(t.sums[d][1]));
+        assert!(bits(r.cost_per_day[d]) == bits(t.costs[d]) && bits(r.memorized_cnt_per_day[d]) == bits(t.memorized[d]));
     }
     assert!(r.cards.len() == t.cards.len());
 }

@@ -2,9 +2,6 @@
 use crate::lent::Call;
 use oracle::case::Case;
 
-/// Whether lent rows of cards and of counts that are both long enough must be as long as each other.
-const CARDS_AND_COUNTS_ALIKE: bool = false;
-
 fn weights_taken(row: &[f32]) -> bool {
     let sum = row.iter().fold(0.0f32, |a, b| a + b);
     row.iter().all(|&x| x.is_finite() && !(x < 0.0)) && sum.is_finite() && sum != 0.0
@@ -36,10 +33,10 @@ fn lists_taken(call: &Call) -> bool {
     let (deck, span) = (call.case.deck_size as usize, call.case.learn_span as usize);
     n.existing == n.existing_counts
         && n.keys == n.intervals
-        && [n.cards, n.counts, n.queue].iter().all(|&len| len >= deck)
+        && n.cards == n.counts
+        && [n.cards, n.queue].iter().all(|&len| len >= deck)
         && n.of_days().iter().all(|&len| len >= span)
         && n.due >= span + span / 2
-        && (n.cards == n.counts || !CARDS_AND_COUNTS_ALIKE)
 }
 
 fn first_bad_parameter(c: &Case) -> Option<(u32, u32)> {

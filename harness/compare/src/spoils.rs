@@ -56,18 +56,18 @@ pub fn spoil(words: &mut Words, c: &mut Case) {
     }
 }
 
-/// Makes one list shorter, by one place or to none, or one of two that belong together longer. Rows of cards and of counts
-/// stay alike.
+/// Makes one list shorter, by one place or to none, or one of two that belong together longer.
 pub fn shorten(words: &mut Words, n: &mut Lengths) {
     let to = |words: &mut Words, len: usize| if words.chance(4) { 0 } else { len.saturating_sub(1) };
-    match words.below(8) {
+    match words.below(9) {
         0 => {
             n.cards = to(words, n.cards);
             n.counts = n.cards;
         }
         1 => n.keys = to(words, n.keys),
         2 => n.intervals = words.pick(&[n.intervals + 1, n.intervals.saturating_sub(1)]),
-        3 => n.existing_counts = words.pick(&[n.existing_counts + 1, n.existing_counts.saturating_sub(1)]),
+        3 => n.counts = words.pick(&[n.counts + 1, n.counts.saturating_sub(1)]),
+        4 => n.existing_counts = words.pick(&[n.existing_counts + 1, n.existing_counts.saturating_sub(1)]),
         _ => {
             let i = words.below(n.written().len() as u64) as usize;
             let len = *n.written()[i];
@@ -79,7 +79,7 @@ pub fn shorten(words: &mut Words, n: &mut Lengths) {
 type Fault = (&'static str, fn(&mut Call));
 
 /// A fault for each row of the table, by each of its parts.
-pub const FAULTS: [Fault; 15] = [
+pub const FAULTS: [Fault; 16] = [
     ("a parameter too few", |call| call.case.parameters.truncate(33)),
     ("a parameter not finite", |call| {
         if let Some(x) = call.case.parameters.get_mut(20) {
@@ -97,6 +97,7 @@ pub const FAULTS: [Fault; 15] = [
     ("an infinite retention", |call| call.case.desired_retention = f32::INFINITY),
     ("a list too short", |call| call.lengths.due = 0),
     ("unequal columns of the interval table", |call| call.lengths.intervals = call.lengths.keys + 1),
+    ("unequal rows of cards and of counts", |call| call.lengths.counts = call.lengths.cards + 1),
     ("more cards than the deck", |call| {
         call.case.existing = vec![GOOD_CARD; 30];
         call.case.deck_size = call.case.deck_size.min(29);
@@ -131,24 +132,23 @@ pub fn pairs() -> Vec<Call> {
     all
 }
 
-/// The ways of refusal 6: each list a place too short, and each two that belong together unequal; then the lists a place
-/// longer, which is none, and rows of cards and of counts unequal, of which `rules` says what they are.
+/// The ways of refusal 6: each list a place shorter, cards with their counts, costs with memorized, and each two that must be
+/// alike unequal; beside them the same lists a place longer, most of which are taken.
 pub fn lengths() -> Vec<Call> {
     let mut c = usual(20, 10);
     c.places = 500;
     c.existing = vec![GOOD_CARD; 7];
     let whole = Call::exact("lengths", c);
+    let changed = |names: &[&str], change: fn(usize) -> usize| {
+        let mut call = whole.clone();
+        call.lengths.each().into_iter().filter(|(name, _)| names.contains(name)).for_each(|(_, len)| *len = change(*len));
+        call
+    };
+    let each = whole.clone().lengths.each().map(|(name, _)| name);
     let mut all = vec![whole.clone()];
-    for i in 0..10 {
-        for step in [1, -1] {
-            let mut call = whole.clone();
-            let len = &mut *call.lengths.each()[i].1;
-            *len = len.checked_add_signed(step).unwrap();
-            all.push(call);
-        }
+    for names in each.chunks(1).chain([&["cards", "counts"][..], &["costs", "memorized"]]) {
+        all.extend([changed(names, |len| len + 1), changed(names, |len| len - 1)]);
     }
-    let mut none = whole.clone();
-    none.lengths.each().into_iter().for_each(|(_, len)| *len = 0);
-    all.push(none);
+    all.push(changed(&each, |_| 0));
     all
 }

@@ -70,8 +70,8 @@ fn forecast(deck: u32, span: u32, places: usize, days: &[usize]) -> String {
     let mut text = format!("turns {} cards {} draws {:016x}\n", r.turns, r.cards, r.draws);
     for &d in days {
         let n = r.days.get(d).copied().unwrap_or_default();
-        let (cost, held) = (r.costs.get(d).unwrap_or(&0), r.memorized.get(d).unwrap_or(&0));
-        text += &format!("day {} {} {} {} {cost:08x} {held:08x}\n", n[0], n[1], n[2], n[3]);
+        let (cost, memorized) = (r.costs.get(d).unwrap_or(&0), r.memorized.get(d).unwrap_or(&0));
+        text += &format!("day {} {} {} {} {cost:08x} {memorized:08x}\n", n[0], n[1], n[2], n[3]);
     }
     text
 }

@@ -66,7 +66,7 @@ impl Told {
     fn keep(&mut self, r: &Result) {
         let mut unsaid = Sample::default();
         r.rows().iter().enumerate().for_each(|(i, (row, n))| self.tell_card(&mut unsaid, i as u32, *row, *n));
-        [8, 9].iter().for_each(|&i| self.tell(&mut unsaid, 75, i, [r.cards, 0, 0]));
+        [9, 10].iter().for_each(|&i| self.tell(&mut unsaid, 75, i, [r.cards, 0, 0]));
     }
 }
 
@@ -92,9 +92,9 @@ fn of_cards(r: &Result) -> u32 {
 }
 
 fn of_days(r: &Result) -> u32 {
-    let sums: Vec<[u32; 2]> = r.costs.iter().zip(&r.memorized).map(|(a, b)| [*a as u32, *b as u32]).collect();
-    let (days, sums) = (words(&r.days, DAYS, BEFORE), words(&sums, DAYS, BEFORE_FLOAT));
-    digest((0..DAYS).flat_map(|i| [&days[i][..], &sums[i][..]].concat()))
+    let floats = |list: &[u64]| words(&list.iter().map(|b| [*b as u32]).collect::<Vec<_>>(), DAYS, BEFORE_FLOAT);
+    let (days, costs, memorized) = (words(&r.days, DAYS, BEFORE), floats(&r.costs), floats(&r.memorized));
+    digest((0..DAYS).flat_map(|i| [&days[i][..], &costs[i][..], &memorized[i][..]].concat()))
 }
 
 fn of_due(r: &Result) -> u32 {
@@ -114,8 +114,8 @@ fn of_table(call: &Call, r: &Result) -> u32 {
 pub fn text(call: &Call, r: &Result) -> String {
     let mut all = format!("run {:08x} {:08x} {:08x} {:08x} {:016x}\n", r.number, r.second, r.turns, r.cards, r.draws);
     for (d, n) in r.days.iter().enumerate() {
-        let (cost, held) = (r.costs[d], r.memorized[d]);
-        all += &format!("{:08x} {:08x} {:08x} {:08x} {cost:08x} {held:08x}\n", n[0], n[1], n[2], n[3]);
+        let (cost, memorized) = (r.costs[d], r.memorized[d]);
+        all += &format!("{:08x} {:08x} {:08x} {:08x} {cost:08x} {memorized:08x}\n", n[0], n[1], n[2], n[3]);
     }
     all + &format!("digests {:08x} {:08x} {:08x} {:08x}", of_cards(r), of_days(r), of_due(r), of_table(call, r))
 }

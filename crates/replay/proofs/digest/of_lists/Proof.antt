@@ -5,10 +5,10 @@ use Rattle.replay.proofs.digest.of_lists.Statement.{statement}
 use Rattle.replay.proofs.digest.of_lists.Tie as tie
 
 abbrev Inv-loop : tie.InvT-loop
-Inv-loop n cards counts days sums due keys intervals d₀ i₀ d i = i ≤ n
+Inv-loop n cards counts days costs memorized due keys intervals d₀ i₀ d i = i ≤ n
 
 abbrev μ-loop : tie.MeasureT-loop
-μ-loop n cards counts days sums due keys intervals d₀ i₀ d i = n - i
+μ-loop n cards counts days costs memorized due keys intervals d₀ i₀ d i = n - i
 
 loop-holds : tie.Need-loop-holds Inv-loop μ-loop
 loop-holds c = search needs

@@ -5,10 +5,10 @@ use Rattle.replay.proofs.shown.rows.Statement.{statement}
 use Rattle.replay.proofs.shown.rows.Tie as tie
 
 abbrev Inv-loop : tie.InvT-loop
-Inv-loop days sums span n i₀ i = i ≤ n
+Inv-loop days costs memorized span n i₀ i = i ≤ n
 
 abbrev μ-loop : tie.MeasureT-loop
-μ-loop days sums span n i₀ i = n - i
+μ-loop days costs memorized span n i₀ i = n - i
 
 loop-holds : tie.Need-loop-holds Inv-loop μ-loop
 loop-holds c = search needs
