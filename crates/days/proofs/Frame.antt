@@ -1,9 +1,9 @@
 -- The rows of days in longer lists: the places behind the days that a run has play no part, and stay as they are.
 --   event-own, cost-own, range-own, add-due-own, move-due-own    what each writes into a ++ b it writes into a
 --   event-long, range-long                                       and lists keep their lengths
-use mathlib.Core.Path.{_≡_, refl, sym, ap, _∙_}
+use mathlib.Core.Path.{_≡_, refl, _∙_}
 use mathlib.Core.Bool.{Bool, true, false, cond}
-use mathlib.Core.List.{List, [], _∷_, _++_}
+use mathlib.Core.List.{List, [], _++_}
 use Prim.Native.Nat.{ℕ, zero, suc, _+_, _-_, _≤_, _<_}
 use native.Mathlib.Omega.{arith}
 use borrow.Author.Tests.{ltb-true}

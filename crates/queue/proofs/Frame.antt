@@ -9,11 +9,11 @@ use mathlib.Core.Bool.{Bool, true, false, _&&_, cond}
 use mathlib.Core.List.{List, [], _∷_, _++_}
 use Prim.Native.Nat.{ℕ, zero, suc, _+_, _-_, _*_, _%_, _^_, _≤_, _<_}
 use native.Mathlib.Omega.{arith}
-use borrow.Author.Tests.{lt-ltb, le-leb, le-ltb, ltb-true, leb-true, ltb-false}
-use lib.Dec.{eqb, ltb, leb}
+use borrow.Author.Tests.{lt-ltb, le-leb, ltb-true}
+use lib.Dec.{eqb, ltb}
 use lib.ListN.{getD, set, length, length-append, length-set, List·getD-append}
 use lib.Seq.{set-append-left, set-at, append-snoc}
-use Rattle.queue.specs.Queue.{Queue, queue, keyAt, cardIndexAt, parent, swap, rise, bubbleUp, lesser, least, sink, heapify, hasRoom, hasFront, rekeyed, front, pushed, popped, frontChanged}
+use Rattle.queue.specs.Queue.{Queue, queue, keyAt, parent, swap, rise, bubbleUp, lesser, least, sink, heapify, hasFront, rekeyed, front, pushed, popped, frontChanged}
 
 abbrev pub widened : Queue → List (List ℕ) → Queue
 widened q b = queue (q .rows ++ b) (q .len)

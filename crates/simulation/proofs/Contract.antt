@@ -1,9 +1,8 @@
 -- THE CONTRACT OF A CALL (`RunContract`): a call that an entry test fails is answered as it came, and one that passes has the result of `simulated`; where it ends Ok,
 -- demand 3 holds of it.
 use mathlib.Core.Path.{_≡_, refl, sym, ap, _∙_, subst}
-use mathlib.Core.Option.{Option, some}
+use mathlib.Core.Option.{some}
 use lib.Ieee.{Float}
-use Rattle.turns.specs.Run.{stopOf}
 use Rattle.draws.specs.Draws.{splitMix}
 use Rattle.model.specs.Runtime as Runtime
 use Rattle.events.specs.Scalars.{Scalars, kept}
@@ -14,12 +13,10 @@ use Rattle.simulation.specs.declared.Check.the-variants as check
 use Rattle.simulation.specs.declared.Progress.{Progress}
 use Rattle.simulation.specs.declared.Answer.{Answer}
 use Rattle.simulation.specs.declared.Answer.the-variants as answer
-use Rattle.simulation.specs.declared.Stop.{Stop}
 use Rattle.simulation.specs.State.{State, Lent, listsOf, withDraws}
 use Rattle.simulation.specs.Rules.{rulesOf}
-use Rattle.simulation.specs.Turn.{next}
 use Rattle.simulation.specs.Entry.{Inputs, inputs, listsOk, checked}
-use Rattle.simulation.specs.Simulate.{Result, progress, answerOf, rulesFor, bound, resultFrom, simulatedBy, simulated, IsResult}
+use Rattle.simulation.specs.Simulate.{progress, rulesFor, resultFrom, simulatedBy, simulated, IsResult}
 use Rattle.simulation.specs.Steps.{InnerContract}
 use Rattle.simulation.specs.Demands.{startOf, RunContract}
 use Rattle.simulation.proofs.entry.Accepted.{accepted}

@@ -6,7 +6,6 @@ use mathlib.Core.List.{List}
 use mathlib.Core.Logic.{_≢_}
 use mathlib.Core.Path.{_≡_, refl, sym, ap, _∙_}
 use lib.Dec.{eqb, ltb}
-use lib.ListN.{set}
 use Rattle.turns.specs.Sums.{bit, sumTo}
 use Rattle.turns.proofs.Sums.{sum-same, sum-at}
 use Rattle.turns.specs.Turns.{Kind, learn, review, putOff, retire, Turn, count, isLearn, isReview, isCorrect, isLapse, isEvent, learnedOn, reviewedOn, correctOn, Rows, CostRule, costOn}

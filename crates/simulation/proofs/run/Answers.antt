@@ -1,14 +1,8 @@
 -- WHAT AN ANSWER TELLS of the run: how it stopped and what it came to; and where it is Ok, demand 3.
 use mathlib.Core.Path.{_≡_, refl, sym, ap, _∙_}
 use mathlib.Core.Option.{Option, none, some}
-use mathlib.Core.List.{[]}
-use mathlib.Core.Logic.{_↔_}
-use mathlib.Core.Bool.{true, false}
-use Prim.Native.Nat.{ℕ}
-use lib.Dec.{eqb}
 use lib.ListN.{length}
-use borrow.Author.Tests.{eq-eqb, ne-eqb, eqb-true}
-use Rattle.turns.specs.Run.{stops, stopOf}
+use Rattle.turns.specs.Run.{stops}
 use Rattle.simulation.specs.declared.Refusal.{Refusal}
 use Rattle.simulation.specs.declared.Check.{Check}
 use Rattle.simulation.specs.declared.Check.the-variants as check
@@ -21,9 +15,9 @@ use Rattle.simulation.specs.State.{State, Lent, listsOf}
 use Rattle.simulation.specs.Rules.{Rules}
 use Rattle.simulation.specs.Turn.{next}
 use Rattle.simulation.specs.Entry.{Inputs, checked}
-use Rattle.simulation.specs.Simulate.{Result, progress, answerOf, answerIf, bound, runFrom, resultFrom, afterCheck, simulatedBy}
+use Rattle.simulation.specs.Simulate.{Result, progress, answerOf, answerIf, resultFrom, afterCheck, simulatedBy}
 use Rattle.simulation.specs.Demands.{startOf, cardsOf, endOf, turnsOf, DemandThree}
-use Rattle.simulation.proofs.entry.Accepted.{Accepted, accepted}
+use Rattle.simulation.proofs.entry.Accepted.{accepted}
 use Rattle.simulation.proofs.run.Suits.{Suits}
 use Rattle.simulation.proofs.run.DemandThree.{has-stopped, stops-so, daily-rules, rows-are}
 use Rattle.simulation.proofs.run.Frame.{longer-table}

@@ -5,25 +5,23 @@
 --   cards-are     one call: its cards are those kept and those created
 --   beyond-same   one call: the places behind those that it needs are as they were lent
 use mathlib.Core.Path.{_≡_, refl, sym, ap, _∙_, subst}
-use mathlib.Core.Bool.{true, not}
-use mathlib.Core.List.{List, [], _++_}
+use mathlib.Core.Bool.{true}
+use mathlib.Core.List.{List, []}
 use mathlib.Core.Option.{some}
 use mathlib.Core.Logic.{inl, inr}
-use Prim.Native.Nat.{ℕ, suc, _+_, _*_, _/_, _≤_}
+use Prim.Native.Nat.{ℕ, suc, _+_, _*_, _≤_}
 use native.Mathlib.Omega.{arith}
-use lib.ListN.{take, drop, length}
+use lib.ListN.{length}
 use lib.Seq.{take-at, drop-at}
 use Rattle.turns.specs.Turns.{Turn}
-use Rattle.turns.specs.Run.{Next, takes, stops, RunState, run}
-use Rattle.turns.proofs.Loop.{Lawful, Follows, Same, run-follows}
+use Rattle.turns.specs.Run.{Next, takes, stops, run}
+use Rattle.turns.proofs.Loop.{Follows, Same, run-follows}
 use Rattle.days.specs.Due.{dueDays}
-use Rattle.intervals.specs.Table.{Table, places, clearIn}
+use Rattle.intervals.specs.Table.{Table, places}
 use Rattle.intervals.proofs.Laws.{same-clear, clear-places}
 use Rattle.events.specs.Drawn.{Drawn}
 use Rattle.queue.specs.Queue.{queue}
 use Rattle.simulation.specs.declared.Check.the-variants as check
-use Rattle.simulation.specs.declared.Progress.{Progress}
-use Rattle.simulation.specs.declared.Answer.the-variants as answer
 use Rattle.simulation.specs.declared.Stop.{Stop}
 use Rattle.simulation.specs.declared.Stop.the-variants as stop
 use Rattle.simulation.specs.State.{State, Lent, withTable}
@@ -35,7 +33,7 @@ use Rattle.simulation.specs.Simulate.{progress, answerOf, bound, runFrom
 use Rattle.simulation.specs.Invariant.{RunBounds, StateInvariant}
 use Rattle.simulation.specs.Frame.{firstPlaces, beyond, extended}
 use Rattle.simulation.specs.Demands.{startOf, cardsOf, endOf, turnsOf, LongerTable, SameRun}
-use Rattle.simulation.proofs.entry.Accepted.{Accepted, accepted}
+use Rattle.simulation.proofs.entry.Accepted.{accepted}
 use Rattle.simulation.proofs.turn.Slots.{Slots}
 use Rattle.simulation.proofs.turn.Lawful.{law}
 use Rattle.simulation.proofs.turn.Frame.{Exact, Framed, framed}

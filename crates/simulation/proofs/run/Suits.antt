@@ -1,48 +1,25 @@
 -- What demand 3 asks of a run's rules (`Suits`), and that the rules of an accepted call have it, whatever is drawn (`suits`): a scheduled interval is 1 to 36,500.
-use mathlib.Core.Path.{_≡_, refl, subst, ap}
+use mathlib.Core.Path.{_≡_, refl, subst}
 use mathlib.Core.Bool.{Bool, true, not, _&&_}
-use mathlib.Core.List.{List}
-use Prim.Native.Nat.{ℕ, suc, _*_, _≤_}
-use native.Mathlib.Omega.{arith}
 use lib.Dec.{T}
-use lib.ListN.{length}
 use lib.IntN.{pos}
 use lib.Ieee.{Float, ofBits, ofFields, binary32, ofInt, round, le, isNan}
 use lib.Ieee.Positive.{positive, between, le-trans-positive}
 use Rattle.float32.proofs.Cmp as cmp
-use Rattle.turns.specs.Run.{stops}
-use Rattle.turns.proofs.Columns.{SetUp}
-use Rattle.draws.specs.Draws.{DrawRule, splitMix}
-use Rattle.model.specs.Runtime as Runtime
+use Rattle.draws.specs.Draws.{DrawRule}
 use Rattle.model.specs.Model.{Curves, curveOf, scheduled}
 use Rattle.model.proofs.Laws.{scheduled-between}
 use Rattle.cards.specs.declared.SimulatorConfig.{SimulatorConfig}
 use Rattle.cards.specs.Config.{rowOf, threeOf, weightsOk, transitionsOk, costsOk, intervalOk, configOk}
 use Rattle.cards.proofs.Later.{one-is}
-use Rattle.events.specs.Scalars.{Scalars, plain, kept}
-use Rattle.events.proofs.Loops.{kept-is}
+use Rattle.events.specs.Scalars.{plain}
 use Rattle.cards.specs.Day.{IntervalInRange}
-use Rattle.simulation.specs.declared.Refusal.{Refusal}
-use Rattle.simulation.specs.declared.Check.{Check}
-use Rattle.simulation.specs.declared.Check.the-variants as check
-use Rattle.simulation.specs.declared.Progress.{Progress}
-use Rattle.simulation.specs.declared.Answer.{Answer}
-use Rattle.simulation.specs.declared.Answer.the-variants as answer
-use Rattle.simulation.specs.declared.Stop.{Stop}
-use Rattle.simulation.specs.State.{State, Lent, listsOf, withDraws}
-use Rattle.simulation.specs.Rules.{Rules, rulesWith, rulesOf}
-use Rattle.simulation.specs.Turn.{next}
-use Rattle.simulation.specs.Entry.{Inputs, inputs, listsOk, checked}
-use Rattle.simulation.specs.SetUp.{introducedBefore}
-use Rattle.simulation.specs.Simulate.{IsResult, progress, rulesFor, bound, runFrom, resultFrom, simulatedBy, simulated}
-use Rattle.simulation.specs.Demands.{startOf, cardsOf, endOf, turnsOf, RowsOf}
-use Rattle.simulation.specs.Invariant.{RunBounds, StateInvariant}
+use Rattle.simulation.specs.State.{State}
+use Rattle.simulation.specs.Rules.{Rules, rulesWith}
+use Rattle.simulation.specs.Entry.{Inputs}
 use Rattle.simulation.proofs.turn.Slots.{Slots, table-slots}
-use Rattle.simulation.proofs.turn.Views.{columns}
-use Rattle.simulation.proofs.entry.Accepted.{Accepted, accepted}
-use Rattle.turns.proofs.Logic.{not-one, both}
-use Rattle.simulation.proofs.set_up.Invariant.{set-up-few, set-up-start, set-up-good}
-use Rattle.simulation.proofs.turn.Lawful.{turns-demand, turns-rows, ends}
+use Rattle.simulation.proofs.entry.Accepted.{Accepted}
+use Rattle.turns.proofs.Logic.{both}
 
 -- ---- a scheduled interval is 1 to 36,500
 most-is : ofBits binary32 0x470E_9400 ≡ ofInt binary32 (pos 36500)

@@ -2,7 +2,7 @@
 -- same turns and comes to the same end; where it is as long, also to the same refusal.
 use mathlib.Core.Path.{_≡_, refl}
 use mathlib.Core.Bool.{Bool, true, false, false≢true}
-use mathlib.Core.List.{List, []}
+use mathlib.Core.List.{[]}
 use Prim.Native.Nat.{ℕ}
 use lib.Dec.{eqb}
 use Rattle.turns.specs.Turns.{Turn, putOff}

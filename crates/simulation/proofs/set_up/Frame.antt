@@ -5,11 +5,11 @@
 use mathlib.Core.Path.{_≡_, refl, sym, ap, _∙_}
 use mathlib.Core.Bool.{Bool, true, false, cond}
 use mathlib.Core.List.{List, [], _∷_, _++_}
-use Prim.Native.Nat.{ℕ, zero, suc, _+_, _-_, _/_, _≤_, _<_}
+use Prim.Native.Nat.{ℕ, zero, suc, _+_, _-_, _≤_, _<_}
 use native.Mathlib.Omega.{arith}
 use lib.Dec.{eqb}
-use lib.ListN.{getD, set, take, drop, length, length-set, length-append, length-drop, length-take, length-replicate, replicate, replicate-append-replicate}
-use lib.Seq.{set-at, append-snoc, drop-cons, set-split, drop-set-lt, set-append-left}
+use lib.ListN.{getD, set, drop, length, length-append, length-replicate, replicate, replicate-append-replicate}
+use lib.Seq.{set-at, append-snoc, drop-cons}
 use lib.Ieee.{Float}
 use Rattle.turns.specs.Sums.{bit}
 use Rattle.turns.proofs.Sums.{bit-le}
@@ -20,7 +20,7 @@ use Rattle.cards.specs.Cards.{cardAt, floatsOf, countsOf, writeFloats, writeCou
 use Rattle.days.specs.Due.{dueDays, addDue}
 use Rattle.days.proofs.Due.{add-long}
 use Rattle.days.proofs.Frame.{add-due-own}
-use Rattle.queue.specs.Queue.{Queue, queue, bubbleUp, pushed}
+use Rattle.queue.specs.Queue.{queue, bubbleUp, pushed}
 use Rattle.queue.proofs.Frame.{pushed-grown, bubble-long}
 use Rattle.simulation.specs.State.{State, keyOf}
 use Rattle.float32.specs.Numbers.{0ᶠ}

@@ -1,14 +1,14 @@
 -- A turn in longer lists: it does in the first places what it does in lists of just these, and leaves the places behind them as they are.
 --   Exact cards span s    the lists of s have just the places that a run of so many cards and days needs
 --   framed                the next turn of `extended s b` is that of s, with b behind, and stays exact
-use mathlib.Core.Path.{_≡_, refl, sym, ap, _∙_}
-use mathlib.Core.Bool.{Bool, true, false, cond, _&&_, not}
+use mathlib.Core.Path.{_≡_, refl, ap, _∙_}
+use mathlib.Core.Bool.{Bool, true, false, cond}
 use mathlib.Core.List.{List, [], _++_}
-use Prim.Native.Nat.{ℕ, _+_, _-_, _/_, _≤_, _<_}
+use Prim.Native.Nat.{ℕ, _+_, _-_, _≤_, _<_}
 use native.Mathlib.Omega.{arith}
 use borrow.Author.Tests.{eqb-false}
 use lib.Dec.{eqb}
-use lib.ListN.{getD, set, length, length-set, List·getD-append}
+use lib.ListN.{length, length-set, List·getD-append}
 use lib.Seq.{set-append-left}
 use lib.Ieee.{Float, toUnsigned}
 use Rattle.turns.specs.Turns.{Turn, putOff, retire}
@@ -17,8 +17,8 @@ use Rattle.cards.specs.declared.Card.{Card}
 use Rattle.cards.specs.declared.Choice.{Choice}
 use Rattle.cards.specs.declared.Choice.the-variants as choice
 use Rattle.cards.specs.Day.{dayOf, isNew}
-use Rattle.cards.specs.Cards.{noFloats, noCounts, cardOf, cardAt, floatsOf, countsOf, writeFloats, writeCounts}
-use Rattle.cards.specs.Choices.{retires, blocked, choose, choiceOf}
+use Rattle.cards.specs.Cards.{noFloats, noCounts, cardAt, floatsOf, countsOf, writeFloats, writeCounts}
+use Rattle.cards.specs.Choices.{retires, choiceOf}
 use Rattle.days.specs.Counts.{learnedAt, reviewedAt}
 use Rattle.days.specs.Sums.{costAt, addForgettingCurveRange}
 use Rattle.days.specs.Due.{dueDays, noneDue}

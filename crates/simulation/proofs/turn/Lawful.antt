@@ -7,7 +7,6 @@ use Prim.Native.Nat.{ℕ, suc, _+_, _*_, _<_}
 use native.Mathlib.Omega.{arith}
 use borrow.Author.Tests.{eqb-false, leb-false}
 use lib.Dec.{leb, eqb}
-use lib.Ieee.{Float}
 use Rattle.turns.specs.Sums.{sumTo}
 use Rattle.turns.specs.Turns.{Turn, putOff, Demand, Rows}
 use Rattle.turns.specs.Run.{takes, stops, run}

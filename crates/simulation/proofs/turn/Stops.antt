@@ -1,6 +1,6 @@
 -- When the next turn stops the run, and how: `stops-iff` says that it is by x exactly on the `StopCondition` of x.
 use mathlib.Core.Path.{_≡_, refl, sym, ap, _∙_}
-use mathlib.Core.Bool.{Bool, true, false, true≢false, false≢true}
+use mathlib.Core.Bool.{Bool, true, false}
 use mathlib.Core.Logic.{_↔_}
 use mathlib.Core.Option.{none}
 use Prim.Native.Nat.{ℕ, _<_}
@@ -31,7 +31,6 @@ use Rattle.intervals.specs.Bucket.{stabilityBucket, retentionBucket}
 use Rattle.intervals.specs.Table.{places, heldIn, countIn}
 use Rattle.intervals.specs.Table.{Sound}
 use Rattle.intervals.proofs.Schedule.{slot-full-iff}
-use Rattle.simulation.specs.declared.Refusal.{Refusal}
 use Rattle.simulation.specs.declared.Refusal.the-variants as refusal
 use Rattle.simulation.specs.declared.Stop.{Stop}
 use Rattle.simulation.specs.declared.Stop.the-variants as stop

@@ -1,6 +1,5 @@
 -- The calls of set-up leave, one after the other, the parts of `setUp`; nothing of it reads the parameters, the seed or the table's keys.
 use mathlib.Core.Path.{refl, _∙_}
-use native.Mathlib.Omega.{arith}
 use Rattle.simulation.proofs.set_up.State.{set-up-is}
 use borrow.Author.Needs.{needs}
 use Rattle.simulation.proofs.set_up.set_up.Statement.{statement}
