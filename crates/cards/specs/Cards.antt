@@ -60,4 +60,5 @@ historyOk k = isNew (k .«last_date») || (dateOk (k .«last_date») && isFinite
 
 -- refusal 5 turns away a kept card that is not so
 unfoldable pub cardOk : Card → Bool
-cardOk k = isFinite (k .stability) && (isFinite (k .«desired_retention») && (dateOk (k .due) && (historyOk k && leb (k .lapses) 4000000000)))
+cardOk k = isFinite (k .stability) &&
+    (isFinite (k .«desired_retention») && (dateOk (k .due) && (historyOk k && leb (k .lapses) 4000000000)))

@@ -10,7 +10,8 @@ use Rattle.cards.specs.declared.SimulatorConfig.{SimulatorConfig}
 
 -- row i of a table whose rows of four stand one after the other
 abbrev pub rowOf : List Float → ℕ → List Float
-rowOf table i = getD table (4 * i) nan ∷ getD table (4 * i + 1) nan ∷ getD table (4 * i + 2) nan ∷ getD table (4 * i + 3) nan ∷ []
+rowOf table i = getD table (4 * i) nan ∷ getD table (4 * i + 1) nan ∷ getD table (4 * i + 2) nan ∷ getD table
+    (4 * i + 3) nan ∷ []
 
 -- the row of three
 abbrev pub threeOf : List Float → List Float
@@ -26,7 +27,8 @@ amountsOk (x ∷ xs) = amountOk x && amountsOk xs
 
 -- a weight row: no entry is negative or not finite, and the sum is finite and not 0
 unfoldable pub weightsOk : List Float → Bool
-weightsOk row = amountsOk row && (let sum = sumFrom (ofBits binary32 0) row in isFinite sum && not (eq sum (ofBits binary32 0)))
+weightsOk row = amountsOk row &&
+    (let sum = sumFrom (ofBits binary32 0) row in isFinite sum && not (eq sum (ofBits binary32 0)))
 
 -- three weight rows of four
 unfoldable pub transitionsOk : List Float → Bool

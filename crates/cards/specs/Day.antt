@@ -1,4 +1,5 @@
--- A card's day (its due date in whole days, 0 where that is past), when it is new, and the range of its intervals. Definitions only.
+-- A card's day (its due date in whole days, 0 where that is past), when it is new, and the range of its intervals.
+-- Definitions only.
 use Prim.Native.Nat.{ℕ}
 use mathlib.Core.Bool.{Bool, true}
 use lib.Dec.{T}

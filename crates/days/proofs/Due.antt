@@ -44,7 +44,8 @@ module _ (span : ℕ) (due : List ℕ) (d : ℕ) where
           → getD (cond (ltb d (dueDays span)) (addOneAt due d) due) i 0 ≡ getD due i 0 + bit (eqb d i)
       go (yes l) (yes e) =
           rw (lt-ltb d (dueDays span) l, e)
-          (getD-set-same due d x 0 (omega arith) ∙ saturating-is (getD due d 0) (small d l) ∙ omega (arith, at-eq d d refl))
+          (getD-set-same due d x 0 (omega arith) ∙ saturating-is (getD due d 0) (small d l)
+          ∙ omega (arith, at-eq d d refl))
       go (yes l) (no e) =
           rw (lt-ltb d (dueDays span) l) (getD-set-other due d i x 0 e ∙ omega (arith, at-ne d i (omega (arith, e))))
       go (no l) e = rw (le-ltb d (dueDays span) (omega (arith, l))) (omega (arith, at-ne d i (omega (arith, l))))

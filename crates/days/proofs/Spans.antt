@@ -36,7 +36,8 @@ module _ (chance : Float → Float) (last : Float) where
       → t ≡ ofInt binary32 (pos d)
       → x ≡ chance (sub binary32 t last)
       → l′ ≡ addMemorized l d x
-      → addForgettingCurveRange chance l′ (to - (d + 1)) (d + 1) last ≡ addForgettingCurveRange chance l₀ (to - from) from last
+      → addForgettingCurveRange chance l′ (to - (d + 1)) (d + 1) last
+      ≡ addForgettingCurveRange chance l₀ (to - from) from last
   unfolding addForgettingCurveRange
   range-turn l l′ l₀ d to from t x e h et ex el =
       let n : to - d ≡ suc (to - (d + 1)) = omega arith in

@@ -26,16 +26,19 @@ dayRow learned reviewed correct introduced = learned ∷ reviewed ∷ correct �
 
 -- one more learning on day d
 unfoldable pub addLearn : List (List ℕ) → ℕ → List (List ℕ)
-addLearn rows d = set rows d (dayRow (saturatingSuc (learnedAt rows d)) (reviewedAt rows d) (correctAt rows d) (introducedAt rows d))
+addLearn rows d = set rows d
+    (dayRow (saturatingSuc (learnedAt rows d)) (reviewedAt rows d) (correctAt rows d) (introducedAt rows d))
 
 -- one more review on day d, and where it was recalled one more correct
 unfoldable pub addReview : List (List ℕ) → ℕ → Bool → List (List ℕ)
 addReview rows d recalled =
-    set rows d (dayRow (learnedAt rows d) (saturatingSuc (reviewedAt rows d)) (cond recalled (saturatingSuc (correctAt rows d)) (correctAt rows d)) (introducedAt rows d))
+    set rows d (dayRow (learnedAt rows d) (saturatingSuc (reviewedAt rows d))
+    (cond recalled (saturatingSuc (correctAt rows d)) (correctAt rows d)) (introducedAt rows d))
 
 -- one more introduced on day d
 unfoldable pub addIntroduced : List (List ℕ) → ℕ → List (List ℕ)
-addIntroduced rows d = set rows d (dayRow (learnedAt rows d) (reviewedAt rows d) (correctAt rows d) (saturatingSuc (introducedAt rows d)))
+addIntroduced rows d = set rows d
+    (dayRow (learnedAt rows d) (reviewedAt rows d) (correctAt rows d) (saturatingSuc (introducedAt rows d)))
 
 -- and on m days from day d on
 unfoldable pub addIntroducedFrom : List (List ℕ) → ℕ → ℕ → List (List ℕ)
@@ -44,4 +47,5 @@ addIntroducedFrom rows (suc m) d = addIntroducedFrom (addIntroduced rows d) m (d
 
 -- an event on day d: a learning counts as introduced on its day and on every later one
 unfoldable pub addEvent : ℕ → List (List ℕ) → Bool → ℕ → Bool → List (List ℕ)
-addEvent span rows new d recalled = cond new (addIntroducedFrom (addLearn rows d) (span - d) d) (addReview rows d recalled)
+addEvent span rows new d recalled = cond new (addIntroducedFrom (addLearn rows d) (span - d) d)
+    (addReview rows d recalled)

@@ -68,7 +68,10 @@ module _ (d d′ : ℕ) (n n′ : Bool) (p p′ : ℤ) (h : mag p < 2 ^ 31) (h�
           at (no x) (yes y) = inr (omega (arith, l, u, u′, bit-le n, bit-le n′), inl y)
           at (no x) (no y) =
               let e : bit n ≡ bit n′ = omega (arith, l, u, u′, bit-le n, bit-le n′) in
-              inr (omega (arith, l, u, u′, bit-le n, bit-le n′), inr (bit-same n n′ e, shifted-order p p′ h h′ .0 (omega (arith, l, u, u′, bit-le n, bit-le n′))))
+              inr (
+                omega (arith, l, u, u′, bit-le n, bit-le n′),
+                inr (bit-same n n′ e, shifted-order p p′ h h′ .0 (omega (arith, l, u, u′, bit-le n, bit-le n′))),
+              )
 
       back : NoLater d n p d′ n′ p′ → packed d n p ≤ packed d′ n′ p′
       back (inl x) = omega (arith, shifted-lt p h, bit-le n, bit-le n′)
@@ -85,7 +88,12 @@ unfolding priorityOf
 priority-in difficulty = toSigned-in 31 _
 
 -- the same of two cards' keys, where both days fit an i32
-pub priority-day : (d d′ : ℕ) (n n′ : Bool) (x x′ : Float) → d < 2 ^ 31 → d′ < 2 ^ 31 → cardPriority d n x ≤ cardPriority d′ n′ x′ → 2 * d + bit n ≤ 2 * d′ + bit n′
+pub priority-day : (d d′ : ℕ) (n n′ : Bool) (x x′ : Float) → d < 2 ^ 31 → d′ < 2 ^ 31
+    → cardPriority d n x ≤ cardPriority d′ n′ x′ → 2 * d + bit n ≤ 2 * d′ + bit n′
 unfolding cardPriority
 priority-day d d′ n n′ x x′ h h′ l =
-    omega (arith, packed-day (min d (2 ^ 31 - 1)) (min d′ (2 ^ 31 - 1)) n n′ (priorityOf x) (priorityOf x′) (priority-in x) (priority-in x′) l)
+    omega (
+      arith,
+      packed-day (min d (2 ^ 31 - 1)) (min d′ (2 ^ 31 - 1)) n n′ (priorityOf x) (priorityOf x′)
+          (priority-in x) (priority-in x′) l,
+    )

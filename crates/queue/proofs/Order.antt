@@ -1,5 +1,5 @@
--- Heap order, of the keys by place alone: K x is the key at place x. What one exchange of a place with its parent, or with its least child, keeps, and what
--- each loop leaves.
+-- Heap order, of the keys by place alone: K x is the key at place x. What one exchange of a place with its parent, or
+-- with its least child, keeps, and what each loop leaves.
 -- Assumes nothing.
 use mathlib.Core.Path.{_≡_}
 use mathlib.Core.Logic.{_≢_}
@@ -29,7 +29,8 @@ pub record Swapped (K K′ : ℕ → ℕ) (a b : ℕ) : Type 0 where
   pub second : K′ b ≡ K a
   pub others : (x : ℕ) → x ≢ a → x ≢ b → K′ x ≡ K x
 
-module _ (K K′ : ℕ → ℕ) (len pos : ℕ) (less : K pos < K (parent pos)) (below : pos < len) (s : Swapped K K′ pos (parent pos)) (r : Rising K len pos) (positive : 0 < pos) where
+module _ (K K′ : ℕ → ℕ) (len pos : ℕ) (less : K pos < K (parent pos)) (below : pos < len)
+    (s : Swapped K K′ pos (parent pos)) (r : Rising K len pos) (positive : 0 < pos) where
   rise-rest : (i : ℕ) → 0 < i → i < len → i ≢ parent pos → K′ (parent i) ≤ K′ i
   rise-rest i l u ne = at (ℕ-discrete i pos) (ℕ-discrete (parent i) pos) (ℕ-discrete (parent i) (parent pos))
     where
@@ -45,7 +46,11 @@ module _ (K K′ : ℕ → ℕ) (len pos : ℕ) (less : K pos < K (parent pos)) 
   rise-over i l u f q = at (ℕ-discrete i pos)
     where
       up : K′ (parent (parent pos)) ≤ K (parent pos)
-      up = omega (arith, s .others (parent (parent pos)) (omega arith) (omega arith), r .rest (parent pos) q (omega arith) (omega arith))
+      up = omega (
+        arith,
+        s .others (parent (parent pos)) (omega arith) (omega arith),
+        r .rest (parent pos) q (omega arith) (omega arith),
+      )
 
       at : Dec (i ≡ pos) → K′ (parent (parent pos)) ≤ K′ i
       at (yes e) = rw e (omega (arith, s .first, up))
@@ -56,8 +61,10 @@ module _ (K K′ : ℕ → ℕ) (len pos : ℕ) (less : K pos < K (parent pos)) 
   pub rise-step : Rising K′ len (parent pos)
   rise-step = record { rest = rise-rest; over = rise-over }
 
-module _ (K K′ : ℕ → ℕ) (len pos l : ℕ) (child : parent l ≡ pos) (positive : 0 < l) (below : l < len) (less : K l < K pos)
-    (leastly : (i : ℕ) → 0 < i → i < len → parent i ≡ pos → K l ≤ K i) (s : Swapped K K′ pos l) (r : Sinking K len pos) where
+module _ (K K′ : ℕ → ℕ) (len pos l : ℕ) (child : parent l ≡ pos) (positive : 0 < l) (below : l < len)
+    (less : K l < K pos)
+    (leastly : (i : ℕ) → 0 < i → i < len → parent i ≡ pos → K l ≤ K i) (s : Swapped K K′ pos l)
+    (r : Sinking K len pos) where
   sink-rest : (i : ℕ) → 0 < i → i < len → parent i ≢ l → K′ (parent i) ≤ K′ i
   sink-rest i p u ne = at (ℕ-discrete i l) (ℕ-discrete (parent i) pos) (ℕ-discrete i pos)
     where
@@ -85,7 +92,8 @@ risen K len pos r stop i l u = at (ℕ-discrete i pos)
     at (yes e) = rw e (stop (omega arith))
     at (no e) = r .rest i l u e
 
-pub sunken : (K : ℕ → ℕ) (len pos : ℕ) → Sinking K len pos → ((i : ℕ) → 0 < i → i < len → parent i ≡ pos → K pos ≤ K i) → Ordered K len
+pub sunken : (K : ℕ → ℕ) (len pos : ℕ) → Sinking K len pos → ((i : ℕ) → 0 < i → i < len → parent i ≡ pos → K pos ≤ K i)
+    → Ordered K len
 sunken K len pos r stop i l u = at (ℕ-discrete (parent i) pos)
   where
     at : Dec (parent i ≡ pos) → K (parent i) ≤ K i
@@ -93,8 +101,13 @@ sunken K len pos r stop i l u = at (ℕ-discrete (parent i) pos)
     at (no e) = r .rest i l u e
 
 -- keys that change at the root only
-pub ordered-root : (K K′ : ℕ → ℕ) (len : ℕ) → ((x : ℕ) → 0 < x → x < len → K′ x ≡ K x) → Ordered K len → Sinking K′ len 0
-ordered-root K K′ len same o = record { rest = λ i l u ne. omega (arith, same i l u, same (parent i) (omega arith) (omega arith), o i l u); over = λ i l u e p. absurd (omega arith) }
+pub ordered-root : (K K′ : ℕ → ℕ) (len : ℕ) → ((x : ℕ) → 0 < x → x < len → K′ x ≡ K x) → Ordered K len
+    → Sinking K′ len 0
+ordered-root K K′ len same o = record {
+  rest = λ i l u ne. omega
+      (arith, same i l u, same (parent i) (omega arith) (omega arith), o i l u);
+  over = λ i l u e p. absurd (omega arith);
+}
 
 -- the root is least
 pub root-least : (K : ℕ → ℕ) (len n i : ℕ) → i ≤ n → i < len → Ordered K len → K 0 ≤ K i

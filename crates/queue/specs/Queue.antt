@@ -1,4 +1,5 @@
--- The card queue as functions on its list of rows: a binary heap, the smallest key first. A row is an order key and a card number.
+-- The card queue as functions on its list of rows: a binary heap, the smallest key first. A row is an order key and a
+-- card number.
 -- Comparisons and exchanges are those of `CardPriorityQueue`, so cards with equal keys are served in the same order.
 -- Assumes nothing.
 use mathlib.Core.List.{List, [], _∷_}

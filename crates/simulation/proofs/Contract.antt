@@ -1,5 +1,5 @@
--- THE CONTRACT OF A CALL (`RunContract`): a call that an entry test fails is answered as it came, and one that passes has the result of `simulated`; where it ends Ok,
--- demand 3 holds of it.
+-- THE CONTRACT OF A CALL (`RunContract`): a call that an entry test fails is answered as it came, and one that passes
+-- has the result of `simulated`; where it ends Ok, demand 3 holds of it.
 use mathlib.Core.Path.{_≡_, refl, sym, ap, _∙_, subst}
 use mathlib.Core.Option.{some}
 use lib.Ieee.{Float}
@@ -30,11 +30,14 @@ not-finished r p q e = not-one cc
 
 module _ (i : Inputs) (s : State Float) where
   -- the entry's tests look neither at the seed nor at the draws
-  pub same-check : {c : Check} → c ≡ checked (inputs (i .config) (i .parameters) (i .retention) 0 (i .existing) (i .existing-counts)) (withDraws 0 s) → c ≡ checked i s
+  pub same-check : {c : Check}
+      → c ≡ checked (inputs (i .config) (i .parameters) (i .retention) 0 (i .existing) (i .existing-counts))
+      (withDraws 0 s) → c ≡ checked i s
   unfolding checked listsOk
   same-check e = e
 
-  pub refused-is : (r : Refusal) → checked i s ≡ check.Failed r → RunContract i s (answer.Refused r (progress 0 0 (i .seed))) (listsOf s)
+  pub refused-is : (r : Refusal) → checked i s ≡ check.Failed r
+      → RunContract i s (answer.Refused r (progress 0 0 (i .seed))) (listsOf s)
   unfolding simulatedBy
   refused-is r e = record {
     result = rw e (record { answer = refl; lists = refl });
@@ -42,9 +45,11 @@ module _ (i : Inputs) (s : State Float) where
   }
 
   module _ (e : checked i s ≡ check.Passed) {r : Answer} {l′ : Lent Float}
-      (d : InnerContract (rulesOf (i .config) (kept (Runtime.runtimeOf (i .parameters)))) (startOf (rulesFor i) i s) r l′) where
+      (d : InnerContract (rulesOf (i .config) (kept (Runtime.runtimeOf (i .parameters))))
+      (startOf (rulesFor i) i s) r l′) where
     plainly : InnerContract (rulesFor i) (startOf (rulesFor i) i s) r l′
-    plainly = subst (λ (x : Scalars). InnerContract (rulesOf (i .config) x) (startOf (rulesFor i) i s) r l′) (kept-is (i .parameters)) d
+    plainly = subst (λ (x : Scalars). InnerContract (rulesOf (i .config) x) (startOf (rulesFor i) i s) r l′)
+        (kept-is (i .parameters)) d
 
     result : IsResult (simulated i s) r l′
     unfolding simulatedBy resultFrom
@@ -57,5 +62,6 @@ module _ (i : Inputs) (s : State Float) where
     pub accepted-is : RunContract i s r l′
     accepted-is = record {
       result = result;
-      demand-three = λ p f. ok-demand (rulesFor i) i s (suits splitMix i s (accepted i s e)) p (result .answer ∙ ap some f) l′ (result .lists);
+      demand-three = λ p f. ok-demand (rulesFor i) i s (suits splitMix i s (accepted i s e)) p
+          (result .answer ∙ ap some f) l′ (result .lists);
     }

@@ -1,5 +1,5 @@
--- THE DEMANDS, by number, of every call of the run, whatever is drawn: the record `Demands` of specs, filled in. Demand 2's equation and demand 3 stand in
--- `simulate`'s own contract.
+-- THE DEMANDS, by number, of every call of the run, whatever is drawn: the record `Demands` of specs, filled in. Demand
+-- 2's equation and demand 3 stand in `simulate`'s own contract.
 use mathlib.Core.Path.{_≡_, refl, sym, ap, _∙_}
 use mathlib.Core.List.{List}
 use mathlib.Core.Option.{some}
@@ -36,7 +36,8 @@ use Rattle.simulation.proofs.run.Due.{due-after, due-left, never-due}
 use Rattle.simulation.proofs.run.Answers.{ok-passed, told-stop, stop-told, ok-demand}
 
 module _ {C : Type 0} (R : Rules C) (i : Inputs) (s : State C) where
-  entry-refusal : (r : Refusal) → checked i s ≡ check.Failed r → simulatedBy R i s ≡ record { answer = some (answer.Refused r (progress 0 0 (i .seed))); state = s }
+  entry-refusal : (r : Refusal) → checked i s ≡ check.Failed r
+      → simulatedBy R i s ≡ record { answer = some (answer.Refused r (progress 0 0 (i .seed))); state = s }
   unfolding simulatedBy
   entry-refusal r e = rw e
 
@@ -47,7 +48,9 @@ module _ {C : Type 0} (R : Rules C) (i : Inputs) (s : State C) where
 -- the answer tells the stop, and the stop has its condition
 stops-exactly : (w : DrawRule) (i : Inputs) (s : State Float) → checked i s ≡ check.Passed → (x : Stop)
     → (let R = rulesWith w (i .config) (plain (i .parameters)) in
-    (simulatedBy R i s .answer ≡ some (answerOf x (progress (length (turnsOf R i s)) (cardsOf R i s) (endOf R i s .draws)))) ↔ StopCondition R (endOf R i s) x)
+    (simulatedBy R i s .answer
+    ≡ some (answerOf x (progress (length (turnsOf R i s)) (cardsOf R i s) (endOf R i s .draws)))) ↔ StopCondition R
+    (endOf R i s) x)
 stops-exactly w i s e x =
     let R = rulesWith w (i .config) (plain (i .parameters)) in
     let fit = suits w i s (accepted i s e) in
@@ -56,7 +59,8 @@ stops-exactly w i s e x =
 
 -- the answer tells the stop, and no state of the run has the condition of refusal 9
 no-due-refusal : (w : DrawRule) (i : Inputs) (s : State Float) → checked i s ≡ check.Passed → (c : ℕ) (p : Progress)
-    → simulatedBy (rulesWith w (i .config) (plain (i .parameters))) i s .answer ≢ some (answer.Refused (refusal.DueCount c) p)
+    → simulatedBy (rulesWith w (i .config) (plain (i .parameters))) i s .answer ≢ some
+    (answer.Refused (refusal.DueCount c) p)
 no-due-refusal w i s e c p z =
     let R = rulesWith w (i .config) (plain (i .parameters)) in
     let fit = suits w i s (accepted i s e) in
@@ -65,7 +69,8 @@ no-due-refusal w i s e c p z =
     never-due R i s (accepted i s e) fit c (by .0 (told-stop R i s fit e stop p z))
 
 -- ALL OF THEM, whatever is drawn
-pub demands : (w : DrawRule) (i : Inputs) (s : State Float) → Demands (rulesWith w (i .config) (plain (i .parameters))) i s
+pub demands : (w : DrawRule) (i : Inputs) (s : State Float)
+    → Demands (rulesWith w (i .config) (plain (i .parameters))) i s
 demands w i s =
     let R = rulesWith w (i .config) (plain (i .parameters)) in
     record {
@@ -88,4 +93,6 @@ same-model v v′ p = sym (kept-is v) ∙ ap kept (runtime-same v v′ p) ∙ ke
 
 pub unread-parameters : (w : DrawRule) (i : Inputs) (s : State Float) (v : List Float) → UnreadParameters w i s v
 unfolding simulatedBy setUp emptyDeck addAllCards
-unread-parameters w i s v p e e′ = rw (e, e′) (ap (λ (x : Scalars). resultFrom (rulesWith w (i .config) x) (startOf (rulesWith w (i .config) x) i s)) (sym (same-model (i .parameters) v p)))
+unread-parameters w i s v p e e′ = rw (e, e′)
+    (ap (λ (x : Scalars). resultFrom (rulesWith w (i .config) x) (startOf (rulesWith w (i .config) x) i s))
+    (sym (same-model (i .parameters) v p)))

@@ -30,7 +30,14 @@ pub record Inputs : Type 0 where
   pub existing-counts : List (List ℕ)
 
 abbrev pub inputs : SimulatorConfig → List Float → Float → ℕ → List (List Float) → List (List ℕ) → Inputs
-inputs config w retention seed existing counts = record { config = config; parameters = w; retention = retention; seed = seed; existing = existing; existing-counts = counts }
+inputs config w retention seed existing counts = record {
+  config = config;
+  parameters = w;
+  retention = retention;
+  seed = seed;
+  existing = existing;
+  existing-counts = counts;
+}
 
 -- the same inputs with other parameters
 abbrev pub withParameters : List Float → Inputs → Inputs

@@ -1,5 +1,6 @@
--- WHAT A STATE MUST SATISFY for a run to be lawful from it, in parts: `Lengths`, `InOrder`, `TableInRange`, `Counts`, `DueCounts`. Set-up leaves such a state, and every turn
--- keeps it one, by any rules whose slots are lawful; `DueBounds` is what it says of the due counts. Definitions only.
+-- WHAT A STATE MUST SATISFY for a run to be lawful from it, in parts: `Lengths`, `InOrder`, `TableInRange`, `Counts`,
+-- `DueCounts`. Set-up leaves such a state, and every turn keeps it one, by any rules whose slots are lawful;
+-- `DueBounds` is what it says of the due counts. Definitions only.
 --   dayIn, newIn, keyIn, lapsesIn, ..   a card's numbers, by the lists of rows
 --   RunBounds                           of the span and the number of cards
 --   StateInvariant                      of a state: its parts are the records before it
@@ -72,15 +73,17 @@ pub record InOrder {C : Type 0} (cards : ℕ) (s : State C) : Type 0 where
 abbrev pub TableInRange : Table → Type 0
 TableInRange t = (p : ℕ) → p < places t → freeAt t p ≡ false → IntervalInRange (valueAt t p)
 
--- on each day no more recalls than reviews, introduced cards no more than cards that are not new, and events no more than cards that are now due later;
--- of each card a lapse a day at most
+-- on each day no more recalls than reviews, introduced cards no more than cards that are not new, and events no more
+-- than cards that are now due later; of each card a lapse a day at most
 pub record Counts {C : Type 0} (cards span : ℕ) (s : State C) : Type 0 where
   pub recalls : (d : ℕ) → d < span → correctAt (s .days) d ≤ reviewedAt (s .days) d
   pub introduced : (d : ℕ) → d < span → introducedAt (s .days) d + sumTo cards (λ c. bit (newIn (s .cards) c)) ≤ cards
-  pub events : (d : ℕ) → d < span → learnedAt (s .days) d + reviewedAt (s .days) d ≤ sumTo cards (λ c. bit (ltb d (dayIn (s .cards) c)))
+  pub events : (d : ℕ) → d < span
+      → learnedAt (s .days) d + reviewedAt (s .days) d ≤ sumTo cards (λ c. bit (ltb d (dayIn (s .cards) c)))
   pub lapses : (c : ℕ) → c < cards → lapsesIn (s .counts) c ≤ 4000000000 + min (dayIn (s .cards) c) span
 
--- on each day that is counted, the due count has every queued card with a last date whose day it is, and at most the cards that are due then or later
+-- on each day that is counted, the due count has every queued card with a last date whose day it is, and at most the
+-- cards that are due then or later
 pub record DueCounts (n span : ℕ) (cards : List (List Float)) (q : Queue) (due : List ℕ) : Type 0 where
   pub least : (d : ℕ) → d < dueDays span → sumTo n (λ c. bit (awaits cards q d c)) ≤ getD due d 0
   pub most : (d : ℕ) → d < dueDays span → getD due d 0 ≤ sumTo n (λ c. bit (leb d (dayIn cards c)))
@@ -92,7 +95,8 @@ pub record StateInvariant {C : Type 0} (cards span : ℕ) (s : State C) : Type 0
   pub counts : Counts cards span s
   pub due : DueCounts cards span (s .cards) (s .queue) (s .due)
 
--- WHAT IT SAYS OF THE DUE COUNTS: on each day that is counted at least the queued cards with a last date whose day it is, and at most the run's cards
+-- WHAT IT SAYS OF THE DUE COUNTS: on each day that is counted at least the queued cards with a last date whose day it
+-- is, and at most the run's cards
 pub record DueBounds {C : Type 0} (cards span : ℕ) (s : State C) : Type 0 where
   pub least : (d : ℕ) → d < dueDays span → sumTo cards (λ c. bit (awaits (s .cards) (s .queue) d c)) ≤ getD (s .due) d 0
   pub most : (d : ℕ) → d < dueDays span → getD (s .due) d 0 ≤ cards

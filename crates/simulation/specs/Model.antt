@@ -28,8 +28,8 @@ pub record Model : Type 0 where
   pub event : DrawRule → Card → Bool → ℕ → ℕ → Event
   -- and the ratings that are drawn in it
   pub ratings : DrawRule → Card → Bool → ℕ → ℕ → Drawn
-  -- the interval for a stability and a retention: one that the table holds, a new one and its place, or none where the table is full (refusal 8);
-  -- a model without a table keeps the interval that it computes
+  -- the interval for a stability and a retention: one that the table holds, a new one and its place, or none where the
+  -- table is full (refusal 8); a model without a table keeps the interval that it computes
   pub slot : Table → Float → Float → Slot
 
 -- from a configuration and a model's scalars: an interval that is held and certified, or else a new one
@@ -38,7 +38,8 @@ modelOf g x = record {
   chance = x .chance;
   event = λ w. eventOf w g x;
   ratings = λ w. ratingsOf w g x;
-  slot = λ t s r. slotIn (λ v. certifies (λ d. x .chance d s) s r v (g .«max_ivl»)) (x .interval s r (g .«max_ivl»)) t (stabilityBucket s) (retentionBucket r);
+  slot = λ t s r. slotIn (λ v. certifies (λ d. x .chance d s) s r v (g .«max_ivl»)) (x .interval s r (g .«max_ivl»)) t
+      (stabilityBucket s) (retentionBucket r);
 }
 
 -- a card's forgetting curve, which a review asks for its chance and the memorized sums ask for each day

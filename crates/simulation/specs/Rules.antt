@@ -11,8 +11,8 @@ use Rattle.events.specs.Scalars.{Scalars}
 use Rattle.events.specs.Drawn.{Drawn, costs}
 use Rattle.simulation.specs.Model.{Model, modelOf}
 
--- the days of a run, the limits of each day, how many lapses retire a card, what an event costs and a day (`C` is what a cost is), how is drawn, and the
--- memory model
+-- the days of a run, the limits of each day, how many lapses retire a card, what an event costs and a day (`C` is what
+-- a cost is), how is drawn, and the memory model
 pub record Rules (C : Type 0) : Type 0 where
   pub span : ℕ
   pub limits : Limits C
@@ -23,7 +23,14 @@ pub record Rules (C : Type 0) : Type 0 where
 
 -- by a configuration and a model's scalars, whatever the way to draw
 abbrev pub rulesWith : DrawRule → SimulatorConfig → Scalars → Rules Float
-rulesWith w g x = record { span = g .«learn_span»; limits = limits g; lapse-limit = g .«suspend_after_lapses»; costs = costs g; draw = w; model = modelOf g x }
+rulesWith w g x = record {
+  span = g .«learn_span»;
+  limits = limits g;
+  lapse-limit = g .«suspend_after_lapses»;
+  costs = costs g;
+  draw = w;
+  model = modelOf g x;
+}
 
 -- and with SplitMix64, as a run draws
 abbrev pub rulesOf : SimulatorConfig → Scalars → Rules Float

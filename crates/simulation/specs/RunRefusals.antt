@@ -1,4 +1,5 @@
--- WHEN A RUN STOPS, AND HOW (docs/RULES.md, R1 to R4): a condition for each stop, on the state that the turns taken lead to, whose queue's first card has the turn. Definitions only.
+-- WHEN A RUN STOPS, AND HOW (docs/RULES.md, R1 to R4): a condition for each stop, on the state that the turns taken
+-- lead to, whose queue's first card has the turn. Definitions only.
 --   turnCard, turnDay, turnChoice   that card, its day, and what the turn does with it
 --   ChanceRefused, TableRefused, DueRefused   refusals 7, 8 and 9, with card c
 --   StopCondition R s x             the condition for the stop x
@@ -51,9 +52,11 @@ module _ {C : Type 0} (R : Rules C) (s : State C) where
     pub queued : 0 < s .queue .len
     pub first : c ≡ front (s .queue)
     pub review : turnChoice ≡ choice.Review
-    pub chance : chanceOk (R .model .chance (ofInt binary32 (pos turnDay) -ᶠ turnCard .«last_date») (turnCard .stability)) ≡ false
+    pub chance : chanceOk
+        (R .model .chance (ofInt binary32 (pos turnDay) -ᶠ turnCard .«last_date») (turnCard .stability)) ≡ false
 
-  -- 8: the turn of c, the first card, is an event; the key of the stability that it leaves is not held, and as many keys are held as the table is long
+  -- 8: the turn of c, the first card, is an event; the key of the stability that it leaves is not held, and as many
+  -- keys are held as the table is long
   pub record TableRefused (c : ℕ) : Type 0 where
     pub queued : 0 < s .queue .len
     pub first : c ≡ front (s .queue)
@@ -61,10 +64,12 @@ module _ {C : Type 0} (R : Rules C) (s : State C) where
     pub is-event : turnChoice ≡ eventChoice new
     pub memory : Memory
     pub happens : R .model .event (R .draw) turnCard new turnDay (s .draws) ≡ event.Happened memory
-    pub new-key : heldIn (s .table) (stabilityBucket (memory .stability)) (retentionBucket (turnCard .«desired_retention»)) ≡ none
+    pub new-key : heldIn (s .table) (stabilityBucket (memory .stability))
+        (retentionBucket (turnCard .«desired_retention»)) ≡ none
     pub full : countIn (s .table) ≡ places (s .table)
 
-  -- 9: c, the first card, has a last date and is put off from a day that counts none; no run comes to it (`Demands`, `no-due-refusal`)
+  -- 9: c, the first card, has a last date and is put off from a day that counts none; no run comes to it (`Demands`,
+  -- `no-due-refusal`)
   pub record DueRefused (c : ℕ) : Type 0 where
     pub queued : 0 < s .queue .len
     pub first : c ≡ front (s .queue)

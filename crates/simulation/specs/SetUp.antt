@@ -2,7 +2,7 @@
 --   newCard, newCardCount      a new card, and how many there are
 --   Deck, addCard              what the joining of cards writes, and one card more
 --   addKeptCard, addExistingCard, addExistingCards, addNewCards, addAllCards   existing and new cards
---   keptCount, introducedBefore   how many existing cards are kept, and how many of these have a last date
+--   keptCount, keptCards, introducedBefore   how many existing cards are kept, and how many of these have a last date
 --   setUp none i s             the state that a run begins with
 use Prim.Native.Nat.{ℕ, zero, suc, _+_, _-_, _/_}
 use mathlib.Core.Bool.{true, not, _&&_, cond}
@@ -75,12 +75,16 @@ addExistingCard span s k = cond (isKept k) (addKeptCard span s k) s
 -- the first n existing cards
 unfoldable pub addExistingCards : ℕ → List (List Float) → List (List ℕ) → ℕ → Deck → Deck
 addExistingCards span cards counts zero s = s
-addExistingCards span cards counts (suc i) s = addExistingCard span (addExistingCards span cards counts i s) (cardAt cards counts i)
+addExistingCards span cards counts (suc i) s = addExistingCard span (addExistingCards span cards counts i s)
+    (cardAt cards counts i)
 
 -- how many of the first n existing cards are kept
 unfoldable pub keptCount : List (List Float) → List (List ℕ) → ℕ → ℕ
 keptCount cards counts zero = 0
 keptCount cards counts (suc i) = keptCount cards counts i + bit (isKept (cardAt cards counts i))
+
+abbrev pub keptCards : Inputs → ℕ
+keptCards i = keptCount (i .existing) (i .existing-counts) (length (i .existing))
 
 -- how many of the first n existing cards are kept and have a last date
 unfoldable pub introducedBefore : List (List Float) → List (List ℕ) → ℕ → ℕ

@@ -27,7 +27,8 @@ use Rattle.simulation.specs.Turn.{next}
 use Rattle.simulation.specs.Entry.{Inputs, checked}
 use Rattle.simulation.specs.SetUp.{setUp}
 
--- an answer, and the state that is left; a run that its bound cuts off has no answer, and the contract of a call (`IsResult`) says that it has one
+-- an answer, and the state that is left; a run that its bound cuts off has no answer, and the contract of a call
+-- (`IsResult`) says that it has one
 pub record Result (C : Type 0) : Type 0 where
   pub answer : Option Answer
   pub state : State C
@@ -59,7 +60,11 @@ module _ {C : Type 0} (R : Rules C) where
   unfoldable pub resultFrom : State C → Result C
   resultFrom s =
       let r = runFrom s in
-      record { answer = answerIf (stopOf (next R) (bound s) s) (progress (length (r .turns)) (s .queue .len) (r .state .draws)); state = r .state }
+      record {
+        answer = answerIf (stopOf (next R) (bound s) s)
+            (progress (length (r .turns)) (s .queue .len) (r .state .draws));
+        state = r .state;
+      }
 
   -- an entry refusal leaves the lists as they are
   abbrev pub afterCheck : Inputs → Check → State C → Result C

@@ -37,8 +37,8 @@ pub record State (C : Type 0) : Type 0 where
 abbrev pub keyOf : Card → ℕ
 keyOf k = cardPriority (dayOf (k .due)) (isNew (k .«last_date»)) (k .difficulty)
 
--- THE LENT LISTS, as a caller has them: rows of cards and of their counts, of the queue, of days' counts, the days' costs, what is memorized on each, the due
--- counts, and the interval table
+-- THE LENT LISTS, as a caller has them: rows of cards and of their counts, of the queue, of days' counts, the days'
+-- costs, what is memorized on each, the due counts, and the interval table
 pub record Lent (C : Type 0) : Type 0 where
   pub cards : List (List Float)
   pub counts : List (List ℕ)
@@ -54,7 +54,8 @@ module _ {C : Type 0} where
   abbrev pub cardIn : State C → ℕ → Card
   cardIn s c = cardAt (s .cards) (s .counts) c
 
-  abbrev pub lent : List (List Float) → List (List ℕ) → List (List ℕ) → List (List ℕ) → List C → List Float → List ℕ → List (List ℕ) → List Float → Lent C
+  abbrev pub lent : List (List Float) → List (List ℕ) → List (List ℕ) → List (List ℕ) → List C → List Float → List ℕ
+      → List (List ℕ) → List Float → Lent C
   lent cards counts rows days costs memorized due keys intervals = record {
     cards = cards;
     counts = counts;
@@ -97,19 +98,79 @@ module _ {C : Type 0} where
 
   -- ---- a state with one part written anew, the others as they are
   abbrev pub withCards : List (List Float) → State C → State C
-  withCards x s = record { cards = x; counts = s .counts; queue = s .queue; days = s .days; costs = s .costs; memorized = s .memorized; due = s .due; table = s .table; draws = s .draws }
+  withCards x s = record {
+    cards = x;
+    counts = s .counts;
+    queue = s .queue;
+    days = s .days;
+    costs = s .costs;
+    memorized = s .memorized;
+    due = s .due;
+    table = s .table;
+    draws = s .draws;
+  }
 
   abbrev pub withQueue : Queue → State C → State C
-  withQueue x s = record { cards = s .cards; counts = s .counts; queue = x; days = s .days; costs = s .costs; memorized = s .memorized; due = s .due; table = s .table; draws = s .draws }
+  withQueue x s = record {
+    cards = s .cards;
+    counts = s .counts;
+    queue = x;
+    days = s .days;
+    costs = s .costs;
+    memorized = s .memorized;
+    due = s .due;
+    table = s .table;
+    draws = s .draws;
+  }
 
   abbrev pub withMemorized : List Float → State C → State C
-  withMemorized x s = record { cards = s .cards; counts = s .counts; queue = s .queue; days = s .days; costs = s .costs; memorized = x; due = s .due; table = s .table; draws = s .draws }
+  withMemorized x s = record {
+    cards = s .cards;
+    counts = s .counts;
+    queue = s .queue;
+    days = s .days;
+    costs = s .costs;
+    memorized = x;
+    due = s .due;
+    table = s .table;
+    draws = s .draws;
+  }
 
   abbrev pub withDue : List ℕ → State C → State C
-  withDue x s = record { cards = s .cards; counts = s .counts; queue = s .queue; days = s .days; costs = s .costs; memorized = s .memorized; due = x; table = s .table; draws = s .draws }
+  withDue x s = record {
+    cards = s .cards;
+    counts = s .counts;
+    queue = s .queue;
+    days = s .days;
+    costs = s .costs;
+    memorized = s .memorized;
+    due = x;
+    table = s .table;
+    draws = s .draws;
+  }
 
   abbrev pub withTable : Table → State C → State C
-  withTable x s = record { cards = s .cards; counts = s .counts; queue = s .queue; days = s .days; costs = s .costs; memorized = s .memorized; due = s .due; table = x; draws = s .draws }
+  withTable x s = record {
+    cards = s .cards;
+    counts = s .counts;
+    queue = s .queue;
+    days = s .days;
+    costs = s .costs;
+    memorized = s .memorized;
+    due = s .due;
+    table = x;
+    draws = s .draws;
+  }
 
   abbrev pub withDraws : ℕ → State C → State C
-  withDraws x s = record { cards = s .cards; counts = s .counts; queue = s .queue; days = s .days; costs = s .costs; memorized = s .memorized; due = s .due; table = s .table; draws = x }
+  withDraws x s = record {
+    cards = s .cards;
+    counts = s .counts;
+    queue = s .queue;
+    days = s .days;
+    costs = s .costs;
+    memorized = s .memorized;
+    due = s .due;
+    table = s .table;
+    draws = x;
+  }

@@ -1,4 +1,5 @@
--- What the steps of a turn, the loop and the joining of a card leave, as the contracts of private functions say it: no caller of the run needs it. Definitions only.
+-- What the steps of a turn, the loop and the joining of a card leave, as the contracts of private functions say it: no
+-- caller of the run needs it. Definitions only.
 use Prim.Native.Nat.{ℕ}
 use mathlib.Core.Bool.{Bool, true, false}
 use mathlib.Core.List.{List, []}
@@ -44,36 +45,45 @@ afterOf s (takes t s′) = s′
 afterOf s (stops x) = s
 
 -- the outcome, and the lists as the turn leaves them: untouched where it stops
-pub record TurnContract {C : Type 0} (n : Next (Turn Drawn) (State C) Stop) (s : State C) (r : Outcome) (l : Lent C) : Type 0 where
+pub record TurnContract {C : Type 0} (n : Next (Turn Drawn) (State C) Stop) (s : State C) (r : Outcome)
+    (l : Lent C) : Type 0 where
   pub outcome : r ≡ outcomeOf n
   pub lists : l ≡ listsOf (afterOf s n)
 
 -- ---- the steps that write few lists, by those
-pub record PutOff (span c : ℕ) (k : Card) (d len : ℕ) (cards : List (List Float)) (rows : List (List ℕ)) (due : List ℕ) (cards′ : List (List Float)) (rows′ : List (List ℕ)) (due′ : List ℕ) : Type 0 where
+pub record PutOff (span c : ℕ) (k : Card) (d len : ℕ) (cards : List (List Float)) (rows : List (List ℕ)) (due : List ℕ)
+    (cards′ : List (List Float)) (rows′ : List (List ℕ)) (due′ : List ℕ) : Type 0 where
   pub cards-are : cards′ ≡ writeFloats cards c (cardAfterPutOff k d)
   pub queue-is : queue rows′ len ≡ frontChanged (queue rows len) (keyOf (cardAfterPutOff k d))
   pub due-are : due′ ≡ moveDue span due (isNew (k .«last_date»)) d
 
-pub record Untouched (cards : List (List Float)) (rows : List (List ℕ)) (due : List ℕ) (cards′ : List (List Float)) (rows′ : List (List ℕ)) (due′ : List ℕ) : Type 0 where
+pub record Untouched (cards : List (List Float)) (rows : List (List ℕ)) (due : List ℕ) (cards′ : List (List Float))
+    (rows′ : List (List ℕ)) (due′ : List ℕ) : Type 0 where
   pub cards-are : cards′ ≡ cards
   pub rows-are : rows′ ≡ rows
   pub due-are : due′ ≡ due
 
-pub record PutOffStep (span c : ℕ) (k : Card) (d len draws : ℕ) (cards : List (List Float)) (rows : List (List ℕ)) (due : List ℕ) (r : Outcome) (cards′ : List (List Float)) (rows′ : List (List ℕ)) (due′ : List ℕ) : Type 0 where
-  pub refused : noneDue due (isNew (k .«last_date»)) d ≡ true → (r ≡ outcome.Stopped (stop.Refused (refusal.DueCount c))) × Untouched cards rows due cards′ rows′ due′
-  pub done : noneDue due (isNew (k .«last_date»)) d ≡ false → (r ≡ outcome.Took len draws) × PutOff span c k d len cards rows due cards′ rows′ due′
+pub record PutOffStep (span c : ℕ) (k : Card) (d len draws : ℕ) (cards : List (List Float)) (rows : List (List ℕ))
+    (due : List ℕ) (r : Outcome) (cards′ : List (List Float)) (rows′ : List (List ℕ)) (due′ : List ℕ) : Type 0 where
+  pub refused : noneDue due (isNew (k .«last_date»)) d ≡ true
+      → (r ≡ outcome.Stopped (stop.Refused (refusal.DueCount c))) × Untouched cards rows due cards′ rows′ due′
+  pub done : noneDue due (isNew (k .«last_date»)) d ≡ false
+      → (r ≡ outcome.Took len draws) × PutOff span c k d len cards rows due cards′ rows′ due′
 
-pub record RetireStep {C : Type 0} (R : Rules C) (k : Card) (len draws : ℕ) (memorized : List Float) (rows : List (List ℕ)) (r : Outcome) (memorized′ : List Float) (rows′ : List (List ℕ)) : Type 0 where
+pub record RetireStep {C : Type 0} (R : Rules C) (k : Card) (len draws : ℕ) (memorized : List Float)
+    (rows : List (List ℕ)) (r : Outcome) (memorized′ : List Float) (rows′ : List (List ℕ)) : Type 0 where
   pub outcome : r ≡ outcome.Took (popped (queue rows len) .len) draws
   pub memorized-are : memorized′ ≡ addForgettingCurve (R .model) memorized k (R .span)
   pub rows-are : rows′ ≡ popped (queue rows len) .rows
 
-pub record DaysWritten (R : Rules Float) (k : Card) (new : Bool) (d : ℕ) (x : Memory) (days : List (List ℕ)) (costs memorized : List Float) (days′ : List (List ℕ)) (costs′ memorized′ : List Float) : Type 0 where
+pub record DaysWritten (R : Rules Float) (k : Card) (new : Bool) (d : ℕ) (x : Memory) (days : List (List ℕ))
+    (costs memorized : List Float) (days′ : List (List ℕ)) (costs′ memorized′ : List Float) : Type 0 where
   pub days-are : days′ ≡ addEvent (R .span) days new d (x .recalled)
   pub costs-are : costs′ ≡ addCost (R .costs .none) (R .costs .plus) costs d (x .cost)
   pub memorized-are : memorized′ ≡ addForgettingCurve (R .model) memorized k d
 
-pub record CardWritten (c : ℕ) (k : Card) (len : ℕ) (cards : List (List Float)) (counts rows : List (List ℕ)) (cards′ : List (List Float)) (counts′ rows′ : List (List ℕ)) : Type 0 where
+pub record CardWritten (c : ℕ) (k : Card) (len : ℕ) (cards : List (List Float)) (counts rows : List (List ℕ))
+    (cards′ : List (List Float)) (counts′ rows′ : List (List ℕ)) : Type 0 where
   pub cards-are : cards′ ≡ writeFloats cards c k
   pub counts-are : counts′ ≡ writeCounts counts c k
   pub queue-is : queue rows′ len ≡ frontChanged (queue rows len) (keyOf k)
@@ -92,7 +102,8 @@ pub record InnerContract {C : Type 0} (R : Rules C) (s : State C) (r : Answer) (
   pub lists : l ≡ listsOf ((runFrom R s) .state)
 
 -- ---- set-up
-pub record CardAdded (k : Card) (len : ℕ) (cards : List (List Float)) (counts rows : List (List ℕ)) (r : ℕ) (cards′ : List (List Float)) (counts′ rows′ : List (List ℕ)) : Type 0 where
+pub record CardAdded (k : Card) (len : ℕ) (cards : List (List Float)) (counts rows : List (List ℕ)) (r : ℕ)
+    (cards′ : List (List Float)) (counts′ rows′ : List (List ℕ)) : Type 0 where
   pub cards-are : cards′ ≡ writeFloats cards len k
   pub counts-are : counts′ ≡ writeCounts counts len k
   pub queue-is : queue rows′ r ≡ pushed (queue rows len) len (keyOf k)

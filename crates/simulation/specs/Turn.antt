@@ -74,7 +74,8 @@ turnAs c d kind = record { card = c; day = d; kind = kind }
 unfoldable pub addForgettingCurve : Model → List Float → Card → ℕ → List Float
 addForgettingCurve m memorized k e =
     cond (isNew (k .«last_date»)) memorized
-    (let from = toUnsigned 32 (k .«last_date») in addForgettingCurveRange (λ t. m .chance t (k .stability)) memorized (e - from) from (k .«last_date»))
+    (let from = toUnsigned 32 (k .«last_date») in addForgettingCurveRange (λ t. m .chance t (k .stability)) memorized
+    (e - from) from (k .«last_date»))
 
 abbrev pub orElse : {A : Type 0} → Bool → A → A → A
 orElse true a b = a
@@ -83,7 +84,8 @@ orElse false a b = b
 module _ {C : Type 0} (R : Rules C) where
   -- the first card leaves the queue, memorized to the span's end
   unfoldable pub afterRetire : State C → Card → State C
-  afterRetire s k = withQueue (popped (s .queue)) (withMemorized (addForgettingCurve (R .model) (s .memorized) k (R .span)) s)
+  afterRetire s k = withQueue (popped (s .queue))
+      (withMemorized (addForgettingCurve (R .model) (s .memorized) k (R .span)) s)
 
   -- the first card, c, goes from day d to the next
   unfoldable pub afterPutOff : State C → ℕ → Card → ℕ → State C
@@ -115,11 +117,13 @@ module _ {C : Type 0} (R : Rules C) where
 
   abbrev pub eventWithSlot : State C → ℕ → Card → Bool → ℕ → Memory → Slot → Next (Turn Drawn) (State C) Stop
   eventWithSlot s c k new d x (slot.Keep v) = takes (eventTurn s c k new d x) (afterEvent s c k new d x (slot.Keep v))
-  eventWithSlot s c k new d x (slot.Enter p a b v) = takes (eventTurn s c k new d x) (afterEvent s c k new d x (slot.Enter p a b v))
+  eventWithSlot s c k new d x (slot.Enter p a b v) = takes (eventTurn s c k new d x)
+      (afterEvent s c k new d x (slot.Enter p a b v))
   eventWithSlot s c k new d x slot.Full = refuses (refusal.TableFull c)
 
   abbrev pub eventWithDraw : State C → ℕ → Card → Bool → ℕ → Event → Next (Turn Drawn) (State C) Stop
-  eventWithDraw s c k new d (event.Happened x) = eventWithSlot s c k new d x (R .model .slot (s .table) (x .stability) (k .«desired_retention»))
+  eventWithDraw s c k new d (event.Happened x) = eventWithSlot s c k new d x
+      (R .model .slot (s .table) (x .stability) (k .«desired_retention»))
   eventWithDraw s c k new d event.ChanceOutOfRange = refuses (refusal.ChanceOutOfRange c)
 
   unfoldable pub eventOn : State C → ℕ → Card → Bool → ℕ → Next (Turn Drawn) (State C) Stop
@@ -127,13 +131,16 @@ module _ {C : Type 0} (R : Rules C) where
 
   abbrev pub act : State C → ℕ → Card → ℕ → Choice → Next (Turn Drawn) (State C) Stop
   act s c k d choice.Retire = takes (turnAs c d retire) (afterRetire s k)
-  act s c k d choice.PutOff = orElse (noneDue (s .due) (isNew (k .«last_date»)) d) (refuses (refusal.DueCount c)) (takes (turnAs c d putOff) (afterPutOff s c k d))
+  act s c k d choice.PutOff = orElse (noneDue (s .due) (isNew (k .«last_date»)) d) (refuses (refusal.DueCount c))
+      (takes (turnAs c d putOff) (afterPutOff s c k d))
   act s c k d choice.Learn = eventOn s c k true d
   act s c k d choice.Review = eventOn s c k false d
 
   -- the turn of card c, which is k and of day d
   abbrev pub turnOfCard : State C → ℕ → Card → ℕ → Next (Turn Drawn) (State C) Stop
-  turnOfCard s c k d = act s c k d (choiceOf (R .span) (R .lapse-limit) (R .limits) d k (learnedAt (s .days) d) (reviewedAt (s .days) d) (costAt (R .costs .none) (s .costs) d))
+  turnOfCard s c k d = act s c k d
+      (choiceOf (R .span) (R .lapse-limit) (R .limits) d k (learnedAt (s .days) d) (reviewedAt (s .days) d)
+      (costAt (R .costs .none) (s .costs) d))
 
   -- a turn looks at the queue's first card; the run ends when the queue is empty
   unfoldable pub next : State C → Next (Turn Drawn) (State C) Stop

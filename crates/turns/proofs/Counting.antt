@@ -22,7 +22,8 @@ module _ {A : Type 0} where
   all-map h [] x = tt
   all-map h (a ∷ l) x = (h a (x .0), all-map h l (x .1))
 
-  pub each-map : {P Q : A → List A → Type 0} → ((a : A) (l : List A) → P a l → Q a l) → (l : List A) → Each P l → Each Q l
+  pub each-map : {P Q : A → List A → Type 0} → ((a : A) (l : List A) → P a l → Q a l) → (l : List A) → Each P l
+      → Each Q l
   each-map h [] x = tt
   each-map h (a ∷ l) x = (h a l (x .0), each-map h l (x .1))
 
@@ -38,7 +39,8 @@ module _ {A : Type 0} where
   count-same p q [] h = refl
   count-same p q (a ∷ l) h = omega (arith, ap bit (h .0), count-same p q l (h .1))
 
-  pub count-split : (p q r : A → Bool) → ((a : A) → bit (p a) ≡ bit (q a) + bit (r a)) → (l : List A) → count p l ≡ count q l + count r l
+  pub count-split : (p q r : A → Bool) → ((a : A) → bit (p a) ≡ bit (q a) + bit (r a)) → (l : List A)
+      → count p l ≡ count q l + count r l
   count-split p q r h [] = refl
   count-split p q r h (a ∷ l) = omega (arith, h a, count-split p q r h l)
 
@@ -53,14 +55,22 @@ sum-place true n k = go (decLt k n)
   where
     go : Dec (k < n) → sumTo n (λ i. bit (eqb k i)) ≡ bit (ltb k n)
     go (yes h) = sum-one n k h ∙ sym (ap bit (lt-ltb k n h))
-    go (no h) = sum-same n (λ i. bit (eqb k i)) (λ i. 0) (λ i l. at-ne k i (omega arith)) ∙ sum-zero n ∙ sym (ap bit (le-ltb k n (omega arith)))
+    go (no h) = sum-same n (λ i. bit (eqb k i)) (λ i. 0) (λ i l. at-ne k i (omega arith)) ∙ sum-zero n
+        ∙ sym (ap bit (le-ltb k n (omega arith)))
 
 module _ {A : Type 0} (p : A → Bool) (key : A → ℕ) (n : ℕ) where
-  pub count-below : (l : List A) → sumTo n (λ i. count (λ a. p a && eqb (key a) i) l) ≡ count (λ a. p a && ltb (key a) n) l
+  pub count-below : (l : List A)
+      → sumTo n (λ i. count (λ a. p a && eqb (key a) i) l) ≡ count (λ a. p a && ltb (key a) n) l
   count-below [] = sum-zero n
-  count-below (a ∷ l) = omega (arith, sum-add n (λ i. bit (p a && eqb (key a) i)) (λ i. count (λ b. p b && eqb (key b) i) l), sum-place (p a) n (key a), count-below l)
+  count-below (a ∷ l) = omega (
+    arith,
+    sum-add n (λ i. bit (p a && eqb (key a) i)) (λ i. count (λ b. p b && eqb (key b) i) l),
+    sum-place (p a) n (key a),
+    count-below l,
+  )
 
-  pub count-all : (l : List A) → All (λ a. p a ≡ true → key a < n) l → sumTo n (λ i. count (λ a. p a && eqb (key a) i) l) ≡ count p l
+  pub count-all : (l : List A) → All (λ a. p a ≡ true → key a < n) l
+      → sumTo n (λ i. count (λ a. p a && eqb (key a) i) l) ≡ count p l
   count-all l h = count-below l ∙ count-same _ _ l (all-map (λ a. inside (p a) (key a)) l h)
     where
       inside : (b : Bool) (k : ℕ) → (b ≡ true → k < n) → (b && ltb k n) ≡ b

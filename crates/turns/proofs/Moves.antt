@@ -1,5 +1,6 @@
--- What a turn does to its card, as far as the order of the queue plays no part; and what follows for any chain of such turns, from any
--- state: no card has two turns on one day, each has at most span + 1 turns in all, and the turns are at most cards × (span + 1).
+-- What a turn does to its card, as far as the order of the queue plays no part; and what follows for any chain of such
+-- turns, from any state: no card has two turns on one day, each has at most span + 1 turns in all, and the turns are at
+-- most cards × (span + 1).
 -- A state is looked at through a `View`: the day of each card, whether it is new, whether it is queued.
 use Prim.Native.Nat.{ℕ, suc, _*_, _≤_, _<_}
 use native.Mathlib.Omega.{arith}
@@ -51,7 +52,8 @@ module _ {E S : Type 0} (v : View S) where
     pub onward : v .queued s′ (t .card) ≡ true → Onward v span (t .card) (t .day) s′
     onward = go (t .kind) (m .does)
       where
-        go : (k : Kind E) → Does span k (t .card) (t .day) s s′ → v .queued s′ (t .card) ≡ true → Onward v span (t .card) (t .day) s′
+        go : (k : Kind E) → Does span k (t .card) (t .day) s s′ → v .queued s′ (t .card) ≡ true
+            → Onward v span (t .card) (t .day) s′
         go (learn e) x q = x .2
         go (review r e) x q = x .2
         go putOff x q = x .1
@@ -86,19 +88,33 @@ module _ {E S : Type 0} (v : View S) where
     used-other : (c : ℕ) → c ≢ t .card → Used span c ts s → Used span c (t ∷ ts) s′
     used-other c h u = record {
       all = omega (arith, at-ne (t .card) c (omega arith), u .all);
-      queued-span = λ q. omega (arith, at-ne (t .card) c (omega arith), u .queued-span (sym (m .others c h .same-queued) ∙ q));
-      queued-day = λ q. omega (arith, at-ne (t .card) c (omega arith), m .others c h .same-day, u .queued-day (sym (m .others c h .same-queued) ∙ q));
+      queued-span = λ q. omega
+          (arith, at-ne (t .card) c (omega arith), u .queued-span (sym (m .others c h .same-queued) ∙ q));
+      queued-day = λ q. omega (
+        arith,
+        at-ne (t .card) c (omega arith),
+        m .others c h .same-day,
+        u .queued-day (sym (m .others c h .same-queued) ∙ q),
+      );
     }
 
-  used : {cards span : ℕ} {s₀ : S} (c : ℕ) {ts : List (Turn E)} {s : S} → Chain (MoveSteps cards span) s₀ ts s → Used span c ts s
+  used : {cards span : ℕ} {s₀ : S} (c : ℕ) {ts : List (Turn E)} {s : S} → Chain (MoveSteps cards span) s₀ ts s
+      → Used span c ts s
   used c start = record { all = omega arith; queued-span = λ q. omega arith; queued-day = λ q. omega arith }
-  used {cards = cards} {span = span} c (more {ts = ts} {s = s} {t = t} {s′ = s′} r m) = go (ℕ-discrete c (t .card)) (used c r)
+  used {cards = cards} {span = span} c (more {ts = ts} {s = s} {t = t} {s′ = s′} r m) = go (ℕ-discrete c (t .card))
+      (used c r)
     where
       go : Dec (c ≡ t .card) → Used span c ts s → Used span c (t ∷ ts) s′
       go (yes e) u = rw e (used-own ts m (rw e at u))
       go (no e) u = used-other ts m c e u
 
   -- THE BOUND ON TURNS, from any state and in any order of the queue
-  pub few-turns : (cards span : ℕ) {s₀ : S} {ts : List (Turn E)} {s : S} → Chain (MoveSteps cards span) s₀ ts s → length ts ≤ cards * suc span
+  pub few-turns : (cards span : ℕ) {s₀ : S} {ts : List (Turn E)} {s : S} → Chain (MoveSteps cards span) s₀ ts s
+      → length ts ≤ cards * suc span
   few-turns cards span {ts = ts} r =
-      omega (arith, count-length ts, count-all (λ t. true) (λ t. t .card) cards ts (chain-all (λ ts s t s′ m q. m .is-card) r), sum-le cards (suc span) (λ c. count (λ t. eqb (t .card) c) ts) (λ c h. used c r .all))
+      omega (
+        arith,
+        count-length ts,
+        count-all (λ t. true) (λ t. t .card) cards ts (chain-all (λ ts s t s′ m q. m .is-card) r),
+        sum-le cards (suc span) (λ c. count (λ t. eqb (t .card) c) ts) (λ c h. used c r .all),
+      )

@@ -26,7 +26,8 @@ module _ {E S : Type 0} (v : View S) where
     all : turnsOn c d ts ≤ 1
     queued : v .queued s c ≡ true → turnsOn c d ts ≤ bit (ltb d (v .day s c))
 
-  module _ {cards span : ℕ} (d : ℕ) (ts : List (Turn E)) {s : S} {t : Turn E} {s′ : S} (m : Moves v cards span s t s′) where
+  module _ {cards span : ℕ} (d : ℕ) (ts : List (Turn E)) {s : S} {t : Turn E} {s′ : S}
+      (m : Moves v cards span s t s′) where
     adds-own : bit (eqb (t .card) (t .card) && eqb (t .day) d) ≡ bit (eqb (t .day) d)
     adds-own = and-on _ _ (eq-eqb (t .card) (t .card) refl)
 
@@ -38,17 +39,25 @@ module _ {E S : Type 0} (v : View S) where
 
     once-own : OnceOn (t .card) d ts s → OnceOn (t .card) d (t ∷ ts) s′
     once-own u = record {
-      all = omega (arith, adds-own, before-own u, lt-step d (t .day) (suc (t .day)) (omega arith), bit-le (ltb d (suc (t .day))));
+      all = omega (
+        arith,
+        adds-own,
+        before-own u,
+        lt-step d (t .day) (suc (t .day)) (omega arith),
+        bit-le (ltb d (suc (t .day))),
+      );
       queued = λ q. omega (arith, adds-own, before-own u, lt-step d (t .day) (v .day s′ (t .card)) (onward v m q .1));
     }
 
     once-other : (c : ℕ) → c ≢ t .card → OnceOn c d ts s → OnceOn c d (t ∷ ts) s′
     once-other c h u = record {
       all = omega (arith, adds-other c h, u .all);
-      queued = λ q. rw (m .others c h .same-day) (omega (arith, adds-other c h, u .queued (sym (m .others c h .same-queued) ∙ q)));
+      queued = λ q. rw (m .others c h .same-day)
+          (omega (arith, adds-other c h, u .queued (sym (m .others c h .same-queued) ∙ q)));
     }
 
-  once : {cards span : ℕ} {s₀ : S} (c d : ℕ) {ts : List (Turn E)} {s : S} → Chain (MoveSteps v cards span) s₀ ts s → OnceOn c d ts s
+  once : {cards span : ℕ} {s₀ : S} (c d : ℕ) {ts : List (Turn E)} {s : S} → Chain (MoveSteps v cards span) s₀ ts s
+      → OnceOn c d ts s
   once c d start = record { all = omega arith; queued = λ q. omega arith }
   once c d (more {ts = ts} {s = s} {t = t} {s′ = s′} r m) = go (ℕ-discrete c (t .card)) (once c d r)
     where
@@ -56,9 +65,17 @@ module _ {E S : Type 0} (v : View S) where
       go (yes e) u = rw e (once-own d ts m (rw e at u))
       go (no e) u = once-other d ts m c e u
 
-  pub one-turn-a-day : {cards span : ℕ} {s₀ : S} (c d : ℕ) {ts : List (Turn E)} {s : S} → Chain (MoveSteps v cards span) s₀ ts s → turnsOn c d ts ≤ 1
+  pub one-turn-a-day : {cards span : ℕ} {s₀ : S} (c d : ℕ) {ts : List (Turn E)} {s : S}
+      → Chain (MoveSteps v cards span) s₀ ts s → turnsOn c d ts ≤ 1
   one-turn-a-day c d r = once c d r .all
 
-  pub one-event-a-day : {cards span : ℕ} {s₀ : S} (c d : ℕ) {ts : List (Turn E)} {s : S} → Chain (MoveSteps v cards span) s₀ ts s → handledOn c d ts ≤ 1
+  pub one-event-a-day : {cards span : ℕ} {s₀ : S} (c d : ℕ) {ts : List (Turn E)} {s : S}
+      → Chain (MoveSteps v cards span) s₀ ts s → handledOn c d ts ≤ 1
   one-event-a-day c d {ts = ts} r =
-      omega (arith, count-under (λ t. isEvent (t .kind) && (eqb (t .card) c && eqb (t .day) d)) (λ t. eqb (t .card) c && eqb (t .day) d) (λ t. and-le (isEvent (t .kind)) (eqb (t .card) c && eqb (t .day) d)) ts, one-turn-a-day c d r)
+      omega (
+        arith,
+        count-under (λ t. isEvent (t .kind) && (eqb (t .card) c && eqb (t .day) d))
+            (λ t. eqb (t .card) c && eqb (t .day) d)
+            (λ t. and-le (isEvent (t .kind)) (eqb (t .card) c && eqb (t .day) d)) ts,
+        one-turn-a-day c d r,
+      )

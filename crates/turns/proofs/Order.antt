@@ -1,5 +1,6 @@
--- The order of the queue, of which one number says all: a card's place is twice its day, and one more while it is new, so that a day's
--- reviews come before its new cards. A turn takes a card whose place is least. Then places never fall along a chain: so days never fall, and
+-- The order of the queue, of which one number says all: a card's place is twice its day, and one more while it is new,
+-- so that a day's reviews come before its new cards. A turn takes a card whose place is least. Then places never fall
+-- along a chain: so days never fall, and
 -- on no day does a review come after a learning.
 use Prim.Native.Nat.{ℕ, suc, _+_, _*_, _≤_, _<_}
 use native.Mathlib.Omega.{arith}
@@ -32,7 +33,8 @@ module _ {S : Type 0} (v : View S) where
     where
       go : Dec (place s c ≤ place s c′) → place s c ≤ place s c′
       go (yes l) = l
-      go (no n) = absurd (omega (arith, h c′ q, small c′ q, mul-le-mul-right w (let l : suc (place s c′) ≤ place s c = omega arith in l)))
+      go (no n) = absurd (omega
+          (arith, h c′ q, small c′ q, mul-le-mul-right w (let l : suc (place s c′) ≤ place s c = omega arith in l)))
 
 module _ {E S : Type 0} (v : View S) where
   -- a step in the order of the queue
@@ -64,7 +66,8 @@ module _ {E S : Type 0} (v : View S) where
         go retire x q = absurd (false≢true q)
 
     -- what bounds the queue's places from below goes on doing so
-    floor-kept : (x : ℕ) → ((c : ℕ) → v .queued s c ≡ true → x ≤ place v s c) → (c : ℕ) → v .queued s′ c ≡ true → x ≤ place v s′ c
+    floor-kept : (x : ℕ) → ((c : ℕ) → v .queued s c ≡ true → x ≤ place v s c) → (c : ℕ) → v .queued s′ c ≡ true
+        → x ≤ place v s′ c
     floor-kept x f c q = go (ℕ-discrete c (t .card))
       where
         own : v .queued s′ (t .card) ≡ true → x ≤ place v s′ (t .card)
@@ -72,23 +75,38 @@ module _ {E S : Type 0} (v : View S) where
 
         go : Dec (c ≡ t .card) → x ≤ place v s′ c
         go (yes e) = rw e (own (rw e at q))
-        go (no e) = omega (arith, f c (sym (m .others c e .same-queued) ∙ q), m .others c e .same-day, ap bit (m .others c e .same-new))
+        go (no e) = omega (
+          arith,
+          f c (sym (m .others c e .same-queued) ∙ q),
+          m .others c e .same-day,
+          ap bit (m .others c e .same-new),
+        )
 
   -- no queued card stands before a turn that was
-  floor : {cards span : ℕ} {s₀ : S} {ts : List (Turn E)} {s : S} → Chain (Orderly cards span) s₀ ts s → All (λ u. (c : ℕ) → v .queued s c ≡ true → rank u ≤ place v s c) ts
+  floor : {cards span : ℕ} {s₀ : S} {ts : List (Turn E)} {s : S} → Chain (Orderly cards span) s₀ ts s
+      → All (λ u. (c : ℕ) → v .queued s c ≡ true → rank u ≤ place v s c) ts
   floor start = tt
-  floor (more {ts = ts} {s = s} {t = t} r o) =
-      (floor-kept (o .moves) (rank t) (λ c q. omega (arith, rank-le (o .moves), o .least c q)), all-map (λ u. floor-kept (o .moves) (rank u)) ts (floor r))
+  floor (more {ts = ts} {s = s} {t = t} r o) = (
+    floor-kept (o .moves) (rank t) (λ c q. omega (arith, rank-le (o .moves), o .least c q)),
+    all-map (λ u. floor-kept (o .moves) (rank u)) ts (floor r),
+  )
 
   -- so each turn's card stands at or behind all turns before it
-  behind : {cards span : ℕ} {s₀ : S} {ts : List (Turn E)} {s : S} {t : Turn E} {s′ : S} → Chain (Orderly cards span) s₀ ts s → Moves v cards span s t s′ → All (λ u. rank u ≤ place v s (t .card)) ts
+  behind : {cards span : ℕ} {s₀ : S} {ts : List (Turn E)} {s : S} {t : Turn E} {s′ : S}
+      → Chain (Orderly cards span) s₀ ts s → Moves v cards span s t s′ → All (λ u. rank u ≤ place v s (t .card)) ts
   behind {ts = ts} {t = t} r m = all-map (λ u f. f (t .card) (m .is-queued)) ts (floor r)
 
-  pub days-never-fall : {cards span : ℕ} {s₀ : S} {ts : List (Turn E)} {s : S} → Chain (Orderly cards span) s₀ ts s → Each (λ t before. All (λ u. u .day ≤ t .day) before) ts
-  days-never-fall = chain-each (λ ts s t s′ r o. all-map (λ u h. omega (arith, o .moves .is-day, bit-le (v .new s (t .card)))) ts (behind r (o .moves)))
+  pub days-never-fall : {cards span : ℕ} {s₀ : S} {ts : List (Turn E)} {s : S} → Chain (Orderly cards span) s₀ ts s
+      → Each (λ t before. All (λ u. u .day ≤ t .day) before) ts
+  days-never-fall = chain-each
+      (λ ts s t s′ r o. all-map (λ u h. omega (arith, o .moves .is-day, bit-le (v .new s (t .card)))) ts
+      (behind r (o .moves)))
 
-  pub reviews-come-first : {cards span : ℕ} {s₀ : S} {ts : List (Turn E)} {s : S} → Chain (Orderly cards span) s₀ ts s → Each (λ t before. isReview (t .kind) ≡ true → learnedOn (t .day) before ≡ 0) ts
-  reviews-come-first = chain-each (λ ts s t s′ r o q. count-none (λ u. isLearn (u .kind) && eqb (u .day) (t .day)) ts (all-map (λ u h. none u t (omega (arith, review-place (o .moves) q))) ts (behind r (o .moves))))
+  pub reviews-come-first : {cards span : ℕ} {s₀ : S} {ts : List (Turn E)} {s : S} → Chain (Orderly cards span) s₀ ts s
+      → Each (λ t before. isReview (t .kind) ≡ true → learnedOn (t .day) before ≡ 0) ts
+  reviews-come-first = chain-each
+      (λ ts s t s′ r o q. count-none (λ u. isLearn (u .kind) && eqb (u .day) (t .day)) ts
+      (all-map (λ u h. none u t (omega (arith, review-place (o .moves) q))) ts (behind r (o .moves))))
     where
       none : (u t : Turn E) → rank u ≤ 2 * t .day → (isLearn (u .kind) && eqb (u .day) (t .day)) ≡ false
       none u t = go (isLearn (u .kind))

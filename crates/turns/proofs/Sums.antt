@@ -41,7 +41,8 @@ lt-step d x y h = go (decLt d x) (ℕ-discrete x d)
   where
     go : Dec (d < x) → Dec (x ≡ d) → bit (ltb d x) + bit (eqb x d) ≤ bit (ltb d y)
     go (yes a) q = omega (arith, ap bit (lt-ltb d x a), ap bit (lt-ltb d y (omega arith)), at-ne x d (omega arith))
-    go (no a) (yes e) = omega (arith, ap bit (le-ltb d x (omega arith)), ap bit (lt-ltb d y (omega arith)), bit-le (eqb x d))
+    go (no a) (yes e) = omega
+        (arith, ap bit (le-ltb d x (omega arith)), ap bit (lt-ltb d y (omega arith)), bit-le (eqb x d))
     go (no a) (no e) = omega (arith, ap bit (le-ltb d x (omega arith)), at-ne x d e)
 
 -- who goes from day x to a later day y has now reached day y too, and every day that was reached before
@@ -90,10 +91,12 @@ pub sum-at : (n k : ℕ) (f g : ℕ → ℕ) → k < n → ((i : ℕ) → i ≢ 
 sum-at zero k f g h o = absurd (not-suc-le-zero h)
 sum-at (suc n) k f g h o = go (ℕ-discrete k n) (sum-at n k f g)
   where
-    go : Dec (k ≡ n) → (k < n → ((i : ℕ) → i ≢ k → g i ≡ f i) → sumTo n g + f k ≡ sumTo n f + g k) → sumTo n g + g n + f k ≡ sumTo n f + f n + g k
+    go : Dec (k ≡ n) → (k < n → ((i : ℕ) → i ≢ k → g i ≡ f i) → sumTo n g + f k ≡ sumTo n f + g k)
+        → sumTo n g + g n + f k ≡ sumTo n f + f n + g k
     go (yes q) ih = omega (arith, ap f q, ap g q, sum-same n g f (λ i l. o i (omega arith)))
     go (no q) ih = omega (arith, ih (omega arith) o, o n (omega arith))
 
 -- what stands at k alone is counted once
 pub sum-one : (n k : ℕ) → k < n → sumTo n (λ i. bit (eqb k i)) ≡ 1
-sum-one n k h = omega (arith, sum-zero n, sum-at n k (λ i. 0) (λ i. bit (eqb k i)) h (λ i q. at-ne k i (omega arith)), at-same k)
+sum-one n k h = omega
+    (arith, sum-zero n, sum-at n k (λ i. 0) (λ i. bit (eqb k i)) h (λ i q. at-ne k i (omega arith)), at-same k)

@@ -18,7 +18,8 @@ pub record RunState (A S : Type 0) : Type 0 where
 
 abbrev pub run : {A S X : Type 0} → (S → Next A S X) → ℕ → List A → S → RunState A S
 run next zero ts s = record { turns = ts; state = s }
-run next (suc n) ts s = elim (next s) [ takes t s′ ↦ run next n (t ∷ ts) s′ | stops x ↦ record { turns = ts; state = s } ]
+run next (suc n) ts s = elim
+    (next s) [ takes t s′ ↦ run next n (t ∷ ts) s′ | stops x ↦ record { turns = ts; state = s } ]
 
 -- how a run of at most n turns stops; none where it is cut off
 abbrev pub stopOf : {A S X : Type 0} → (S → Next A S X) → ℕ → S → Option X

@@ -1,7 +1,7 @@
 -- THE TURNS OF A RUN, what is counted of them, and what is claimed of the whole list (docs/RULES.md, D2 to D5).
 -- A list of turns is kept LATEST FIRST: behind a turn stand the turns before it.
--- Nothing here names a model version, a way to draw or a number format: `E` is whatever an event records besides its kind, such as its
--- ratings, and `C` is whatever costs are, with their own sum.
+-- Nothing here names a model version, a way to draw or a number format: `E` is whatever an event records besides its
+-- kind, such as its ratings, and `C` is whatever costs are, with their own sum.
 use Prim.Native.Nat.{ℕ, suc, _+_, _*_, _≤_, _<_}
 use mathlib.Core.Bool.{Bool, true, false, not, _&&_, cond}
 use mathlib.Core.List.{List, [], _∷_}
@@ -97,7 +97,8 @@ costOn b d (t ∷ ts) =
     let before = costOn b d ts in
     cond (isEvent (t .kind) && eqb (t .day) d) (b .plus before (b .cost t)) before
 
--- The limits in force on each day: how many learnings, how many reviews, whether learnings count as reviews, which cost is above the maximum
+-- The limits in force on each day: how many learnings, how many reviews, whether learnings count as reviews, which cost
+-- is above the maximum
 pub record Limits (C : Type 0) : Type 0 where
   pub learns : ℕ → ℕ
   pub reviews : ℕ → ℕ
@@ -116,8 +117,10 @@ pub record Demand {E C : Type 0} (cards span : ℕ) (b : CostRule E C) (l : Limi
   pub days-rise : Each (λ t before. All (λ u. u .day ≤ t .day) before) ts
   pub few : length ts ≤ cards * suc span
 
--- and of the rows that the run writes, by day: `introduced₀` cards had a last date at set-up, and all cards' lapses were `lapses₀` at set-up and are `lapses` now
-pub record Rows {E C : Type 0} (span introduced₀ lapses₀ lapses : ℕ) (b : CostRule E C) (learned reviewed correct introduced : ℕ → ℕ) (cost : ℕ → C) (ts : List (Turn E)) : Type 0 where
+-- and of the rows that the run writes, by day: `introduced₀` cards had a last date at set-up, and all cards' lapses
+-- were `lapses₀` at set-up and are `lapses` now
+pub record Rows {E C : Type 0} (span introduced₀ lapses₀ lapses : ℕ) (b : CostRule E C)
+    (learned reviewed correct introduced : ℕ → ℕ) (cost : ℕ → C) (ts : List (Turn E)) : Type 0 where
   pub learned-is : (d : ℕ) → d < span → learned d ≡ learnedOn d ts
   pub reviewed-is : (d : ℕ) → d < span → reviewed d ≡ reviewedOn d ts
   pub correct-is : (d : ℕ) → d < span → correct d ≡ correctOn d ts

@@ -20,7 +20,12 @@ amount-ok-requires-2 : tie.Need-amount-ok-requires-2
 amount-ok-requires-2 c κs = tt
 
 returns-2 : tie.Need-returns-2
-returns-2 c = rw (← c .before .before .before .amount-ok .ensures, not-false (c .before .before .before .amount-ok .result) (c .before .before .if1 .left), ← c .before .amount-ok2 .ensures, not-true (c .before .amount-ok2 .result) (c .if2 .taken))
+returns-2 c = rw (
+  ← c .before .before .before .amount-ok .ensures,
+  not-false (c .before .before .before .amount-ok .result) (c .before .before .if1 .left),
+  ← c .before .amount-ok2 .ensures,
+  not-true (c .before .amount-ok2 .result) (c .if2 .taken),
+)
 
 array-read-amount-ok-3 : tie.Need-array-read-amount-ok-3
 array-read-amount-ok-3 c = search needs

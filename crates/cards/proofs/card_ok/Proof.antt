@@ -16,7 +16,12 @@ is-finite-requires-2 c κs = tt
 
 returns-2 : tie.Need-returns-2
 unfolding cardOk
-returns-2 c = rw (← c .before .before .before .is-finite .ensures, not-false (c .before .before .before .is-finite .result) (c .before .before .if1 .left), ← c .before .is-finite2 .ensures, not-true (c .before .is-finite2 .result) (c .if2 .taken))
+returns-2 c = rw (
+  ← c .before .before .before .is-finite .ensures,
+  not-false (c .before .before .before .is-finite .result) (c .before .before .if1 .left),
+  ← c .before .is-finite2 .ensures,
+  not-true (c .before .is-finite2 .result) (c .if2 .taken),
+)
 
 date-ok-requires : tie.Need-date-ok-requires
 date-ok-requires c κs = tt

@@ -16,7 +16,12 @@ three-weights-ok-requires c κs = tt
 
 returns-2 : tie.Need-returns-2
 unfolding configOk
-returns-2 c = rw (← c .before .before .before .before .weights-ok .ensures, not-false (c .before .before .before .before .weights-ok .result) (c .before .before .before .if1 .left), ← c .before .three-weights-ok .ensures, not-true (c .before .three-weights-ok .result) (c .if2 .taken))
+returns-2 c = rw (
+  ← c .before .before .before .before .weights-ok .ensures,
+  not-false (c .before .before .before .before .weights-ok .result) (c .before .before .before .if1 .left),
+  ← c .before .three-weights-ok .ensures,
+  not-true (c .before .three-weights-ok .result) (c .if2 .taken),
+)
 
 transitions-ok-requires : tie.Need-transitions-ok-requires
 transitions-ok-requires c κs = tt

@@ -15,7 +15,11 @@ amounts-ok-requires c κs = tt
 
 returns : tie.Need-returns
 unfolding costsOk
-returns c = rw (← (c .before .amounts-ok .ensures ∙ ap (λ (z : List Float). amountsOk (rowOf z 0)) (c .before .before .row-of .ensures)), not-true (c .before .amounts-ok .result) (c .if1 .taken))
+returns c = rw (
+  ← (c .before .amounts-ok .ensures
+      ∙ ap (λ (z : List Float). amountsOk (rowOf z 0)) (c .before .before .row-of .ensures)),
+  not-true (c .before .amounts-ok .result) (c .if1 .taken),
+)
 
 row-of-requires-2 : tie.Need-row-of-requires-2
 row-of-requires-2 c κs = tt
@@ -30,9 +34,11 @@ returns-2 c =
     let at-amounts-ok = at-if1 .before in
     let at-row-of = at-amounts-ok .before in
     rw (
-      ← (at-amounts-ok .amounts-ok .ensures ∙ ap (λ (z : List Float). amountsOk (rowOf z 0)) (at-row-of .row-of .ensures)),
+      ← (at-amounts-ok .amounts-ok .ensures
+          ∙ ap (λ (z : List Float). amountsOk (rowOf z 0)) (at-row-of .row-of .ensures)),
       not-false (at-amounts-ok .amounts-ok .result) (at-if1 .if1 .left),
-      ← (c .before .amounts-ok2 .ensures ∙ ap (λ (z : List Float). amountsOk (rowOf z 0)) (c .before .before .row-of2 .ensures)),
+      ← (c .before .amounts-ok2 .ensures
+          ∙ ap (λ (z : List Float). amountsOk (rowOf z 0)) (c .before .before .row-of2 .ensures)),
       not-true (c .before .amounts-ok2 .result) (c .if2 .taken),
     )
 
@@ -51,9 +57,11 @@ returns-3 c =
     let at-amounts-ok = at-if1 .before in
     let at-row-of = at-amounts-ok .before in
     rw (
-      ← (at-amounts-ok .amounts-ok .ensures ∙ ap (λ (z : List Float). amountsOk (rowOf z 0)) (at-row-of .row-of .ensures)),
+      ← (at-amounts-ok .amounts-ok .ensures
+          ∙ ap (λ (z : List Float). amountsOk (rowOf z 0)) (at-row-of .row-of .ensures)),
       not-false (at-amounts-ok .amounts-ok .result) (at-if1 .if1 .left),
-      ← (at-amounts-ok2 .amounts-ok2 .ensures ∙ ap (λ (z : List Float). amountsOk (rowOf z 0)) (at-row-of2 .row-of2 .ensures)),
+      ← (at-amounts-ok2 .amounts-ok2 .ensures
+          ∙ ap (λ (z : List Float). amountsOk (rowOf z 0)) (at-row-of2 .row-of2 .ensures)),
       not-false (at-amounts-ok2 .amounts-ok2 .result) (c .before .before .if2 .left),
       ← (c .amounts-ok3 .ensures ∙ ap (λ (z : List Float). amountsOk (rowOf z 0)) (c .before .row-of3 .ensures)),
     )

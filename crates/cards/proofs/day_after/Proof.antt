@@ -25,7 +25,8 @@ returns c = one-more (c .before .args .d) ∙ sym (day-next (c .before .args .d)
     one-more n = omega arith
 
 returns-2 : tie.Need-returns-2
-returns-2 c = c .day-of .ensures ∙ ap (λ (x : Float). dayOf (add binary32 x (ofBits binary32 0x3F80_0000))) (c .before .from-u32 .ensures)
+returns-2 c = c .day-of .ensures
+    ∙ ap (λ (x : Float). dayOf (add binary32 x (ofBits binary32 0x3F80_0000))) (c .before .from-u32 .ensures)
 
 pub day-after-spec : {M : Type 1} → statement M
 day-after-spec = tie.close (tie.spec add-result from-u32-requires day-of-requires returns returns-2)

@@ -18,15 +18,35 @@ is-blocked-requires c κs = tt
 
 returns-2 : tie.Need-returns-2
 unfolding choiceOf
-returns-2 c = λ d. rw (← c .before .before .before .before .is-retired .ensures, c .before .before .before .if1 .left, ← c .before .before .is-new .ensures, ← c .before .is-blocked .ensures d, c .if2 .taken)
+returns-2 c = λ d. rw (
+  ← c .before .before .before .before .is-retired .ensures,
+  c .before .before .before .if1 .left,
+  ← c .before .before .is-new .ensures,
+  ← c .before .is-blocked .ensures d,
+  c .if2 .taken,
+)
 
 returns-3 : tie.Need-returns-3
 unfolding choiceOf
-returns-3 c = λ d. rw (← c .before .before .before .before .before .is-retired .ensures, c .before .before .before .before .if1 .left, ← c .before .before .before .is-new .ensures, ← c .before .before .is-blocked .ensures d, c .before .if2 .left, c .if3 .taken)
+returns-3 c = λ d. rw (
+  ← c .before .before .before .before .before .is-retired .ensures,
+  c .before .before .before .before .if1 .left,
+  ← c .before .before .before .is-new .ensures,
+  ← c .before .before .is-blocked .ensures d,
+  c .before .if2 .left,
+  c .if3 .taken,
+)
 
 returns-4 : tie.Need-returns-4
 unfolding choiceOf
-returns-4 c = λ d. rw (← c .before .before .before .before .before .is-retired .ensures, c .before .before .before .before .if1 .left, ← c .before .before .before .is-new .ensures, ← c .before .before .is-blocked .ensures d, c .before .if2 .left, c .if3 .left)
+returns-4 c = λ d. rw (
+  ← c .before .before .before .before .before .is-retired .ensures,
+  c .before .before .before .before .if1 .left,
+  ← c .before .before .before .is-new .ensures,
+  ← c .before .before .is-blocked .ensures d,
+  c .before .if2 .left,
+  c .if3 .left,
+)
 
 pub decide-spec : {M : Type 1} → statement M
 decide-spec =

@@ -15,10 +15,21 @@ is-finite-requires : tie.Need-is-finite-requires
 is-finite-requires c κs = tt
 
 returns-2 : tie.Need-returns-2
-returns-2 c = rw (← c .before .before .before .before .is-new .ensures, c .before .before .before .if1 .left, ← c .before .before .date-ok .ensures, c .before .if2 .taken, ← c .is-finite .ensures)
+returns-2 c = rw (
+  ← c .before .before .before .before .is-new .ensures,
+  c .before .before .before .if1 .left,
+  ← c .before .before .date-ok .ensures,
+  c .before .if2 .taken,
+  ← c .is-finite .ensures,
+)
 
 returns-3 : tie.Need-returns-3
-returns-3 c = rw (← c .before .before .before .is-new .ensures, c .before .before .if1 .left, ← c .before .date-ok .ensures, c .if2 .left)
+returns-3 c = rw (
+  ← c .before .before .before .is-new .ensures,
+  c .before .before .if1 .left,
+  ← c .before .date-ok .ensures,
+  c .if2 .left,
+)
 
 pub history-ok-spec : {M : Type 1} → statement M
 history-ok-spec =

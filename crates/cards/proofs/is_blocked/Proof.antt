@@ -15,7 +15,12 @@ returns-2 c = λ d. rw (c .before .before .before .if1 .left, c .before .before 
 
 returns-3 : tie.Need-returns-3
 unfolding blocked
-returns-3 c = λ d. rw (c .before .before .before .before .if1 .left, c .before .before .before .if2 .taken, lt-leb _ _ (c .before .if3 .left), c .if4 .taken)
+returns-3 c = λ d. rw (
+  c .before .before .before .before .if1 .left,
+  c .before .before .before .if2 .taken,
+  lt-leb _ _ (c .before .if3 .left),
+  c .if4 .taken,
+)
 
 add-result : tie.Need-add-result
 add-result c = search needs
@@ -25,7 +30,12 @@ cast-result c = search needs
 
 returns-4 : tie.Need-returns-4
 unfolding blocked
-returns-4 c = λ d. rw (c .before .before .before .before .before .if1 .left, c .before .before .before .before .if2 .taken, lt-leb _ _ (c .before .before .if3 .left), c .before .if4 .left)
+returns-4 c = λ d. rw (
+  c .before .before .before .before .before .if1 .left,
+  c .before .before .before .before .if2 .taken,
+  lt-leb _ _ (c .before .before .if3 .left),
+  c .before .if4 .left,
+)
 
 returns-5 : tie.Need-returns-5
 unfolding blocked

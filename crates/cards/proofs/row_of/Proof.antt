@@ -51,7 +51,8 @@ returns c = refl
 returns-2 : tie.Need-returns-2
 unfolding ofBits ofFields div
 returns-2 c =
-    let L : length (c .before .args .t1) ≤ 4 * c .before .args .i = omega (arith, c .before .good .0, c .if1 .left) in rw (
+    let L : length (c .before .args .t1) ≤ 4 * c .before .args .i = omega
+    (arith, c .before .good .0, c .if1 .left) in rw (
       List·getD-eq-default (c .before .args .t1) nan {n = 4 * c .before .args .i} L,
       List·getD-eq-default (c .before .args .t1) nan {n = 4 * c .before .args .i + 1} (omega arith),
       List·getD-eq-default (c .before .args .t1) nan {n = 4 * c .before .args .i + 2} (omega arith),

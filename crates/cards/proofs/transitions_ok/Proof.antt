@@ -15,7 +15,11 @@ weights-ok-requires c κs = tt
 
 returns : tie.Need-returns
 unfolding transitionsOk
-returns c = rw (← (c .before .weights-ok .ensures ∙ ap (λ (z : List Float). weightsOk (rowOf z 0)) (c .before .before .row-of .ensures)), not-true (c .before .weights-ok .result) (c .if1 .taken))
+returns c = rw (
+  ← (c .before .weights-ok .ensures
+      ∙ ap (λ (z : List Float). weightsOk (rowOf z 0)) (c .before .before .row-of .ensures)),
+  not-true (c .before .weights-ok .result) (c .if1 .taken),
+)
 
 row-of-requires-2 : tie.Need-row-of-requires-2
 row-of-requires-2 c κs = tt
@@ -30,9 +34,11 @@ returns-2 c =
     let at-weights-ok = at-if1 .before in
     let at-row-of = at-weights-ok .before in
     rw (
-      ← (at-weights-ok .weights-ok .ensures ∙ ap (λ (z : List Float). weightsOk (rowOf z 0)) (at-row-of .row-of .ensures)),
+      ← (at-weights-ok .weights-ok .ensures
+          ∙ ap (λ (z : List Float). weightsOk (rowOf z 0)) (at-row-of .row-of .ensures)),
       not-false (at-weights-ok .weights-ok .result) (at-if1 .if1 .left),
-      ← (c .before .weights-ok2 .ensures ∙ ap (λ (z : List Float). weightsOk (rowOf z 0)) (c .before .before .row-of2 .ensures)),
+      ← (c .before .weights-ok2 .ensures
+          ∙ ap (λ (z : List Float). weightsOk (rowOf z 0)) (c .before .before .row-of2 .ensures)),
       not-true (c .before .weights-ok2 .result) (c .if2 .taken),
     )
 
@@ -51,9 +57,11 @@ returns-3 c =
     let at-weights-ok = at-if1 .before in
     let at-row-of = at-weights-ok .before in
     rw (
-      ← (at-weights-ok .weights-ok .ensures ∙ ap (λ (z : List Float). weightsOk (rowOf z 0)) (at-row-of .row-of .ensures)),
+      ← (at-weights-ok .weights-ok .ensures
+          ∙ ap (λ (z : List Float). weightsOk (rowOf z 0)) (at-row-of .row-of .ensures)),
       not-false (at-weights-ok .weights-ok .result) (at-if1 .if1 .left),
-      ← (at-weights-ok2 .weights-ok2 .ensures ∙ ap (λ (z : List Float). weightsOk (rowOf z 0)) (at-row-of2 .row-of2 .ensures)),
+      ← (at-weights-ok2 .weights-ok2 .ensures
+          ∙ ap (λ (z : List Float). weightsOk (rowOf z 0)) (at-row-of2 .row-of2 .ensures)),
       not-false (at-weights-ok2 .weights-ok2 .result) (c .before .before .if2 .left),
       ← (c .weights-ok3 .ensures ∙ ap (λ (z : List Float). weightsOk (rowOf z 0)) (c .before .row-of3 .ensures)),
     )

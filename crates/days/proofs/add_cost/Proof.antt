@@ -27,7 +27,8 @@ returns : tie.Need-returns
 unfolding addCost
 returns c =
     let a = c .before .before .args in
-    ap (λ (x : Float). set (a .costs .now) (a .d) (add binary32 x (a .cost))) (getD-any (a .costs .now) _ _ _ (c .before .if1 .taken))
+    ap (λ (x : Float). set (a .costs .now) (a .d) (add binary32 x (a .cost)))
+    (getD-any (a .costs .now) _ _ _ (c .before .if1 .taken))
 
 returns-2 : tie.Need-returns-2
 unfolding addCost

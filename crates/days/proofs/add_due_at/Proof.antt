@@ -22,7 +22,13 @@ same-length c = search needs
 
 returns : tie.Need-returns
 unfolding addDue
-returns c = rw (← c .before .before .before .before .before .before .before .before .due-days .ensures, lt-ltb _ _ (c .before .before .before .before .before .before .before .if1 .taken), c .before .before .put-due .ensures, c .before .before .before .saturating-suc .ensures, c .before .before .before .before .before .due-at .ensures)
+returns c = rw (
+  ← c .before .before .before .before .before .before .before .before .due-days .ensures,
+  lt-ltb _ _ (c .before .before .before .before .before .before .before .if1 .taken),
+  c .before .before .put-due .ensures,
+  c .before .before .before .saturating-suc .ensures,
+  c .before .before .before .before .before .due-at .ensures,
+)
 
 returns-2 : tie.Need-returns-2
 unfolding addDue

@@ -15,7 +15,11 @@ same-length c = search needs
 
 returns : tie.Need-returns
 unfolding addEvent
-returns c = rw (c .before .before .before .before .before .before .if1 .taken, c .before .add-introduced-from .ensures, c .before .before .before .before .add-learn .ensures)
+returns c = rw (
+  c .before .before .before .before .before .before .if1 .taken,
+  c .before .add-introduced-from .ensures,
+  c .before .before .before .before .add-learn .ensures,
+)
 
 add-review-requires : tie.Need-add-review-requires
 add-review-requires c κs = search needs

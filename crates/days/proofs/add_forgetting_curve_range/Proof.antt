@@ -1,4 +1,5 @@
--- The invariant of its loop: what is left to add, to what is memorized so far, gives the whole. The measure is the days left.
+-- The invariant of its loop: what is left to add, to what is memorized so far, gives the whole. The measure is the days
+-- left.
 use Prim.Native.Nat.{_-_}
 use lib.ListN.{length}
 use native.Mathlib.Omega.{arith}
@@ -45,7 +46,8 @@ loop-again c =
     let at-loop = at-loop-test .before in
     let start = at-loop .before .before in (
       range-turn (λ t. retention (start .args .curve) t) (start .args .last) _ _ _ _ _ _ _ _
-          (at-loop .loop .inv .0) (at-loop-test .loop-test .taken) (at-from-u32 .from-u32 .ensures) (at-retention .retention .ensures) (at-add-memorized .add-memorized .ensures),
+          (at-loop .loop .inv .0) (at-loop-test .loop-test .taken) (at-from-u32 .from-u32 .ensures)
+          (at-retention .retention .ensures) (at-add-memorized .add-memorized .ensures),
       omega arith,
     )
 
@@ -53,7 +55,8 @@ same-length : tie.Need-same-length Inv-loop μ-loop
 same-length c = omega arith
 
 returns : tie.Need-returns Inv-loop μ-loop
-returns c = range-end (λ t. retention (c .before .before .before .args .curve) t) (c .before .before .before .args .last) _ _ _ _ _ (c .before .loop .inv .0) (omega arith)
+returns c = range-end (λ t. retention (c .before .before .before .args .curve) t)
+    (c .before .before .before .args .last) _ _ _ _ _ (c .before .loop .inv .0) (omega arith)
 
 pub add-forgetting-curve-range-spec : {M : Type 1} → statement M
 add-forgetting-curve-range-spec =

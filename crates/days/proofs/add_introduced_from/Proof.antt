@@ -9,7 +9,8 @@ use Rattle.days.proofs.add_introduced_from.Statement.{statement}
 use Rattle.days.proofs.add_introduced_from.Tie as tie
 
 abbrev Inv-loop : tie.InvT-loop
-Inv-loop rows₀ from to d₀ rows d = (addIntroducedFrom rows (to - d) d ≡ addIntroducedFrom rows₀ (to - from) from) × (length rows ≡ length rows₀)
+Inv-loop rows₀ from to d₀ rows d = (addIntroducedFrom rows (to - d) d ≡ addIntroducedFrom rows₀ (to - from) from)
+    × (length rows ≡ length rows₀)
 
 abbrev μ-loop : tie.MeasureT-loop
 μ-loop rows₀ from to d₀ rows d = to - d
@@ -27,7 +28,11 @@ loop-less : tie.Need-loop-less Inv-loop μ-loop
 loop-less c = omega arith
 
 loop-again : tie.Need-loop-again Inv-loop μ-loop
-loop-again c = (introduce-turn _ _ _ _ _ _ (c .before .before .before .before .loop .inv .0) (c .before .before .before .loop-test .taken) (c .before .add-introduced .ensures), omega arith)
+loop-again c = (
+  introduce-turn _ _ _ _ _ _ (c .before .before .before .before .loop .inv .0)
+      (c .before .before .before .loop-test .taken) (c .before .add-introduced .ensures),
+  omega arith,
+)
 
 same-length : tie.Need-same-length Inv-loop μ-loop
 same-length c = omega arith

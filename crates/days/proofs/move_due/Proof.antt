@@ -33,7 +33,13 @@ returns-2 c =
     let at-lower = at-put-due .before in
     let at-due-at = at-lower .before .before in
     let at-if1 = at-due-at .before .before in
-    rw (at-if1 .if1 .left, c .before .before .add-due-at .ensures, at-put-due .put-due .ensures, at-lower .lower .ensures, at-due-at .due-at .ensures)
+    rw (
+      at-if1 .if1 .left,
+      c .before .before .add-due-at .ensures,
+      at-put-due .put-due .ensures,
+      at-lower .lower .ensures,
+      at-due-at .due-at .ensures,
+    )
 
 pub move-due-spec : {M : Type 1} → statement M
 move-due-spec =

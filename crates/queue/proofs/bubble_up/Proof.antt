@@ -10,7 +10,8 @@ use Rattle.queue.proofs.bubble_up.Statement.{statement}
 use Rattle.queue.proofs.bubble_up.Tie as tie
 
 abbrev Inv-loop : tie.InvT-loop
-Inv-loop rows₀ from row pos₀ rows pos = (bubbleUp (set rows pos row) pos ≡ bubbleUp (set rows₀ from row) from) × (pos ≤ from) × (length rows ≡ length rows₀)
+Inv-loop rows₀ from row pos₀ rows pos = (bubbleUp (set rows pos row) pos ≡ bubbleUp (set rows₀ from row) from)
+    × (pos ≤ from) × (length rows ≡ length rows₀)
 
 abbrev μ-loop : tie.MeasureT-loop
 μ-loop rows₀ from row pos₀ rows pos = pos
@@ -43,7 +44,13 @@ loop-less : tie.Need-loop-less Inv-loop μ-loop
 loop-less c = search needs
 
 loop-again : tie.Need-loop-again Inv-loop μ-loop
-loop-again c = (bubble-turn (c .before .before .before .loop .rows) (c .before .before .before .before .args .t3) (c .before .before .before .loop .pos) _ (c .before .before .before .loop .inv .0) (omega arith) (omega arith) (c .if1 .left), omega arith, simp length-set (omega arith))
+loop-again c = (
+  bubble-turn (c .before .before .before .loop .rows) (c .before .before .before .before .args .t3)
+      (c .before .before .before .loop .pos) _ (c .before .before .before .loop .inv .0) (omega arith) (omega arith)
+      (c .if1 .left),
+  omega arith,
+  simp length-set (omega arith),
+)
 
 mul-t20 : tie.Need-mul-t20 Inv-loop μ-loop
 mul-t20 c = search needs
@@ -55,7 +62,9 @@ same-length : tie.Need-same-length Inv-loop μ-loop
 same-length c = search needs
 
 returns : tie.Need-returns Inv-loop μ-loop
-returns c = bubble-end (c .before .loop .rows) (c .before .before .args .t3) (c .before .loop .pos) _ (c .before .loop .inv .0) (omega arith) (⊎-elim (λ w p. absurd (omega arith)) (λ w p. w .2 .taken) (c .loop-test .came))
+returns c = bubble-end (c .before .loop .rows) (c .before .before .args .t3) (c .before .loop .pos) _
+    (c .before .loop .inv .0) (omega arith)
+    (⊎-elim (λ w p. absurd (omega arith)) (λ w p. w .2 .taken) (c .loop-test .came))
 
 pub bubble-up-spec : {M : Type 1} → statement M
 bubble-up-spec =

@@ -32,7 +32,14 @@ add-result-2 c = search needs
 
 returns : tie.Need-returns
 unfolding cardPriority packed priorityOf
-returns c = rw (c .before .before .shifted .ensures .0, c .before .capped .ensures, c .bit .ensures .0, c .before .before .before .to-i32 .ensures, toZ-ofZ w32 (priorityOf (c .before .before .before .before .args .difficulty)) (record { sfits = priority-in (c .before .before .before .before .args .difficulty) }))
+returns c = rw (
+  c .before .before .shifted .ensures .0,
+  c .before .capped .ensures,
+  c .bit .ensures .0,
+  c .before .before .before .to-i32 .ensures,
+  toZ-ofZ w32 (priorityOf (c .before .before .before .before .args .difficulty))
+      (record { sfits = priority-in (c .before .before .before .before .args .difficulty) }),
+)
 
 pub card-priority-spec : {M : Type 1} → statement M
 card-priority-spec =

@@ -9,7 +9,8 @@ use Rattle.queue.proofs.heapify.Statement.{statement}
 use Rattle.queue.proofs.heapify.Tie as tie
 
 abbrev Inv-loop : tie.InvT-loop
-Inv-loop rows₀ n row pos₀ left₀ rows pos left = (sink n (set rows pos row) n pos ≡ sink n (set rows₀ 0 row) n 0) × (pos < length rows) × (length rows ≡ length rows₀) × (left ≡ 2 * pos + 1)
+Inv-loop rows₀ n row pos₀ left₀ rows pos left = (sink n (set rows pos row) n pos ≡ sink n (set rows₀ 0 row) n 0)
+    × (pos < length rows) × (length rows ≡ length rows₀) × (left ≡ 2 * pos + 1)
 
 abbrev μ-loop : tie.MeasureT-loop
 μ-loop rows₀ n row pos₀ left₀ rows pos left = n - pos
@@ -43,8 +44,11 @@ returns c =
     let k = c .before in
     let l = k .before .before in
     let p = l .before .before .before in
-    let e : k .lesser-key .result ≡ keyAt (p .loop .rows) (l .lesser-child .result) = k .lesser-key .ensures ∙ ap (keyAt (p .loop .rows)) (sym (l .lesser-child .ensures .0)) in
-    sink-rests (p .loop .rows) (p .before .args .t3) (p .before .args .n) (p .loop .pos) (p .loop .left) (l .lesser-child .result) _ (p .loop .inv .0) (omega arith) (omega arith) (omega arith) (l .lesser-child .ensures .0) (omega arith)
+    let e : k .lesser-key .result ≡ keyAt (p .loop .rows) (l .lesser-child .result) = k .lesser-key .ensures
+    ∙ ap (keyAt (p .loop .rows)) (sym (l .lesser-child .ensures .0)) in
+    sink-rests (p .loop .rows) (p .before .args .t3) (p .before .args .n) (p .loop .pos) (p .loop .left)
+    (l .lesser-child .result) _ (p .loop .inv .0) (omega arith) (omega arith) (omega arith)
+    (l .lesser-child .ensures .0) (omega arith)
 
 mul-rows : tie.Need-mul-rows Inv-loop μ-loop
 mul-rows c = search needs
@@ -72,8 +76,11 @@ loop-again c =
     let k = c .before .before in
     let l = k .before .before in
     let p = l .before .before .before in
-    let e : k .lesser-key .result ≡ keyAt (p .loop .rows) (l .lesser-child .result) = k .lesser-key .ensures ∙ ap (keyAt (p .loop .rows)) (sym (l .lesser-child .ensures .0)) in (
-      sink-turn (p .loop .rows) (p .before .args .t3) (p .before .args .n) (p .loop .pos) (p .loop .left) (l .lesser-child .result) _ (p .loop .inv .0) (omega arith) (omega arith) (omega arith) (l .lesser-child .ensures .0) (omega arith) (omega arith),
+    let e : k .lesser-key .result ≡ keyAt (p .loop .rows) (l .lesser-child .result) = k .lesser-key .ensures
+    ∙ ap (keyAt (p .loop .rows)) (sym (l .lesser-child .ensures .0)) in (
+      sink-turn (p .loop .rows) (p .before .args .t3) (p .before .args .n) (p .loop .pos) (p .loop .left)
+          (l .lesser-child .result) _ (p .loop .inv .0) (omega arith) (omega arith) (omega arith)
+          (l .lesser-child .ensures .0) (omega arith) (omega arith),
       simp length-set (omega arith),
       simp length-set (omega arith),
       refl,

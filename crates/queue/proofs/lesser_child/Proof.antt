@@ -28,10 +28,20 @@ index-2-if1-2 : tie.Need-index-2-if1-2
 index-2-if1-2 c = search needs
 
 returns : tie.Need-returns
-returns c = (sym (lesser-yes (c .before .before .before .args .rows .now) (c .before .before .before .args .left) (c .before .before .before .args .left + 1) (c .if1 .taken)), omega arith, omega arith)
+returns c = (
+  sym (lesser-yes (c .before .before .before .args .rows .now) (c .before .before .before .args .left)
+      (c .before .before .before .args .left + 1) (c .if1 .taken)),
+  omega arith,
+  omega arith,
+)
 
 returns-2 : tie.Need-returns-2
-returns-2 c = (sym (lesser-no (c .before .before .before .args .rows .now) (c .before .before .before .args .left) (c .before .before .before .args .left + 1) (c .if1 .left)), omega arith, omega arith)
+returns-2 c = (
+  sym (lesser-no (c .before .before .before .args .rows .now) (c .before .before .before .args .left)
+      (c .before .before .before .args .left + 1) (c .if1 .left)),
+  omega arith,
+  omega arith,
+)
 
 pub lesser-child-spec : {M : Type 1} → statement M
 lesser-child-spec =

@@ -47,10 +47,14 @@ index-2-result-2 : tie.Need-index-2-result-2
 index-2-result-2 c = search needs
 
 returns : tie.Need-returns
-returns c = let s = c .before .before .before .before in sym (ap (keyAt (s .args .rows .now)) (lesser-yes (s .args .rows .now) (s .args .left) (s .args .left + 1) (c .before .if1 .taken)))
+returns c = let s = c .before .before .before .before in sym
+    (ap (keyAt (s .args .rows .now))
+    (lesser-yes (s .args .rows .now) (s .args .left) (s .args .left + 1) (c .before .if1 .taken)))
 
 returns-2 : tie.Need-returns-2
-returns-2 c = let s = c .before .before .before .before in sym (ap (keyAt (s .args .rows .now)) (lesser-no (s .args .rows .now) (s .args .left) (s .args .left + 1) (c .before .if1 .left)))
+returns-2 c = let s = c .before .before .before .before in sym
+    (ap (keyAt (s .args .rows .now))
+    (lesser-no (s .args .rows .now) (s .args .left) (s .args .left + 1) (c .before .if1 .left)))
 
 pub lesser-key-spec : {M : Type 1} → statement M
 lesser-key-spec =

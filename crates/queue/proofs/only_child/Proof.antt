@@ -34,7 +34,9 @@ same-length : tie.Need-same-length
 same-length c = search needs
 
 returns : tie.Need-returns
-returns c = only-moves (c .before .before .before .args .rows .now) (c .before .before .before .args .t5) (c .before .before .before .args .n) (c .before .before .before .args .pos) (c .before .before .before .args .left) (omega arith) (omega arith) (omega arith) (omega arith) (c .if2 .taken)
+returns c = only-moves (c .before .before .before .args .rows .now) (c .before .before .before .args .t5)
+    (c .before .before .before .args .n) (c .before .before .before .args .pos) (c .before .before .before .args .left)
+    (omega arith) (omega arith) (omega arith) (omega arith) (c .if2 .taken)
 
 mul-t24 : tie.Need-mul-t24
 mul-t24 c = search needs
@@ -46,7 +48,9 @@ same-length-2 : tie.Need-same-length-2
 same-length-2 c = search needs
 
 returns-2 : tie.Need-returns-2
-returns-2 c = only-rests (c .before .args .rows .now) (c .before .args .t5) (c .before .args .n) (c .before .args .pos) (c .before .args .left) (omega arith) (omega arith) (omega arith) (⊎-elim (λ w p. w .2 .left) (λ w p. absurd (omega arith)) (c .if1 .came))
+returns-2 c = only-rests (c .before .args .rows .now) (c .before .args .t5) (c .before .args .n) (c .before .args .pos)
+    (c .before .args .left) (omega arith) (omega arith) (omega arith)
+    (⊎-elim (λ w p. w .2 .left) (λ w p. absurd (omega arith)) (c .if1 .came))
 
 pub only-child-spec : {M : Type 1} → statement M
 only-child-spec =

@@ -9,7 +9,8 @@ use Rattle.queue.proofs.shifted.Statement.{statement}
 use Rattle.queue.proofs.shifted.Tie as tie
 
 cast-result : tie.Need-cast-result
-cast-result c = rw (toZ-ofZ w32 (c .args .priority) (c .fits .priority)) (record { sfits = omega (arith, c .fits .priority .sfits) })
+cast-result c = rw (toZ-ofZ w32 (c .args .priority) (c .fits .priority))
+    (record { sfits = omega (arith, c .fits .priority .sfits) })
 
 add-result : tie.Need-add-result
 add-result c =
@@ -21,7 +22,8 @@ cast-result-2 : tie.Need-cast-result-2
 cast-result-2 c =
     let p = c .args .priority in
     let h = c .fits .priority .sfits in
-    rw (widened p h, shifted-sum p h, toZ-pos w64 (shifted p) (omega (arith, shifted-lt p h))) (tt, record { fits = omega (arith, shifted-lt p h) })
+    rw (widened p h, shifted-sum p h, toZ-pos w64 (shifted p) (omega (arith, shifted-lt p h)))
+    (tt, record { fits = omega (arith, shifted-lt p h) })
 
 returns : tie.Need-returns
 returns c =

@@ -15,7 +15,8 @@ use Rattle.simulation.specs.declared.Check.{Check}
 use Rattle.simulation.specs.declared.Check.the-variants as check
 use Rattle.simulation.specs.State.{State}
 use Rattle.simulation.proofs.entry.FirstWhere.{none-before}
-use Rattle.simulation.specs.Entry.{Inputs, firstWhere, notFinite, notOk, failIf, checkParameters, listsOk, checkFirst, checked}
+use Rattle.simulation.specs.Entry.{Inputs, firstWhere, notFinite, notOk, failIf, checkParameters, listsOk}
+use Rattle.simulation.specs.Entry.{checkFirst, checked}
 use Rattle.turns.proofs.Logic.{not-one, both, neither, not-false}
 
 pub record Accepted {C : Type 0} (i : Inputs) (s : State C) : Type 0 where
@@ -38,9 +39,11 @@ pub record Accepted {C : Type 0} (i : Inputs) (s : State C) : Type 0 where
   pub memorized-long : i .config .«learn_span» ≤ length (s .memorized)
   pub due-long : dueDays (i .config .«learn_span») ≤ length (s .due)
   pub existing-few : length (i .existing) ≤ i .config .«deck_size»
-  pub cards-ok : (j : ℕ) → j < length (i .existing) → isKept (cardAt (i .existing) (i .existing-counts) j) ≡ true → cardOk (cardAt (i .existing) (i .existing-counts) j) ≡ true
+  pub cards-ok : (j : ℕ) → j < length (i .existing) → isKept (cardAt (i .existing) (i .existing-counts) j) ≡ true
+      → cardOk (cardAt (i .existing) (i .existing-counts) j) ≡ true
 
-pub passes : (b : Bool) (r : Refusal) (next : Check) → failIf b r next ≡ check.Passed → (b ≡ false) × (next ≡ check.Passed)
+pub passes : (b : Bool) (r : Refusal) (next : Check) → failIf b r next ≡ check.Passed
+    → (b ≡ false) × (next ≡ check.Passed)
 passes true r next e = absurd (not-one cc)
 passes false r next e = (refl, e)
 
@@ -111,6 +114,9 @@ accepted i s e =
       due-long = leb-true (dueDays (g .«learn_span»)) (length (s .due)) (l₈ .1);
       memorized-long = leb-true (g .«learn_span») (length (s .memorized)) (l₈ .0);
       existing-few = ltb-false (g .«deck_size») n (p₇ .0);
-      cards-ok = λ j l k. kept-ok (isKept (cardAt (i .existing) (i .existing-counts) j)) (cardOk (cardAt (i .existing) (i .existing-counts) j))
-          (none-before (notOk (i .existing) (i .existing-counts)) n 0 j (let h = ltb-false (firstWhere (notOk (i .existing) (i .existing-counts)) n 0) n (p₈ .0) in omega (arith, h)) (omega arith) (omega arith)) k;
+      cards-ok = λ j l k. kept-ok (isKept (cardAt (i .existing) (i .existing-counts) j))
+          (cardOk (cardAt (i .existing) (i .existing-counts) j))
+          (none-before (notOk (i .existing) (i .existing-counts)) n 0 j
+          (let h = ltb-false (firstWhere (notOk (i .existing) (i .existing-counts)) n 0) n (p₈ .0) in omega
+          (arith, h)) (omega arith) (omega arith)) k;
     }

@@ -12,10 +12,13 @@ module _ (p : ℕ → Bool) where
   one m i b e = rw e
 
   pub first-here : (n i : ℕ) → i < n → p i ≡ true → firstWhere p (n - i) i ≡ i
-  first-here n i h e = ap (λ (z : ℕ). firstWhere p z i) (let z : n - i ≡ suc (n - (i + 1)) = omega arith in z) ∙ one (n - (i + 1)) i true e
+  first-here n i h e = ap (λ (z : ℕ). firstWhere p z i) (let z : n - i ≡ suc (n - (i + 1)) = omega arith in z)
+      ∙ one (n - (i + 1)) i true e
 
   pub first-on : (n i : ℕ) → i < n → p i ≡ false → firstWhere p (n - (i + 1)) (i + 1) ≡ firstWhere p (n - i) i
-  first-on n i h e = sym (ap (λ (z : ℕ). firstWhere p z i) (let z : n - i ≡ suc (n - (i + 1)) = omega arith in z) ∙ one (n - (i + 1)) i false e)
+  first-on n i h e = sym
+      (ap (λ (z : ℕ). firstWhere p z i) (let z : n - i ≡ suc (n - (i + 1)) = omega arith in z)
+      ∙ one (n - (i + 1)) i false e)
 
   pub first-end : (n i : ℕ) → n ≤ i → i ≤ n → firstWhere p (n - i) i ≡ n
   first-end n i h l = ap (λ (z : ℕ). firstWhere p z i) (let z : n - i ≡ 0 = omega arith in z) ∙ none i ∙ omega arith
@@ -29,7 +32,8 @@ module _ (p : ℕ → Bool) where
   none-before zero i j h l u = absurd (omega arith)
   none-before (suc n) i j h l u = go (p i) refl h (none-before n (i + 1) j)
     where
-      go : (b : Bool) → p i ≡ b → i + suc n ≤ cond b i (firstWhere p n (i + 1)) → (i + 1 + n ≤ firstWhere p n (i + 1) → i + 1 ≤ j → j < i + 1 + n → p j ≡ false) → p j ≡ false
+      go : (b : Bool) → p i ≡ b → i + suc n ≤ cond b i (firstWhere p n (i + 1))
+          → (i + 1 + n ≤ firstWhere p n (i + 1) → i + 1 ≤ j → j < i + 1 + n → p j ≡ false) → p j ≡ false
       go true e q ih = absurd (omega arith)
       go false e q ih = at (ℕ-discrete i j)
         where

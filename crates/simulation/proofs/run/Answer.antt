@@ -1,4 +1,5 @@
--- From the state that set-up leaves to the answer: the bound fits a u32, and what the loop leaves is what `finished` says.
+-- From the state that set-up leaves to the answer: the bound fits a u32, and what the loop leaves is what `finished`
+-- says.
 use mathlib.Core.Path.{_≡_, ap, subst}
 use Prim.Native.Nat.{ℕ, _+_, _*_, _≤_}
 use native.Mathlib.Nat.{mul-le-mul}
@@ -15,7 +16,8 @@ use Rattle.simulation.proofs.entry.Accepted.{accepted}
 use Rattle.simulation.proofs.set_up.Invariant.{set-up-few}
 
 -- ---- the answer of a run from that state
-module _ {C : Type 0} (R : Rules C) (i : Inputs) (s : State C) {s₁ : State C} (up : s₁ ≡ setUp (R .costs .none) i s) where
+module _ {C : Type 0} (R : Rules C) (i : Inputs) (s : State C) {s₁ : State C}
+    (up : s₁ ≡ setUp (R .costs .none) i s) where
   pub few-cards : checked i s ≡ check.Passed → (s₁ .queue .len ≤ 65536) × (i .config .«learn_span» ≤ 36500)
   few-cards e =
       let ok = accepted i s e in
@@ -24,12 +26,16 @@ module _ {C : Type 0} (R : Rules C) (i : Inputs) (s : State C) {s₁ : State C} 
       (omega (arith, few, l, ok .deck-most), ok .span-most)
 
   pub inner-is : {b : ℕ} {x : RunEnd} {l′ : Lent C} → b ≡ bound R s₁ → RunTurns R s₁ b x l′
-      → InnerContract R (setUp (R .costs .none) i s) (answerOf (x .stop) (progress (x .turns) (s₁ .queue .len) (x .draws))) l′
+      → InnerContract R (setUp (R .costs .none) i s)
+      (answerOf (x .stop) (progress (x .turns) (s₁ .queue .len) (x .draws))) l′
   unfolding runFrom
   inner-is {b = b} {x = x} {l′ = l′} eb r =
-      subst (λ (z : State C). InnerContract R z (answerOf (x .stop) (progress (x .turns) (s₁ .queue .len) (x .draws))) l′) up (go (subst (λ (z : ℕ). RunTurns R s₁ z x l′) eb r))
+      subst (λ (z : State C). InnerContract R z
+      (answerOf (x .stop) (progress (x .turns) (s₁ .queue .len) (x .draws))) l′) up
+      (go (subst (λ (z : ℕ). RunTurns R s₁ z x l′) eb r))
     where
-      go : RunTurns R s₁ (bound R s₁) x l′ → InnerContract R s₁ (answerOf (x .stop) (progress (x .turns) (s₁ .queue .len) (x .draws))) l′
+      go : RunTurns R s₁ (bound R s₁) x l′
+          → InnerContract R s₁ (answerOf (x .stop) (progress (x .turns) (s₁ .queue .len) (x .draws))) l′
       go r₁ = record { answer = λ y e. rw (r₁ .stop-is y e, r₁ .turns, r₁ .draws); lists = r₁ .lists }
 
 pub bound-fits : (len span : ℕ) → len ≤ 65536 → span ≤ 36500 → len * (span + 1) ≤ 2392129536

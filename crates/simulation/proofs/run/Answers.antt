@@ -26,7 +26,8 @@ use Rattle.turns.proofs.Logic.{not-one}
 same-finished : (p q : Progress) → some (answer.Finished p) ≡ some (answer.Finished q) → p ≡ q
 same-finished p q e = cc
 
-same-refused : (r r′ : Refusal) (p q : Progress) → some (answer.Refused r p) ≡ some (answer.Refused r′ q) → (r ≡ r′) × (p ≡ q)
+same-refused : (r r′ : Refusal) (p q : Progress) → some (answer.Refused r p) ≡ some (answer.Refused r′ q)
+    → (r ≡ r′) × (p ≡ q)
 same-refused r r′ p q e = (cc, cc)
 
 refused-not : (r : Refusal) (p q : Progress) → some (answer.Refused r p) ≡ some (answer.Finished q) → ⊥
@@ -45,7 +46,8 @@ told none (stop.Refused r) p q e = absurd (no-answer (answer.Refused r q) e)
 told (some stop.Ended) stop.Ended p q e = (refl, same-finished p q e)
 told (some stop.Ended) (stop.Refused r) p q e = absurd (refused-not r q p (sym e))
 told (some (stop.Refused r)) stop.Ended p q e = absurd (refused-not r p q e)
-told (some (stop.Refused r)) (stop.Refused r′) p q e = let z = same-refused r r′ p q e in (ap (λ (w : Refusal). some (stop.Refused w)) (z .0), z .1)
+told (some (stop.Refused r)) (stop.Refused r′) p q e = let z = same-refused r r′ p q e in
+    (ap (λ (w : Refusal). some (stop.Refused w)) (z .0), z .1)
 
 module _ {C : Type 0} (R : Rules C) (i : Inputs) (s : State C) where
   -- a call that ends Ok has passed its entry
@@ -66,7 +68,8 @@ module _ {C : Type 0} (R : Rules C) (i : Inputs) (s : State C) where
     own = progress (length (turnsOf R i s)) (cardsOf R i s) (endOf R i s .draws)
 
     -- an accepted call that answers so has stopped so
-    pub told-all : (y : Stop) (q : Progress) → simulatedBy R i s .answer ≡ some (answerOf y q) → (next R (endOf R i s) ≡ stops y) × (own ≡ q)
+    pub told-all : (y : Stop) (q : Progress) → simulatedBy R i s .answer ≡ some (answerOf y q)
+        → (next R (endOf R i s) ≡ stops y) × (own ≡ q)
     unfolding resultFrom
     told-all y q z =
         let t = told _ y own q (sym (ap (λ (r : Result C). r .answer) (passed-is e)) ∙ z) in
@@ -74,23 +77,27 @@ module _ {C : Type 0} (R : Rules C) (i : Inputs) (s : State C) where
         let x = stops-so R i s (accepted i s e) fit (h .0) (h .1) in
         (h .1 ∙ ap stops (same-some (h .0) y (sym x ∙ t .0)), t .1)
 
-    pub told-stop : (y : Stop) (q : Progress) → simulatedBy R i s .answer ≡ some (answerOf y q) → next R (endOf R i s) ≡ stops y
+    pub told-stop : (y : Stop) (q : Progress) → simulatedBy R i s .answer ≡ some (answerOf y q)
+        → next R (endOf R i s) ≡ stops y
     told-stop y q z = told-all y q z .0
 
     -- and one that has stopped so answers so
     pub stop-told : (y : Stop) → next R (endOf R i s) ≡ stops y → simulatedBy R i s .answer ≡ some (answerOf y own)
     unfolding resultFrom
-    stop-told y z = ap (λ (r : Result C). r .answer) (passed-is e) ∙ ap (λ (x : Option Stop). answerIf x own) (stops-so R i s (accepted i s e) fit y z)
+    stop-told y z = ap (λ (r : Result C). r .answer) (passed-is e)
+        ∙ ap (λ (x : Option Stop). answerIf x own) (stops-so R i s (accepted i s e) fit y z)
 
   -- DEMAND 3
-  pub ok-demand : Suits R i → (p : Progress) → simulatedBy R i s .answer ≡ some (answer.Finished p) → (l : Lent C) → l ≡ listsOf (simulatedBy R i s .state) → DemandThree R i s p l
+  pub ok-demand : Suits R i → (p : Progress) → simulatedBy R i s .answer ≡ some (answer.Finished p) → (l : Lent C)
+      → l ≡ listsOf (simulatedBy R i s .state) → DemandThree R i s p l
   unfolding resultFrom
   ok-demand fit p e l el =
       let passed = ok-passed p e in
       let t = told-all fit passed stop.Ended p e in
       record {
         demand = daily-rules R i s (accepted i s passed) fit;
-        rows = rows-are R i s (accepted i s passed) fit l (el ∙ ap (λ (r : Result C). listsOf (r .state)) (passed-is passed));
+        rows = rows-are R i s (accepted i s passed) fit l
+            (el ∙ ap (λ (r : Result C). listsOf (r .state)) (passed-is passed));
         turns-reported = sym (ap (λ (z : Progress). z .turns) (t .1));
         longer-table = λ s′ longer. longer-table R i fit s s′ passed longer (t .0);
       }

@@ -1,5 +1,6 @@
--- A RUN IN LONGER LISTS, and from lists with other contents: the frame. Its own places come out as from lists of just these, the places behind them stay as lent;
--- so of two calls with equal inputs the second, with a table as long or longer, has the same run.
+-- A RUN IN LONGER LISTS, and from lists with other contents: the frame. Its own places come out as from lists of just
+-- these, the places behind them stay as lent; so of two calls with equal inputs the second, with a table as long or
+-- longer, has the same run.
 --   run-own       a run of `extended s b` is the run of s, with b behind
 --   longer-table, lists-free   two calls: the same run, where the first ends Ok or the tables are equally long
 --   cards-are     one call: its cards are those kept and those created
@@ -69,7 +70,8 @@ module _ {C : Type 0} (cards span : ℕ) (s : State C) (b : Lent C) (ex : Exact 
       ) (rw e)
 
 -- ---- a run
-module _ {C : Type 0} (R : Rules C) (cards : ℕ) (fine : RunBounds (R .span) cards) (laws : Slots (R .model)) (b : Lent C) where
+module _ {C : Type 0} (R : Rules C) (cards : ℕ) (fine : RunBounds (R .span) cards) (laws : Slots (R .model))
+    (b : Lent C) where
   -- w is s with b behind
   pub record InFront (w s : State C) : Type 0 where
     pub whole : w ≡ extended s b
@@ -88,21 +90,25 @@ module _ {C : Type 0} (R : Rules C) (cards : ℕ) (fine : RunBounds (R .span) ca
       kept : (t : Turn Drawn) (s″ : State C) → next R (extended s b) ≡ takes t s″ → StateInvariant cards (R .span) s″
       kept t s″ e = (rw e at (law R cards fine laws [] (extended s b) good)) .1
 
-      go : (x : Next (Turn Drawn) (State C) Stop) → Framed R cards fine s b good (p .exact) x (next R (extended s b)) → Follows InFront Any (next R (extended s b)) x
+      go : (x : Next (Turn Drawn) (State C) Stop) → Framed R cards fine s b good (p .exact) x (next R (extended s b))
+          → Follows InFront Any (next R (extended s b)) x
       go (takes t s′) q = rw (q .0) (refl, record { whole = refl; exact = q .1; good = kept t (extended s′ b) (q .0) })
       go (stops x) q = rw q (λ z. refl)
 
-  pub run-own : (n : ℕ) (w s : State C) → InFront w s → (x : Stop) → next R ((run (next R) n [] w) .state) ≡ stops x → Same InFront (next R) (run (next R) n [] w) (run (next R) n [] s) x
+  pub run-own : (n : ℕ) (w s : State C) → InFront w s → (x : Stop) → next R ((run (next R) n [] w) .state) ≡ stops x
+      → Same InFront (next R) (run (next R) n [] w) (run (next R) n [] s) x
   run-own n w s p x e = run-follows InFront Any (next R) own-follows n [] [] refl w s p x tt e
 
 -- ---- two calls
 same-stop : {C : Type 0} (n : Next (Turn Drawn) (State C) Stop) (x y : Stop) → n ≡ stops x → n ≡ stops y → x ≡ y
 same-stop n x y e q = cc
 
-same-answer : (x : Stop) {a a′ b b′ c c′ : ℕ} → a ≡ a′ → b ≡ b′ → c ≡ c′ → some (answerOf x (progress a b c)) ≡ some (answerOf x (progress a′ b′ c′))
+same-answer : (x : Stop) {a a′ b b′ c c′ : ℕ} → a ≡ a′ → b ≡ b′ → c ≡ c′
+    → some (answerOf x (progress a b c)) ≡ some (answerOf x (progress a′ b′ c′))
 same-answer x p q r = rw (p, q, r)
 
-module _ {C : Type 0} (R : Rules C) (i : Inputs) (fit : Suits R i) (s s′ : State C) (e : checked i s ≡ check.Passed) (e′ : checked i s′ ≡ check.Passed) where
+module _ {C : Type 0} (R : Rules C) (i : Inputs) (fit : Suits R i) (s s′ : State C) (e : checked i s ≡ check.Passed)
+    (e′ : checked i s′ ≡ check.Passed) where
   abbrev none : C
   none = R .costs .none
 
@@ -132,37 +138,53 @@ module _ {C : Type 0} (R : Rules C) (i : Inputs) (fit : Suits R i) (s s′ : Sta
   front-here = record {
     whole = subst (λ (z : ℕ). startOf R i s ≡ extended f (beyond cards z s)) (fit .span-is) (alike .here);
     exact = subst (λ (z : ℕ). Exact cards z f) (fit .span-is) (alike .exact (s .table));
-    good = subst (λ (z : ℕ). StateInvariant z (R .span) (startOf R i s)) cards-here (start-good R i s (accepted i s e) fit);
+    good = subst (λ (z : ℕ). StateInvariant z (R .span) (startOf R i s)) cards-here
+        (start-good R i s (accepted i s e) fit);
   }
 
   front-there : InFront R cards fine (fit .slots) (beyond cards (R .span) s′) (startOf R i s′) f′
   front-there = record {
     whole = subst (λ (z : ℕ). startOf R i s′ ≡ extended f′ (beyond cards z s′)) (fit .span-is) (alike .there);
     exact = subst (λ (z : ℕ). Exact cards z f′) (fit .span-is) (alike .exact (s′ .table));
-    good = subst (λ (z : ℕ). StateInvariant z (R .span) (startOf R i s′)) cards-there (start-good R i s′ (accepted i s′ e′) fit);
+    good = subst (λ (z : ℕ). StateInvariant z (R .span) (startOf R i s′)) cards-there
+        (start-good R i s′ (accepted i s′ e′) fit);
   }
 
   -- each run is that of the own places
   abbrev steps : ℕ
   steps = suc (cards * suc (R .span))
 
-  own-here : (x : Stop) → next R (endOf R i s) ≡ stops x → Same (InFront R cards fine (fit .slots) (beyond cards (R .span) s)) (next R) (runFrom R (startOf R i s)) (run (next R) steps [] f) x
+  own-here : (x : Stop) → next R (endOf R i s) ≡ stops x
+      → Same (InFront R cards fine (fit .slots) (beyond cards (R .span) s)) (next R) (runFrom R (startOf R i s))
+      (run (next R) steps [] f) x
   unfolding runFrom
   own-here x q =
       let b : bound R (startOf R i s) ≡ steps = ap (λ (z : ℕ). suc (z * suc (R .span))) cards-here in
-      subst (λ (n : ℕ). Same (InFront R cards fine (fit .slots) (beyond cards (R .span) s)) (next R) (run (next R) n [] (startOf R i s)) (run (next R) steps [] f) x) (sym b)
-      (run-own R cards fine (fit .slots) (beyond cards (R .span) s) steps (startOf R i s) f front-here x (subst (λ (n : ℕ). next R ((run (next R) n [] (startOf R i s)) .state) ≡ stops x) b q))
+      subst (λ (n : ℕ). Same (InFront R cards fine (fit .slots) (beyond cards (R .span) s)) (next R)
+      (run (next R) n [] (startOf R i s)) (run (next R) steps [] f) x) (sym b)
+      (run-own R cards fine (fit .slots) (beyond cards (R .span) s) steps (startOf R i s) f front-here x
+      (subst (λ (n : ℕ). next R ((run (next R) n [] (startOf R i s)) .state) ≡ stops x) b q))
 
-  own-there : (x : Stop) → next R (endOf R i s′) ≡ stops x → Same (InFront R cards fine (fit .slots) (beyond cards (R .span) s′)) (next R) (runFrom R (startOf R i s′)) (run (next R) steps [] f′) x
+  own-there : (x : Stop) → next R (endOf R i s′) ≡ stops x
+      → Same (InFront R cards fine (fit .slots) (beyond cards (R .span) s′)) (next R) (runFrom R (startOf R i s′))
+      (run (next R) steps [] f′) x
   unfolding runFrom
   own-there x q =
       let b : bound R (startOf R i s′) ≡ steps = ap (λ (z : ℕ). suc (z * suc (R .span))) cards-there in
-      subst (λ (n : ℕ). Same (InFront R cards fine (fit .slots) (beyond cards (R .span) s′)) (next R) (run (next R) n [] (startOf R i s′)) (run (next R) steps [] f′) x) (sym b)
-      (run-own R cards fine (fit .slots) (beyond cards (R .span) s′) steps (startOf R i s′) f′ front-there x (subst (λ (n : ℕ). next R ((run (next R) n [] (startOf R i s′)) .state) ≡ stops x) b q))
+      subst (λ (n : ℕ). Same (InFront R cards fine (fit .slots) (beyond cards (R .span) s′)) (next R)
+      (run (next R) n [] (startOf R i s′)) (run (next R) steps [] f′) x) (sym b)
+      (run-own R cards fine (fit .slots) (beyond cards (R .span) s′) steps (startOf R i s′) f′ front-there x
+      (subst (λ (n : ℕ). next R ((run (next R) n [] (startOf R i s′)) .state) ≡ stops x) b q))
 
-  module _ (E : Type 0) (longer : places (s .table) ≤ places (s′ .table)) (even : E → places (s .table) ≡ places (s′ .table)) (x : Stop) (shared : Shared E x) (q : next R (endOf R i s) ≡ stops x) where
+  module _ (E : Type 0) (longer : places (s .table) ≤ places (s′ .table))
+      (even : E → places (s .table) ≡ places (s′ .table)) (x : Stop) (shared : Shared E x)
+      (q : next R (endOf R i s) ≡ stops x) where
     tables : Alike E f f′
-    tables = record { same = refl; entries = same-clear (s .table) (s′ .table) longer; even = λ z. omega (arith, even z, clear-places (s .table), clear-places (s′ .table)) }
+    tables = record {
+      same = refl;
+      entries = same-clear (s .table) (s′ .table) longer;
+      even = λ z. omega (arith, even z, clear-places (s .table), clear-places (s′ .table));
+    }
 
     both : Same (Alike E) (next R) (run (next R) steps [] f) (run (next R) steps [] f′) x
     both = run-alike E R (fit .slots) steps f f′ tables x shared (own-here x q .stop)
@@ -177,51 +199,73 @@ module _ {C : Type 0} (R : Rules C) (i : Inputs) (fit : Suits R i) (s s′ : Sta
         let here = stops-so R i s (accepted i s e) fit x q in
         let there = stops-so R i s′ (accepted i s′ e′) fit x (h .1 ∙ ap stops y) in
         let turns : turnsOf R i s′ ≡ turnsOf R i s = two .turns ∙ sym (both .turns) ∙ sym (one .turns) in
-        let first : firstPlaces cards (R .span) (endOf R i s) ≡ (run (next R) steps [] f) .state = ap (firstPlaces cards (R .span)) (one .states .whole) ∙ first-own cards (R .span) _ (beyond cards (R .span) s) (one .states .exact) in
-        let second : firstPlaces cards (R .span) (endOf R i s′) ≡ (run (next R) steps [] f′) .state = ap (firstPlaces cards (R .span)) (two .states .whole) ∙ first-own cards (R .span) _ (beyond cards (R .span) s′) (two .states .exact) in
-        let table : endOf R i s .table ≡ (run (next R) steps [] f) .state .table = ap (λ (z : State C). z .table) (one .states .whole) in
-        let table′ : endOf R i s′ .table ≡ (run (next R) steps [] f′) .state .table = ap (λ (z : State C). z .table) (two .states .whole) in
+        let first : firstPlaces cards (R .span) (endOf R i s)
+        ≡ (run (next R) steps [] f) .state = ap (firstPlaces cards (R .span)) (one .states .whole)
+        ∙ first-own cards (R .span) _ (beyond cards (R .span) s) (one .states .exact) in
+        let second : firstPlaces cards (R .span) (endOf R i s′)
+        ≡ (run (next R) steps [] f′) .state = ap (firstPlaces cards (R .span)) (two .states .whole)
+        ∙ first-own cards (R .span) _ (beyond cards (R .span) s′) (two .states .exact) in
+        let table : endOf R i s .table
+        ≡ (run (next R) steps [] f) .state .table = ap (λ (z : State C). z .table) (one .states .whole) in
+        let table′ : endOf R i s′ .table
+        ≡ (run (next R) steps [] f′) .state .table = ap (λ (z : State C). z .table) (two .states .whole) in
         let draws : endOf R i s′ .draws ≡ endOf R i s .draws =
-        ap (λ (z : State C). z .draws) (two .states .whole) ∙ ap (λ (z : State C). z .draws) (both .states .same) ∙ sym (ap (λ (z : State C). z .draws) (one .states .whole)) in
+        ap (λ (z : State C). z .draws) (two .states .whole) ∙ ap (λ (z : State C). z .draws) (both .states .same)
+        ∙ sym (ap (λ (z : State C). z .draws) (one .states .whole)) in
         record {
-          answers = rw (e, e′) (rw (here, there) (same-answer x (ap (λ (z : List (Turn Drawn)). length z) turns) (cards-there ∙ sym cards-here) draws));
+          answers = rw (e, e′)
+              (rw (here, there) (same-answer x (ap (λ (z : List (Turn Drawn)). length z) turns)
+              (cards-there ∙ sym cards-here) draws));
           turns-are = turns;
-          places-are = subst (λ (n : ℕ). firstPlaces n (R .span) (endOf R i s′) ≡ withTable (endOf R i s′ .table) (firstPlaces n (R .span) (endOf R i s))) (sym cards-here)
-              (second ∙ both .states .same ∙ ap (λ (t : Table). withTable t ((run (next R) steps [] f) .state)) (sym table′) ∙ ap (withTable (endOf R i s′ .table)) (sym first));
+          places-are = subst (λ (n : ℕ). firstPlaces n (R .span) (endOf R i s′)
+              ≡ withTable (endOf R i s′ .table) (firstPlaces n (R .span) (endOf R i s))) (sym cards-here)
+              (second ∙ both .states .same
+              ∙ ap (λ (t : Table). withTable t ((run (next R) steps [] f) .state)) (sym table′)
+              ∙ ap (withTable (endOf R i s′ .table)) (sym first));
           intervals-are = λ a b. rw (table, table′) (sym (both .states .entries .held a b));
         }
 
 -- ---- the second call passes the entry too, and its table has as many places or more
-pub passes-too : {C : Type 0} (i : Inputs) (s s′ : State C) → checked i s ≡ check.Passed → listsOk i s′ ≡ true → checked i s′ ≡ check.Passed
+pub passes-too : {C : Type 0} (i : Inputs) (s s′ : State C) → checked i s ≡ check.Passed → listsOk i s′ ≡ true
+    → checked i s′ ≡ check.Passed
 unfolding checked
 passes-too i s s′ e l = rw l (rw (accepted i s e .lists-ok) at e)
 
--- THE LONGER TABLE: a run that ends Ok has the same run with any lists that are long enough and a table that is as long or longer
-pub longer-table : {C : Type 0} (R : Rules C) (i : Inputs) → Suits R i → (s s′ : State C) → checked i s ≡ check.Passed → LongerTable i s s′ → next R (endOf R i s) ≡ stops stop.Ended → SameRun R i s s′
+-- THE LONGER TABLE: a run that ends Ok has the same run with any lists that are long enough and a table that is as long
+-- or longer
+pub longer-table : {C : Type 0} (R : Rules C) (i : Inputs) → Suits R i → (s s′ : State C) → checked i s ≡ check.Passed
+    → LongerTable i s s′ → next R (endOf R i s) ≡ stops stop.Ended → SameRun R i s s′
 longer-table R i fit s s′ e l q =
     let e′ = passes-too i s s′ e (l .lists-ok) in
-    same-run R i fit s s′ e e′ ⊥ (omega (arith, l .longer, accepted i s e .table-even, accepted i s′ e′ .table-even)) (λ z. absurd z) stop.Ended (inl refl) q
+    same-run R i fit s s′ e e′ ⊥ (omega (arith, l .longer, accepted i s e .table-even, accepted i s′ e′ .table-even))
+    (λ z. absurd z) stop.Ended (inl refl) q
 
 -- WHATEVER THE LISTS HELD: with a table equally long every call has the same run
-pub lists-free : {C : Type 0} (R : Rules C) (i : Inputs) → Suits R i → (s s′ : State C) → checked i s ≡ check.Passed → listsOk i s′ ≡ true → length (s′ .table .keys) ≡ length (s .table .keys) → SameRun R i s s′
+pub lists-free : {C : Type 0} (R : Rules C) (i : Inputs) → Suits R i → (s s′ : State C) → checked i s ≡ check.Passed
+    → listsOk i s′ ≡ true → length (s′ .table .keys) ≡ length (s .table .keys) → SameRun R i s s′
 lists-free R i fit s s′ e l k =
     let e′ = passes-too i s s′ e l in
     let h = has-stopped R i s (accepted i s e) fit in
-    let p : places (s .table) ≡ places (s′ .table) = omega (arith, k, accepted i s e .table-even, accepted i s′ e′ .table-even) in
+    let p : places (s .table)
+    ≡ places (s′ .table) = omega (arith, k, accepted i s e .table-even, accepted i s′ e′ .table-even) in
     same-run R i fit s s′ e e′ (Unit {0}) (omega (arith, p)) (λ z. p) (h .0) (inr tt) (h .1)
 
 -- ---- one call
 -- the run's cards: the existing ones that are kept, and those created
 pub cards-are : {C : Type 0} (R : Rules C) (i : Inputs) (s : State C) → checked i s ≡ check.Passed
-    → (let kept = keptCount (i .existing) (i .existing-counts) (length (i .existing)) in cardsOf R i s ≡ kept + newCardCount (i .config) kept)
+    → (let kept = keptCount (i .existing) (i .existing-counts) (length (i .existing)) in cardsOf R i s
+    ≡ kept + newCardCount (i .config) kept)
 cards-are R i s e =
     let a = starts-alike (R .costs .none) i s s (accepted i s e) (accepted i s e) in
     ap (λ (z : State _). z .queue .len) (a .here) ∙ a .count
 
-pub beyond-same : {C : Type 0} (R : Rules C) (i : Inputs) (fit : Suits R i) (s : State C) (e : checked i s ≡ check.Passed) → beyond (cardsOf R i s) (R .span) (endOf R i s) ≡ beyond (cardsOf R i s) (R .span) s
+pub beyond-same : {C : Type 0} (R : Rules C) (i : Inputs) (fit : Suits R i) (s : State C)
+    (e : checked i s ≡ check.Passed)
+    → beyond (cardsOf R i s) (R .span) (endOf R i s) ≡ beyond (cardsOf R i s) (R .span) s
 beyond-same R i fit s e =
     let h = has-stopped R i s (accepted i s e) fit in
     let r = own-here R i fit s s e e (h .0) (h .1) in
     let n = cards R i fit s s e e in
     subst (λ (z : ℕ). beyond z (R .span) (endOf R i s) ≡ beyond z (R .span) s) (sym (cards-here R i fit s s e e))
-    (ap (beyond n (R .span)) (r .states .whole) ∙ beyond-own n (R .span) _ (beyond n (R .span) s) (r .states .exact) s refl)
+    (ap (beyond n (R .span)) (r .states .whole)
+    ∙ beyond-own n (R .span) _ (beyond n (R .span) s) (r .states .exact) s refl)

@@ -1,4 +1,5 @@
--- The loop over turns follows the definition: after k turns the lists are the state of `run k`, and what is left of the run stops as the whole.
+-- The loop over turns follows the definition: after k turns the lists are the state of `run k`, and what is left of the
+-- run stops as the whole.
 use mathlib.Core.Path.{_≡_, refl, sym, ap, _∙_}
 use mathlib.Core.List.{[], _∷_}
 use mathlib.Core.Option.{none, some}
@@ -23,7 +24,8 @@ use Rattle.simulation.specs.Steps.{stopIn, TurnContract, RunTurns}
 use Rattle.turns.proofs.Logic.{not-one}
 
 -- the state of a state's lists
-state-is : {C : Type 0} (s : State C) (l : Lent C) (n r : ℕ) → l ≡ listsOf s → n ≡ s .queue .len → r ≡ s .draws → state l n r ≡ s
+state-is : {C : Type 0} (s : State C) (l : Lent C) (n r : ℕ) → l ≡ listsOf s → n ≡ s .queue .len → r ≡ s .draws
+    → state l n r ≡ s
 state-is s l n r e en er = rw (e, en, er)
 
 -- a stop is no turn taken
@@ -63,18 +65,22 @@ module _ {C : Type 0} (R : Rules C) (s₀ : State C) (bound : ℕ) where
     pub going-on : (n′ r : ℕ) → o ≡ outcome.Took n′ r → Going (state l′ n′ r) (k + 1)
     going-on n′ r e = go (next R st) refl p
       where
-        go : (x : Next (Turn Drawn) (State C) Stop) → next R st ≡ x → TurnContract x st o l′ → Going (state l′ n′ r) (k + 1)
+        go : (x : Next (Turn Drawn) (State C) Stop) → next R st ≡ x → TurnContract x st o l′
+            → Going (state l′ n′ r) (k + 1)
         go (stops x) q h = absurd (stop-took x n′ r (sym (h .outcome) ∙ e))
         go (takes t s′) q h =
             let u = took-both (s′ .queue .len) (s′ .draws) n′ r (sym e ∙ h .outcome) in
             let q′ : next R ((after k) .state) ≡ takes t s′ = rw (← i .at) q in
-            let one : after (k + 1) ≡ record { turns = t ∷ (after k) .turns; state = s′ } = run-one-more (next R) k [] s₀ t s′ q′ in
+            let one : after (k + 1)
+            ≡ record { turns = t ∷ (after k) .turns; state = s′ } = run-one-more (next R) k [] s₀ t s′ q′ in
             let now : state l′ n′ r ≡ s′ = state-is s′ l′ n′ r (h .lists) (u .0) (u .1) in
             record {
               at = now ∙ sym (ap (λ (z : RunState (Turn Drawn) (State C)). z .state) one);
               many = ap (λ (z : RunState (Turn Drawn) (State C)). length (z .turns)) one ∙ omega (arith, i .many);
               within = omega arith;
-              left = ap (λ (z : State C). stopOf (next R) (bound - (k + 1)) z) now ∙ sym (stop-takes (next R) (bound - (k + 1)) st t s′ q) ∙ sym (ap (λ (z : ℕ). stopOf (next R) z st) one-left) ∙ i .left;
+              left = ap (λ (z : State C). stopOf (next R) (bound - (k + 1)) z) now
+                  ∙ sym (stop-takes (next R) (bound - (k + 1)) st t s′ q)
+                  ∙ sym (ap (λ (z : ℕ). stopOf (next R) z st) one-left) ∙ i .left;
             }
 
     pub going-stops : OneOf (1 ∷ []) (tagOf outcome-type.the-type o) → (z : Stop) → z ≡ stopIn o
@@ -87,8 +93,10 @@ module _ {C : Type 0} (R : Rules C) (s₀ : State C) (bound : ℕ) where
         go (stops x) q h =
             let q′ : next R ((after k) .state) ≡ stops x = rw (← i .at) q in
             let one : after bound ≡ after k = run-enough (next R) k bound [] s₀ x (i .within) q′ in
-            let s : st ≡ (after bound) .state = i .at ∙ sym (ap (λ (z : RunState (Turn Drawn) (State C)). z .state) one) in
-            let y : stopOf (next R) bound s₀ ≡ some x = sym (i .left) ∙ ap (λ (z : ℕ). stopOf (next R) z st) one-left ∙ stop-stops (next R) (bound - (k + 1)) st x q in
+            let s : st ≡ (after bound) .state = i .at
+            ∙ sym (ap (λ (z : RunState (Turn Drawn) (State C)). z .state) one) in
+            let y : stopOf (next R) bound s₀ ≡ some x = sym (i .left) ∙ ap (λ (z : ℕ). stopOf (next R) z st) one-left
+            ∙ stop-stops (next R) (bound - (k + 1)) st x q in
             record {
               stop-is = λ w ew. ez ∙ ap stopIn (h .outcome) ∙ same-stop x w (sym y ∙ ew);
               turns = sym (ap (λ (z : RunState (Turn Drawn) (State C)). length (z .turns)) one ∙ i .many);

@@ -1,4 +1,5 @@
--- What demand 3 asks of a run's rules (`Suits`), and that the rules of an accepted call have it, whatever is drawn (`suits`): a scheduled interval is 1 to 36,500.
+-- What demand 3 asks of a run's rules (`Suits`), and that the rules of an accepted call have it, whatever is drawn
+-- (`suits`): a scheduled interval is 1 to 36,500.
 use mathlib.Core.Path.{_≡_, refl, subst}
 use mathlib.Core.Bool.{Bool, true, not, _&&_}
 use lib.Dec.{T}
@@ -34,7 +35,8 @@ most-positive : T (positive (ofBits binary32 0x470E_9400))
 unfolding ofBits ofFields
 most-positive = tt
 
-pub scheduled-fair : (w : Curves) (s r longest : Float) → intervalOk longest ≡ true → IntervalInRange (scheduled w s r longest)
+pub scheduled-fair : (w : Curves) (s r longest : Float) → intervalOk longest ≡ true
+    → IntervalInRange (scheduled w s r longest)
 unfolding intervalOk
 scheduled-fair w s r longest e =
     let one : Float = ofBits binary32 0x3F80_0000 in
@@ -43,11 +45,15 @@ scheduled-fair w s r longest e =
     let low : T (le (ofBits binary32 0x3F80_0000) longest) = cmp.yes (p .0) in
     let high : T (le longest (ofBits binary32 0x470E_9400)) = cmp.yes (p .1) in
     let b = scheduled-between w s r longest low in
-    let ph : T (positive longest) = between (ofBits binary32 0x3F80_0000) longest (ofBits binary32 0x470E_9400) one-positive most-positive low high in
-    let px : T (positive (scheduled w s r longest)) = between (ofBits binary32 0x3F80_0000) (scheduled w s r longest) longest one-positive ph (b .least) (b .most) in
+    let ph : T (positive longest) = between (ofBits binary32 0x3F80_0000) longest
+    (ofBits binary32 0x470E_9400) one-positive most-positive low high in
+    let px : T (positive (scheduled w s r longest)) = between (ofBits binary32 0x3F80_0000)
+    (scheduled w s r longest) longest one-positive ph (b .least) (b .most) in
     record {
       least = subst (λ (z : Float). T (le z (scheduled w s r longest))) one-is (b .least);
-      most = subst (λ (z : Float). T (le (scheduled w s r longest) z)) most-is (le-trans-positive (scheduled w s r longest) longest (ofBits binary32 0x470E_9400) px ph most-positive (b .most) high);
+      most = subst (λ (z : Float). T (le (scheduled w s r longest) z)) most-is
+          (le-trans-positive (scheduled w s r longest) longest (ofBits binary32 0x470E_9400) px ph most-positive
+          (b .most) high);
     }
 
 interval-ok : (g : SimulatorConfig) → configOk g ≡ true → intervalOk (g .«max_ivl») ≡ true
@@ -65,11 +71,18 @@ interval-ok g e =
     let f = both (costsOk (g .«state_rating_costs»)) last (d .1) in
     both (not (isNan (g .«max_cost_perday»))) (intervalOk (g .«max_ivl»)) (f .1) .1
 
--- what demand 3 asks of a run's rules: the span of the inputs, and a model with lawful slots; nothing of limits, prices or draws
+-- what demand 3 asks of a run's rules: the span of the inputs, and a model with lawful slots; nothing of limits, prices
+-- or draws
 pub record Suits {C : Type 0} (R : Rules C) (i : Inputs) : Type 0 where
   pub span-is : i .config .«learn_span» ≡ R .span
   pub slots : Slots (R .model)
 
 -- so WHATEVER IS DRAWN
-pub suits : (w : DrawRule) (i : Inputs) (s : State Float) → Accepted i s → Suits (rulesWith w (i .config) (plain (i .parameters))) i
-suits w i s ok = record { span-is = refl; slots = table-slots (i .config) (plain (i .parameters)) (λ x y. scheduled-fair (curveOf (i .parameters)) x y (i .config .«max_ivl») (interval-ok (i .config) (ok .config-ok))) }
+pub suits : (w : DrawRule) (i : Inputs) (s : State Float) → Accepted i s
+    → Suits (rulesWith w (i .config) (plain (i .parameters))) i
+suits w i s ok = record {
+  span-is = refl;
+  slots = table-slots (i .config) (plain (i .parameters))
+      (λ x y. scheduled-fair (curveOf (i .parameters)) x y (i .config .«max_ivl»)
+      (interval-ok (i .config) (ok .config-ok)));
+}

@@ -33,7 +33,8 @@ use Rattle.simulation.specs.Entry.{Inputs}
 use Rattle.simulation.specs.SetUp.{setUp}
 use Rattle.simulation.specs.Simulate.{bound, runFrom}
 use Rattle.simulation.specs.Demands.{startOf, endOf}
-use Rattle.simulation.specs.Turn.{refuses, turnAs, afterPutOff, afterRetire, afterEvent, eventWithSlot, eventWithDraw, eventOn, orElse, act, turnOfCard, next}
+use Rattle.simulation.specs.Turn.{refuses, turnAs, afterPutOff, afterRetire, afterEvent, eventWithSlot}
+use Rattle.simulation.specs.Turn.{eventWithDraw, eventOn, orElse, act, turnOfCard, next}
 use Rattle.simulation.proofs.turn.Slots.{Slots}
 
 module _ {C : Type 0} (R : Rules C) (laws : Slots (R .model)) where
@@ -42,7 +43,8 @@ module _ {C : Type 0} (R : Rules C) (laws : Slots (R .model)) where
   After = Keeps (λ s. Sound (s .table))
 
   module _ (s : State C) (ok : Sound (s .table)) where
-    given : (c : ℕ) (k : Card) (new : Bool) (d : ℕ) (y : Memory) (x : Slot) → Sound (entered (s .table) x) → After (eventWithSlot R s c k new d y x)
+    given : (c : ℕ) (k : Card) (new : Bool) (d : ℕ) (y : Memory) (x : Slot) → Sound (entered (s .table) x)
+        → After (eventWithSlot R s c k new d y x)
     unfolding afterEvent
     given c k new d y slot.Full h = tt
     given c k new d y (slot.Keep v) h = h
@@ -63,7 +65,8 @@ module _ {C : Type 0} (R : Rules C) (laws : Slots (R .model)) where
     act-after c k d choice.Retire = ok
     act-after c k d choice.PutOff = go (noneDue (s .due) (isNew (k .«last_date»)) d)
       where
-        go : (b : Bool) → After (orElse b (refuses (refusal.DueCount c)) (takes (turnAs c d putOff) (afterPutOff R s c k d)))
+        go : (b : Bool) → After
+            (orElse b (refuses (refusal.DueCount c)) (takes (turnAs c d putOff) (afterPutOff R s c k d)))
         go true = tt
         go false = ok
     act-after c k d choice.Learn = event-after c k true d
@@ -84,10 +87,13 @@ module _ {C : Type 0} (R : Rules C) (laws : Slots (R .model)) where
 
         go : (b : Bool) → After (orElse b (stops stop.Ended) (turnOfCard R s c k d))
         go true = tt
-        go false = act-after c k d (choiceOf (R .span) (R .lapse-limit) (R .limits) d k (learnedAt (s .days) d) (reviewedAt (s .days) d) (costAt (R .costs .none) (s .costs) d))
+        go false = act-after c k d
+            (choiceOf (R .span) (R .lapse-limit) (R .limits) d k (learnedAt (s .days) d) (reviewedAt (s .days) d)
+            (costAt (R .costs .none) (s .costs) d))
 
   -- after any number of turns
-  pub run-sound : (n : ℕ) (ts : List (Turn Drawn)) (s : State C) → Sound (s .table) → Sound ((run (next R) n ts s) .state .table)
+  pub run-sound : (n : ℕ) (ts : List (Turn Drawn)) (s : State C) → Sound (s .table)
+      → Sound ((run (next R) n ts s) .state .table)
   run-sound = run-keeps (next R) (λ s. Sound (s .table)) turn-after
 
 -- the table that a run comes to, from its emptied one

@@ -1,5 +1,6 @@
--- Two runs whose states differ in the interval table alone: where the second table holds the same as the first and is as long or longer, the second run takes the
--- same turns and comes to the same end; where it is as long, also to the same refusal.
+-- Two runs whose states differ in the interval table alone: where the second table holds the same as the first and is
+-- as long or longer, the second run takes the same turns and comes to the same end; where it is as long, also to the
+-- same refusal.
 use mathlib.Core.Path.{_≡_, refl}
 use mathlib.Core.Bool.{Bool, true, false, false≢true}
 use mathlib.Core.List.{[]}
@@ -31,7 +32,8 @@ use Rattle.simulation.specs.declared.Stop.{Stop}
 use Rattle.simulation.specs.declared.Stop.the-variants as stop
 use Rattle.simulation.specs.State.{State, cardIn, withTable}
 use Rattle.simulation.specs.Rules.{Rules}
-use Rattle.simulation.specs.Turn.{refuses, turnAs, afterRetire, afterPutOff, afterEvent, eventWithSlot, eventWithDraw, eventOn, orElse, act, turnOfCard, next}
+use Rattle.simulation.specs.Turn.{refuses, turnAs, afterRetire, afterPutOff, afterEvent, eventWithSlot}
+use Rattle.simulation.specs.Turn.{eventWithDraw, eventOn, orElse, act, turnOfCard, next}
 use Rattle.simulation.proofs.turn.Slots.{Slots}
 use Rattle.turns.proofs.Logic.{not-one}
 use Rattle.simulation.proofs.turn.Calls.{event-taken, event-full}
@@ -63,22 +65,31 @@ module _ {C : Type 0} (E : Type 0) (R : Rules C) (laws : Slots (R .model)) where
     s′ = withTable t s
 
     -- the same interval from two slots, one for each table
-    handled-alike : (c : ℕ) (k : Card) (new : Bool) (d : ℕ) (y : Memory) (x x′ : Slot) → intervalOf x ≡ intervalOf x′ → SameEntries (entered (s .table) x) (entered t x′) → Alike E (afterEvent R s c k new d y x) (afterEvent R s′ c k new d y x′)
+    handled-alike : (c : ℕ) (k : Card) (new : Bool) (d : ℕ) (y : Memory) (x x′ : Slot) → intervalOf x ≡ intervalOf x′
+        → SameEntries (entered (s .table) x) (entered t x′)
+        → Alike E (afterEvent R s c k new d y x) (afterEvent R s′ c k new d y x′)
     unfolding afterEvent
-    handled-alike c k new d y x x′ q tw = record { same = rw q; entries = tw; even = λ z. omega (arith, ev z, entered-places (s .table) x, entered-places t x′) }
+    handled-alike c k new d y x x′ q tw = record {
+      same = rw q;
+      entries = tw;
+      even = λ z. omega (arith, ev z, entered-places (s .table) x, entered-places t x′);
+    }
 
     slots-follow : (c : ℕ) (k : Card) (new : Bool) (d : ℕ) (y : Memory) (x x′ : Slot) (b : Bool) → isFull x ≡ b
-        → (isFull x ≡ false → (intervalOf x ≡ intervalOf x′) × (isFull x′ ≡ false) × SameEntries (entered (s .table) x) (entered t x′))
+        → (isFull x ≡ false → (intervalOf x ≡ intervalOf x′) × (isFull x′ ≡ false)
+        × SameEntries (entered (s .table) x) (entered t x′))
         → (E → isFull x ≡ true → isFull x′ ≡ true)
         → Follow (eventWithSlot R s c k new d y x) (eventWithSlot R s′ c k new d y x′)
     slots-follow c k new d y slot.Full x′ true e h f = full
       where
-        full : Shared E (stop.Refused (refusal.TableFull c)) → eventWithSlot R s′ c k new d y x′ ≡ refuses (refusal.TableFull c)
+        full : Shared E (stop.Refused (refusal.TableFull c))
+            → eventWithSlot R s′ c k new d y x′ ≡ refuses (refusal.TableFull c)
         full (inl z) = absurd (not-one cc)
         full (inr z) = event-full R s′ c k new d y x′ (f z refl)
     slots-follow c k new d y x x′ false e h f =
         let q = h e in
-        rw (event-taken R s c k new d y x e, event-taken R s′ c k new d y x′ (q .1)) (refl, handled-alike c k new d y x x′ (q .0) (q .2))
+        rw (event-taken R s c k new d y x e, event-taken R s′ c k new d y x′ (q .1))
+        (refl, handled-alike c k new d y x x′ (q .0) (q .2))
     slots-follow c k new d y (slot.Keep v) x′ true e h f = absurd (false≢true e)
     slots-follow c k new d y (slot.Enter p a b v) x′ true e h f = absurd (false≢true e)
 
@@ -90,14 +101,19 @@ module _ {C : Type 0} (E : Type 0) (R : Rules C) (laws : Slots (R .model)) where
         go event.ChanceOutOfRange = λ z. refl
         go (event.Happened y) =
             let r = k .«desired_retention» in
-            slots-follow c k new d y (R .model .slot (s .table) (y .stability) r) (R .model .slot t (y .stability) r) (isFull (R .model .slot (s .table) (y .stability) r)) refl (laws .same-entries (s .table) t w (y .stability) r) (λ z. laws .fulls (s .table) t w (ev z) (y .stability) r)
+            slots-follow c k new d y (R .model .slot (s .table) (y .stability) r) (R .model .slot t (y .stability) r)
+            (isFull (R .model .slot (s .table) (y .stability) r)) refl
+            (laws .same-entries (s .table) t w (y .stability) r)
+            (λ z. laws .fulls (s .table) t w (ev z) (y .stability) r)
 
     act-follows : (c : ℕ) (k : Card) (d : ℕ) (x : Choice) → Follow (act R s c k d x) (act R s′ c k d x)
     unfolding afterRetire afterPutOff
     act-follows c k d choice.Retire = (refl, record { same = refl; entries = w; even = ev })
     act-follows c k d choice.PutOff = go (noneDue (s .due) (isNew (k .«last_date»)) d)
       where
-        go : (b : Bool) → Follow (orElse b (refuses (refusal.DueCount c)) (takes (turnAs c d putOff) (afterPutOff R s c k d))) (orElse b (refuses (refusal.DueCount c)) (takes (turnAs c d putOff) (afterPutOff R s′ c k d)))
+        go : (b : Bool) → Follow
+            (orElse b (refuses (refusal.DueCount c)) (takes (turnAs c d putOff) (afterPutOff R s c k d)))
+            (orElse b (refuses (refusal.DueCount c)) (takes (turnAs c d putOff) (afterPutOff R s′ c k d)))
         go true = λ z. refl
         go false = (refl, record { same = refl; entries = w; even = ev })
     act-follows c k d choice.Learn = event-follows c k true d
@@ -116,13 +132,18 @@ module _ {C : Type 0} (E : Type 0) (R : Rules C) (laws : Slots (R .model)) where
         d : ℕ
         d = dayOf (k .due)
 
-        go : (b : Bool) → Follow (orElse b (stops stop.Ended) (turnOfCard R s c k d)) (orElse b (stops stop.Ended) (turnOfCard R s′ c k d))
+        go : (b : Bool) → Follow (orElse b (stops stop.Ended) (turnOfCard R s c k d))
+            (orElse b (stops stop.Ended) (turnOfCard R s′ c k d))
         go true = λ z. refl
-        go false = act-follows c k d (choiceOf (R .span) (R .lapse-limit) (R .limits) d k (learnedAt (s .days) d) (reviewedAt (s .days) d) (costAt (R .costs .none) (s .costs) d))
+        go false = act-follows c k d
+            (choiceOf (R .span) (R .lapse-limit) (R .limits) d k (learnedAt (s .days) d) (reviewedAt (s .days) d)
+            (costAt (R .costs .none) (s .costs) d))
 
   follows : (s s′ : State C) → Alike E s s′ → Follow (next R s) (next R s′)
   follows s s′ a = rw (a .same) (turn-follows s (s′ .table) (a .entries) (a .even))
 
   -- the same turns, and states that differ in the table alone
-  pub run-alike : (n : ℕ) (s s′ : State C) → Alike E s s′ → (x : Stop) → Shared E x → next R ((run (next R) n [] s) .state) ≡ stops x → Same (Alike E) (next R) (run (next R) n [] s) (run (next R) n [] s′) x
+  pub run-alike : (n : ℕ) (s s′ : State C) → Alike E s s′ → (x : Stop) → Shared E x
+      → next R ((run (next R) n [] s) .state) ≡ stops x
+      → Same (Alike E) (next R) (run (next R) n [] s) (run (next R) n [] s′) x
   run-alike n s s′ a x p e = run-follows (Alike E) (Shared E) (next R) follows n [] [] refl s s′ a x p e

@@ -1,7 +1,10 @@
--- Set-up in longer lists, and from lists with other contents: the run's own places come out the same, and the places behind them stay.
---   OwnPlaces        two decks that began from other lists have the same cards so far, each in front of what is left of its lists
+-- Set-up in longer lists, and from lists with other contents: the run's own places come out the same, and the places
+-- behind them stay.
+--   OwnPlaces        two decks that began from other lists have the same cards so far, each in front of what is left of
+--                    its lists
 --   own-all          so it is when all cards have come
---   starts-alike     so two calls with equal inputs begin alike in their first places, and each with the places behind them as lent
+--   starts-alike     so two calls with equal inputs begin alike in their first places, and each with the places behind
+--                    them as lent
 use mathlib.Core.Path.{_≡_, refl, sym, ap, _∙_}
 use mathlib.Core.Bool.{Bool, true, false, cond}
 use mathlib.Core.List.{List, [], _∷_, _++_}
@@ -29,7 +32,9 @@ use Rattle.simulation.specs.Frame.{beyond, extended}
 use Rattle.simulation.proofs.turn.Frame.{Exact}
 use Rattle.simulation.specs.Entry.{Inputs}
 use Rattle.simulation.proofs.entry.Accepted.{Accepted}
-use Rattle.simulation.specs.SetUp.{filled, newCard, Deck, addCard, addKeptCard, addExistingCard, addExistingCards, keptCount, addNewCards, newCardCount, emptyDeck, addAllCards, firstDayCounts, setUp}
+use Rattle.simulation.specs.SetUp.{filled, newCard, Deck, addCard, addKeptCard, addExistingCard, addExistingCards}
+use Rattle.simulation.specs.SetUp.{keptCount, addNewCards, newCardCount, emptyDeck, addAllCards, firstDayCounts}
+use Rattle.simulation.specs.SetUp.{setUp}
 
 -- the deck `own` in front of what is left of the lists of s₀
 abbrev pub inFront : Deck → Deck → Deck
@@ -58,34 +63,41 @@ abbrev grow : Deck → Card → Deck
 grow own k = record {
   cards = own .cards ++ (floatsOf k ∷ []);
   counts = own .counts ++ (countsOf k ∷ []);
-  queue = queue (bubbleUp (own .queue .rows ++ ((keyOf k ∷ own .queue .len ∷ []) ∷ [])) (own .queue .len)) (own .queue .len + 1);
+  queue = queue (bubbleUp (own .queue .rows ++ ((keyOf k ∷ own .queue .len ∷ []) ∷ [])) (own .queue .len))
+      (own .queue .len + 1);
   due = own .due;
 }
 
 -- a row written into the first place of what is left
-grown-list : {A : Type 0} (own l : List A) (n : ℕ) (x : A) → length own ≡ n → n < length l → set (own ++ drop n l) n x ≡ (own ++ (x ∷ [])) ++ drop (n + 1) l
+grown-list : {A : Type 0} (own l : List A) (n : ℕ) (x : A) → length own ≡ n → n < length l
+    → set (own ++ drop n l) n x ≡ (own ++ (x ∷ [])) ++ drop (n + 1) l
 grown-list own l n x e h =
     let first : drop n l ≡ getD l n x ∷ drop (suc n) l = drop-cons l n x h in
     let one : n + 1 ≡ suc n = omega arith in
     rw (first, one) (set-at own (getD l n x) (drop (suc n) l) x n e ∙ sym (append-snoc own x (drop (suc n) l)))
 
 grown-rows : (a l : List (List ℕ)) (n card key : ℕ) → length a ≡ n → n < length l → n < 65536
-    → pushed (queue (a ++ drop n l) n) card key ≡ queue (bubbleUp (a ++ ((key ∷ card ∷ []) ∷ [])) n ++ drop (n + 1) l) (n + 1)
+    → pushed (queue (a ++ drop n l) n) card key
+    ≡ queue (bubbleUp (a ++ ((key ∷ card ∷ []) ∷ [])) n ++ drop (n + 1) l) (n + 1)
 grown-rows a l n card key e h few =
     let one : n + 1 ≡ suc n = omega arith in
     let first : drop n l ≡ getD l n [] ∷ drop (n + 1) l = rw one (drop-cons l n [] h) in
     rw first (rw (← e) (pushed-grown a (getD l (length a) []) (drop (length a + 1) l) card key (omega (arith, e, few))))
 
-module _ (span : ℕ) (own s₀ : Deck) (ex : ExactDeck span own) (k : Card) (room : Room (own .queue .len + 1) s₀) (few : own .queue .len < 65536) where
+module _ (span : ℕ) (own s₀ : Deck) (ex : ExactDeck span own) (k : Card) (room : Room (own .queue .len + 1) s₀)
+    (few : own .queue .len < 65536) where
   grown-queue : pushed (inFront own s₀ .queue) (own .queue .len) (keyOf k) ≡ inFront (grow own k) s₀ .queue
-  grown-queue = grown-rows (own .queue .rows) (s₀ .queue .rows) (own .queue .len) (own .queue .len) (keyOf k) (ex .rows-are) (omega (arith, room .rows-long)) few
+  grown-queue = grown-rows (own .queue .rows) (s₀ .queue .rows) (own .queue .len) (own .queue .len) (keyOf k)
+      (ex .rows-are) (omega (arith, room .rows-long)) few
 
   grown : addCard (inFront own s₀) k ≡ inFront (grow own k) s₀
   unfolding addCard writeFloats writeCounts
   grown =
       rw (
-        grown-list (own .cards) (s₀ .cards) (own .queue .len) (floatsOf k) (ex .cards-are) (omega (arith, room .cards-long)),
-        grown-list (own .counts) (s₀ .counts) (own .queue .len) (countsOf k) (ex .counts-are) (omega (arith, room .counts-long)),
+        grown-list (own .cards) (s₀ .cards) (own .queue .len) (floatsOf k) (ex .cards-are)
+            (omega (arith, room .cards-long)),
+        grown-list (own .counts) (s₀ .counts) (own .queue .len) (countsOf k) (ex .counts-are)
+            (omega (arith, room .counts-long)),
         grown-queue,
       )
 
@@ -93,7 +105,12 @@ grown-exact : (span : ℕ) (own : Deck) (k : Card) → ExactDeck span own → Ex
 grown-exact span own k ex = record {
   cards-are = omega (arith, ex .cards-are, length-append (own .cards) (floatsOf k ∷ []));
   counts-are = omega (arith, ex .counts-are, length-append (own .counts) (countsOf k ∷ []));
-  rows-are = omega (arith, ex .rows-are, bubble-long (own .queue .rows ++ ((keyOf k ∷ own .queue .len ∷ []) ∷ [])) (own .queue .len), length-append (own .queue .rows) ((keyOf k ∷ own .queue .len ∷ []) ∷ []));
+  rows-are = omega (
+    arith,
+    ex .rows-are,
+    bubble-long (own .queue .rows ++ ((keyOf k ∷ own .queue .len ∷ []) ∷ [])) (own .queue .len),
+    length-append (own .queue .rows) ((keyOf k ∷ own .queue .len ∷ []) ∷ []),
+  );
   due-are = ex .due-are;
 }
 
@@ -113,24 +130,43 @@ module _ (span deck : ℕ) (s₀ s₀′ : Deck) (room : Room deck s₀) (room�
     pub there : s′ ≡ inFront own s₀′
 
   room-for : (n : ℕ) → n < deck → Room (n + 1) s₀
-  room-for n h = record { cards-long = omega (arith, h, room .cards-long); counts-long = omega (arith, h, room .counts-long); rows-long = omega (arith, h, room .rows-long) }
+  room-for n h = record {
+    cards-long = omega (arith, h, room .cards-long);
+    counts-long = omega (arith, h, room .counts-long);
+    rows-long = omega (arith, h, room .rows-long);
+  }
 
   room-for′ : (n : ℕ) → n < deck → Room (n + 1) s₀′
-  room-for′ n h = record { cards-long = omega (arith, h, room′ .cards-long); counts-long = omega (arith, h, room′ .counts-long); rows-long = omega (arith, h, room′ .rows-long) }
+  room-for′ n h = record {
+    cards-long = omega (arith, h, room′ .cards-long);
+    counts-long = omega (arith, h, room′ .counts-long);
+    rows-long = omega (arith, h, room′ .rows-long);
+  }
 
   -- the same count in other words
   counted : (s s′ : Deck) (n n′ : ℕ) → n ≡ n′ → OwnPlaces s s′ n → OwnPlaces s s′ n′
-  counted s s′ n n′ e p = record { own = p .own; exact = p .exact; count = p .count ∙ e; here = p .here; there = p .there }
+  counted s s′ n n′ e p = record {
+    own = p .own;
+    exact = p .exact;
+    count = p .count ∙ e;
+    here = p .here;
+    there = p .there;
+  }
 
-  own-card : (s s′ : Deck) (k : Card) (n : ℕ) → n < deck → OwnPlaces s s′ n → OwnPlaces (addCard s k) (addCard s′ k) (n + 1)
+  own-card : (s s′ : Deck) (k : Card) (n : ℕ) → n < deck → OwnPlaces s s′ n
+      → OwnPlaces (addCard s k) (addCard s′ k) (n + 1)
   own-card s s′ k n h p =
       let o = p .own in
       record {
         own = grow o k;
         exact = grown-exact span o k (p .exact);
         count = omega (arith, p .count);
-        here = ap (λ (z : Deck). addCard z k) (p .here) ∙ grown span o s₀ (p .exact) k (room-for (o .queue .len) (omega (arith, h, p .count))) (omega (arith, h, few, p .count));
-        there = ap (λ (z : Deck). addCard z k) (p .there) ∙ grown span o s₀′ (p .exact) k (room-for′ (o .queue .len) (omega (arith, h, p .count))) (omega (arith, h, few, p .count));
+        here = ap (λ (z : Deck). addCard z k) (p .here)
+            ∙ grown span o s₀ (p .exact) k (room-for (o .queue .len) (omega (arith, h, p .count)))
+            (omega (arith, h, few, p .count));
+        there = ap (λ (z : Deck). addCard z k) (p .there)
+            ∙ grown span o s₀′ (p .exact) k (room-for′ (o .queue .len) (omega (arith, h, p .count)))
+            (omega (arith, h, few, p .count));
       }
 
   -- a kept card is counted on its day
@@ -141,7 +177,8 @@ module _ (span deck : ℕ) (s₀ s₀′ : Deck) (room : Room deck s₀) (room�
   unfolding addKeptCard withDue
   kept-is s k = refl
 
-  own-kept : (s s′ : Deck) (k : Card) (n : ℕ) → n < deck → OwnPlaces s s′ n → OwnPlaces (addKeptCard span s k) (addKeptCard span s′ k) (n + 1)
+  own-kept : (s s′ : Deck) (k : Card) (n : ℕ) → n < deck → OwnPlaces s s′ n
+      → OwnPlaces (addKeptCard span s k) (addKeptCard span s′ k) (n + 1)
   unfolding withDue addCard own-card
   own-kept s s′ k n h p =
       let o = p .own in
@@ -149,17 +186,30 @@ module _ (span deck : ℕ) (s₀ s₀′ : Deck) (room : Room deck s₀) (room�
       let d : ℕ = dayOf (k .due) in
       record {
         own = withDue (grow o k) (addDue span (o .due) d);
-        exact = record { cards-are = q .exact .cards-are; counts-are = q .exact .counts-are; rows-are = q .exact .rows-are; due-are = add-long span (o .due) d ∙ p .exact .due-are };
+        exact = record {
+          cards-are = q .exact .cards-are;
+          counts-are = q .exact .counts-are;
+          rows-are = q .exact .rows-are;
+          due-are = add-long span (o .due) d ∙ p .exact .due-are;
+        };
         count = q .count;
-        here = kept-is s k ∙ both s s₀ (q .here) (ap (λ (z : Deck). addDue span (z .due) d) (p .here) ∙ add-due-own span (o .due) (s₀ .due) d (omega (arith, p .exact .due-are)));
-        there = kept-is s′ k ∙ both s′ s₀′ (q .there) (ap (λ (z : Deck). addDue span (z .due) d) (p .there) ∙ add-due-own span (o .due) (s₀′ .due) d (omega (arith, p .exact .due-are)));
+        here = kept-is s k ∙ both s s₀ (q .here)
+            (ap (λ (z : Deck). addDue span (z .due) d) (p .here)
+            ∙ add-due-own span (o .due) (s₀ .due) d (omega (arith, p .exact .due-are)));
+        there = kept-is s′ k
+            ∙ both s′ s₀′ (q .there)
+            (ap (λ (z : Deck). addDue span (z .due) d) (p .there)
+            ∙ add-due-own span (o .due) (s₀′ .due) d (omega (arith, p .exact .due-are)));
       }
     where
-      both : (z z₀ : Deck) → addCard z k ≡ inFront (grow (p .own) k) z₀ → addDue span (z .due) (dayOf (k .due)) ≡ addDue span (p .own .due) (dayOf (k .due)) ++ z₀ .due
-          → withDue (addCard z k) (addDue span (z .due) (dayOf (k .due))) ≡ inFront (withDue (grow (p .own) k) (addDue span (p .own .due) (dayOf (k .due)))) z₀
+      both : (z z₀ : Deck) → addCard z k ≡ inFront (grow (p .own) k) z₀
+          → addDue span (z .due) (dayOf (k .due)) ≡ addDue span (p .own .due) (dayOf (k .due)) ++ z₀ .due
+          → withDue (addCard z k) (addDue span (z .due) (dayOf (k .due)))
+          ≡ inFront (withDue (grow (p .own) k) (addDue span (p .own .due) (dayOf (k .due)))) z₀
       both z z₀ e f = rw f (ap (λ (w : Deck). withDue w (addDue span (p .own .due) (dayOf (k .due)) ++ z₀ .due)) e)
 
-  own-existing : (s s′ : Deck) (k : Card) (n : ℕ) → n < deck → OwnPlaces s s′ n → OwnPlaces (addExistingCard span s k) (addExistingCard span s′ k) (n + bit (isKept k))
+  own-existing : (s s′ : Deck) (k : Card) (n : ℕ) → n < deck → OwnPlaces s s′ n
+      → OwnPlaces (addExistingCard span s k) (addExistingCard span s′ k) (n + bit (isKept k))
   unfolding addExistingCard
   own-existing s s′ k n h p = go (isKept k)
     where
@@ -167,18 +217,24 @@ module _ (span deck : ℕ) (s₀ s₀′ : Deck) (room : Room deck s₀) (room�
       go true = own-kept s s′ k n h p
       go false = counted s s′ n (n + 0) (omega arith) p
 
-  own-existing-all : (cards : List (List Float)) (counts : List (List ℕ)) (n : ℕ) (s s′ : Deck) → n ≤ deck → OwnPlaces s s′ 0
-      → OwnPlaces (addExistingCards span cards counts n s) (addExistingCards span cards counts n s′) (keptCount cards counts n)
+  own-existing-all : (cards : List (List Float)) (counts : List (List ℕ)) (n : ℕ) (s s′ : Deck) → n ≤ deck
+      → OwnPlaces s s′ 0
+      → OwnPlaces (addExistingCards span cards counts n s) (addExistingCards span cards counts n s′)
+      (keptCount cards counts n)
   unfolding addExistingCards keptCount
   own-existing-all cards counts zero s s′ h p = p
   own-existing-all cards counts (suc n) s s′ h p =
-      own-existing _ _ (cardAt cards counts n) (keptCount cards counts n) (omega (arith, h, kept-few cards counts n)) (own-existing-all cards counts n s s′ (omega (arith, h)) p)
+      own-existing _ _ (cardAt cards counts n) (keptCount cards counts n) (omega (arith, h, kept-few cards counts n))
+      (own-existing-all cards counts n s s′ (omega (arith, h)) p)
 
-  own-new-all : (retention : Float) (limit n kept : ℕ) (s s′ : Deck) → kept + n ≤ deck → OwnPlaces s s′ kept → OwnPlaces (addNewCards retention limit n s) (addNewCards retention limit n s′) (kept + n)
+  own-new-all : (retention : Float) (limit n kept : ℕ) (s s′ : Deck) → kept + n ≤ deck → OwnPlaces s s′ kept
+      → OwnPlaces (addNewCards retention limit n s) (addNewCards retention limit n s′) (kept + n)
   unfolding addNewCards
   own-new-all retention limit zero kept s s′ h p = counted s s′ kept (kept + 0) (omega arith) p
   own-new-all retention limit (suc n) kept s s′ h p =
-      counted _ _ (kept + n + 1) (kept + suc n) (omega arith) (own-card _ _ (newCard retention limit n) (kept + n) (omega (arith, h)) (own-new-all retention limit n kept s s′ (omega (arith, h)) p))
+      counted _ _ (kept + n + 1) (kept + suc n) (omega arith)
+      (own-card _ _ (newCard retention limit n) (kept + n) (omega (arith, h))
+      (own-new-all retention limit n kept s s′ (omega (arith, h)) p))
 
 -- ---- the deck of a call
 filled-is : {A : Type 0} (x : A) (n : ℕ) (l : List A) → n ≤ length l → filled x n l ≡ replicate n x ++ drop n l
@@ -186,15 +242,22 @@ unfolding filled
 filled-is x zero l h = refl
 filled-is x (suc n) l h =
     let one : n + 1 ≡ suc n = omega arith in
-    let more : replicate n x ++ (x ∷ []) ≡ replicate (suc n) x = replicate-append-replicate n 1 x ∙ ap (λ (z : ℕ). replicate z x) one in
+    let more : replicate n x ++ (x ∷ []) ≡ replicate (suc n) x = replicate-append-replicate n 1 x
+    ∙ ap (λ (z : ℕ). replicate z x) one in
     rw (filled-is x n l (omega (arith, h)))
     (grown-list (replicate n x) l n x (length-replicate n x) (omega (arith, h)) ∙ rw (more, one))
 
 -- the lists that a deck is dealt into
 abbrev pub listsDeck : {C : Type 0} → ℕ → State C → Deck
-listsDeck span s = record { cards = s .cards; counts = s .counts; queue = queue (s .queue .rows) 0; due = drop (dueDays span) (s .due) }
+listsDeck span s = record {
+  cards = s .cards;
+  counts = s .counts;
+  queue = queue (s .queue .rows) 0;
+  due = drop (dueDays span) (s .due);
+}
 
-pub has-room : {C : Type 0} (i : Inputs) (s : State C) → Accepted i s → Room (i .config .«deck_size») (listsDeck (i .config .«learn_span») s)
+pub has-room : {C : Type 0} (i : Inputs) (s : State C) → Accepted i s
+    → Room (i .config .«deck_size») (listsDeck (i .config .«learn_span») s)
 has-room i s ok = record { cards-long = ok .cards-long; counts-long = ok .counts-long; rows-long = ok .queue-long }
 
 new-few : (g : SimulatorConfig) (kept : ℕ) → kept ≤ g .«deck_size» → kept + newCardCount g kept ≤ g .«deck_size»
@@ -219,7 +282,12 @@ module _ {C : Type 0} (i : Inputs) (s s′ : State C) (ok : Accepted i s) (ok′
   unfolding emptyDeck
   empty-own = record {
     own = record { cards = []; counts = []; queue = queue [] 0; due = replicate (dueDays span) 0 };
-    exact = record { cards-are = refl; counts-are = refl; rows-are = refl; due-are = length-replicate (dueDays span) 0 };
+    exact = record {
+      cards-are = refl;
+      counts-are = refl;
+      rows-are = refl;
+      due-are = length-replicate (dueDays span) 0;
+    };
     count = refl;
     here = rw (filled-is 0 (dueDays span) (s .due) (ok .due-long));
     there = rw (filled-is 0 (dueDays span) (s′ .due) (ok′ .due-long));
@@ -235,14 +303,18 @@ module _ {C : Type 0} (i : Inputs) (s s′ : State C) (ok : Accepted i s) (ok′
   abbrev kept : ℕ
   kept = keptCount (i .existing) (i .existing-counts) (length (i .existing))
 
-  pub own-all : Own (addAllCards i (emptyDeck i s)) (addAllCards i (emptyDeck i s′)) (kept + newCardCount (i .config) kept)
+  pub own-all : Own (addAllCards i (emptyDeck i s)) (addAllCards i (emptyDeck i s′))
+      (kept + newCardCount (i .config) kept)
   unfolding addAllCards
   own-all =
       let r = has-room i s ok in
       let r′ = has-room i s′ ok′ in
-      let p = own-existing-all span deck (listsDeck span s) (listsDeck span s′) r r′ (ok .deck-most) (i .existing) (i .existing-counts) (length (i .existing)) (emptyDeck i s) (emptyDeck i s′) (ok .existing-few) empty-own in
-      let few : kept + newCardCount (i .config) kept ≤ deck = new-few (i .config) kept (omega (arith, kept-few (i .existing) (i .existing-counts) (length (i .existing)), ok .existing-few)) in
-      let q = own-new-all span deck (listsDeck span s) (listsDeck span s′) r r′ (ok .deck-most) (i .retention) (i .config .«learn_limit») (newCardCount (i .config) kept) kept (keptOf s) (keptOf s′) few p in
+      let p = own-existing-all span deck (listsDeck span s) (listsDeck span s′) r r′ (ok .deck-most) (i .existing)
+      (i .existing-counts) (length (i .existing)) (emptyDeck i s) (emptyDeck i s′) (ok .existing-few) empty-own in
+      let few : kept + newCardCount (i .config) kept ≤ deck = new-few (i .config) kept
+      (omega (arith, kept-few (i .existing) (i .existing-counts) (length (i .existing)), ok .existing-few)) in
+      let q = own-new-all span deck (listsDeck span s) (listsDeck span s′) r r′ (ok .deck-most) (i .retention)
+      (i .config .«learn_limit») (newCardCount (i .config) kept) kept (keptOf s) (keptOf s′) few p in
       record {
         own = q .own;
         exact = q .exact;
@@ -269,12 +341,16 @@ ownState none i own t = record {
 -- two calls begin with the same places, each in front of those that it was lent behind them
 pub record StartsAlike {C : Type 0} (none : C) (i : Inputs) (s s′ : State C) : Type 0 where
   pub own : Deck
-  pub count : (let kept = keptCount (i .existing) (i .existing-counts) (length (i .existing)) in own .queue .len ≡ kept + newCardCount (i .config) kept)
+  pub count : (let kept = keptCount (i .existing) (i .existing-counts) (length (i .existing)) in own .queue .len
+      ≡ kept + newCardCount (i .config) kept)
   pub exact : (t : Table) → Exact (own .queue .len) (i .config .«learn_span») (ownState none i own t)
-  pub here : setUp none i s ≡ extended (ownState none i own (s .table)) (beyond (own .queue .len) (i .config .«learn_span») s)
-  pub there : setUp none i s′ ≡ extended (ownState none i own (s′ .table)) (beyond (own .queue .len) (i .config .«learn_span») s′)
+  pub here : setUp none i s
+      ≡ extended (ownState none i own (s .table)) (beyond (own .queue .len) (i .config .«learn_span») s)
+  pub there : setUp none i s′
+      ≡ extended (ownState none i own (s′ .table)) (beyond (own .queue .len) (i .config .«learn_span») s′)
 
-pub starts-alike : {C : Type 0} (none : C) (i : Inputs) (s s′ : State C) → Accepted i s → Accepted i s′ → StartsAlike none i s s′
+pub starts-alike : {C : Type 0} (none : C) (i : Inputs) (s s′ : State C) → Accepted i s → Accepted i s′
+    → StartsAlike none i s s′
 unfolding setUp
 starts-alike none i s s′ ok ok′ =
     let span : ℕ = i .config .«learn_span» in
@@ -292,6 +368,16 @@ starts-alike none i s s′ ok ok′ =
         due-are = p .exact .due-are;
         queued = omega arith;
       };
-      here = rw (p .here, filled-is (firstDayCounts i) span (s .days) (ok .days-long), filled-is none span (s .costs) (ok .costs-long), filled-is 0ᶠ span (s .memorized) (ok .memorized-long));
-      there = rw (p .there, filled-is (firstDayCounts i) span (s′ .days) (ok′ .days-long), filled-is none span (s′ .costs) (ok′ .costs-long), filled-is 0ᶠ span (s′ .memorized) (ok′ .memorized-long));
+      here = rw (
+        p .here,
+        filled-is (firstDayCounts i) span (s .days) (ok .days-long),
+        filled-is none span (s .costs) (ok .costs-long),
+        filled-is 0ᶠ span (s .memorized) (ok .memorized-long),
+      );
+      there = rw (
+        p .there,
+        filled-is (firstDayCounts i) span (s′ .days) (ok′ .days-long),
+        filled-is none span (s′ .costs) (ok′ .costs-long),
+        filled-is 0ᶠ span (s′ .memorized) (ok′ .memorized-long),
+      );
     }

@@ -34,7 +34,9 @@ use Rattle.intervals.specs.Table.{Table, places, freeAt, clearIn}
 use Rattle.events.specs.Drawn.{Drawn}
 use Rattle.simulation.specs.State.{State}
 use Rattle.simulation.specs.Entry.{Inputs}
-use Rattle.simulation.specs.SetUp.{Deck, filled, newCard, addCard, addKeptCard, addExistingCard, addExistingCards, introducedBefore, addNewCards, newCardCount, emptyDeck, addAllCards, firstDayCounts, setUp}
+use Rattle.simulation.specs.SetUp.{Deck, filled, newCard, addCard, addKeptCard, addExistingCard, addExistingCards}
+use Rattle.simulation.specs.SetUp.{introducedBefore, addNewCards, newCardCount, emptyDeck, addAllCards}
+use Rattle.simulation.specs.SetUp.{firstDayCounts, setUp}
 use Rattle.simulation.specs.Invariant.{dayIn, newIn, keyIn, lapsesIn, DueCounts, StateInvariant}
 use Rattle.simulation.proofs.turn.Views.{columns}
 use Rattle.simulation.proofs.turn.Invariant.{write-long, else-key, else-day, else-new, own-day, own-new, own-key}
@@ -69,7 +71,8 @@ day-int : (n : ℕ) → n ≤ 65536 → dayOf (ofInt binary32 (pos n)) ≤ n
 unfolding ofInt
 day-int n h =
     let v : HasValue (round binary32 false n 1) false n 1 = round-whole binary32 false n (omega arith) in
-    let t : T (le (round binary32 false n 1) (round binary32 false n 1)) = le-refl (round binary32 false n 1) (number (round binary32 false n 1) n v) in
+    let t : T (le (round binary32 false n 1) (round binary32 false n 1)) = le-refl (round binary32 false n 1)
+    (number (round binary32 false n 1) n v) in
     rw (day-cut (round binary32 false n 1)) (whole-le 32 n (round binary32 false n 1) (round binary32 false n 1) v t)
 
 latest-value : HasValue (ofBits binary32 0x4B80_0000) false 16777216 1
@@ -84,7 +87,8 @@ day-kept k e =
     let b = both (isFinite (k .«desired_retention»)) (dateOk (k .due) && rest) (a .1) in
     let c = both (dateOk (k .due)) rest (b .1) in
     let d = both (le (neg (ofBits binary32 0x4B80_0000)) (k .due)) (le (k .due) (ofBits binary32 0x4B80_0000)) (c .0) in
-    let u : toUnsigned 32 (k .due) ≤ 16777216 = whole-le 32 16777216 (ofBits binary32 0x4B80_0000) (k .due) latest-value (cmp.yes (d .1)) in
+    let u : toUnsigned 32 (k .due) ≤ 16777216 = whole-le 32 16777216 (ofBits binary32 0x4B80_0000)
+    (k .due) latest-value (cmp.yes (d .1)) in
     rw (day-cut (k .due)) (omega (arith, u))
 
 lapses-kept : (k : Card) → cardOk k ≡ true → k .lapses ≤ 4000000000
@@ -114,16 +118,27 @@ module _ (rows : List (List ℕ)) (lc ln : ℕ) where
   at-length : (dated n : ℕ) (s : Deck) → Joining rows lc ln dated n s → Joining rows lc ln dated (s .queue .len) s
   at-length dated n s j = subst (λ (z : ℕ). Joining rows lc ln dated z s) (sym (j .fill .count)) j
 
-  join-here : (dated : ℕ) (s : Deck) (k : Card) → Joining rows lc ln dated (s .queue .len) s → s .queue .len < lc → s .queue .len < ln → s .queue .len < length rows → s .queue .len < 65536 → dayOf (k .due) < 2147483648 → k .lapses ≤ 4000000000
+  join-here : (dated : ℕ) (s : Deck) (k : Card) → Joining rows lc ln dated (s .queue .len) s → s .queue .len < lc
+      → s .queue .len < ln → s .queue .len < length rows → s .queue .len < 65536 → dayOf (k .due) < 2147483648
+      → k .lapses ≤ 4000000000
       → Joining rows lc ln (dated + bit (not (isNew (k .«last_date»)))) (suc (s .queue .len)) (addCard s k)
   unfolding addCard
   join-here dated s k j h hn r few near most = record {
     cards-are = write-long (s .cards) n k ∙ j .cards-are;
     counts-are = counts-long (s .counts) n k ∙ j .counts-are;
     fill = subst (λ (key : ℕ). Filled (keyIn cs′) rows (suc n) (pushed (s .queue) n key)) (own-key (s .cards) n k row)
-        (fill-next (keyIn cs′) rows n (s .queue) r (omega arith) (fill-same (keyIn (s .cards)) (keyIn cs′) rows n (s .queue) (λ c l. sym (else-key (s .cards) n k c (omega arith))) (j .fill)));
+        (fill-next (keyIn cs′) rows n (s .queue) r (omega arith)
+        (fill-same (keyIn (s .cards)) (keyIn cs′) rows n (s .queue)
+        (λ c l. sym (else-key (s .cards) n k c (omega arith))) (j .fill)));
     near = λ c l. at c l (ℕ-discrete c n);
-    news = omega (arith, j .news, either (isNew (k .«last_date»)), ap bit (own-new (s .cards) n k row), sum-same n (λ c. bit (newIn cs′ c)) (λ c. bit (newIn (s .cards) c)) (λ c l. ap bit (else-new (s .cards) n k c (omega arith))));
+    news = omega (
+      arith,
+      j .news,
+      either (isNew (k .«last_date»)),
+      ap bit (own-new (s .cards) n k row),
+      sum-same n (λ c. bit (newIn cs′ c)) (λ c. bit (newIn (s .cards) c))
+          (λ c l. ap bit (else-new (s .cards) n k c (omega arith))),
+    );
     lapses = λ c l. lapsed c l (ℕ-discrete c n);
   }
     where
@@ -144,7 +159,8 @@ module _ (rows : List (List ℕ)) (lc ln : ℕ) where
       lapsed c l (yes e) = rw (e, own-lapses (s .counts) n k (omega (arith, j .counts-are))) most
       lapsed c l (no e) = omega (arith, else-lapses (s .counts) n k c e, j .lapses c (omega arith))
 
-  pub join : (dated n : ℕ) (s : Deck) (k : Card) → Joining rows lc ln dated n s → n < lc → n < ln → n < length rows → n < 65536 → dayOf (k .due) < 2147483648 → k .lapses ≤ 4000000000
+  pub join : (dated n : ℕ) (s : Deck) (k : Card) → Joining rows lc ln dated n s → n < lc → n < ln → n < length rows
+      → n < 65536 → dayOf (k .due) < 2147483648 → k .lapses ≤ 4000000000
       → Joining rows lc ln (dated + bit (not (isNew (k .«last_date»)))) (suc n) (addCard s k)
   join dated n s k j h hn r few near most =
       let e : s .queue .len ≡ n = j .fill .count in
@@ -181,14 +197,33 @@ module _ {C : Type 0} (b : CostRule Drawn C) (i : Inputs) (s : State C) (ok : Ac
   none = record {
     cards = 0;
     few = omega arith;
-    joining = record { cards-are = refl; counts-are = refl; fill = fill-none (keyIn (s .cards)) rows; near = λ c l. absurd (omega arith); news = refl; lapses = λ c l. absurd (omega arith) };
+    joining = record {
+      cards-are = refl;
+      counts-are = refl;
+      fill = fill-none (keyIn (s .cards)) rows;
+      near = λ c l. absurd (omega arith);
+      news = refl;
+      lapses = λ c l. absurd (omega arith);
+    };
     due-long = omega (arith, ok .due-long, filled-long 0 (dueDays span) (s .due));
-    due = record { least = λ d h. omega arith; most = λ d h. omega (arith, filled-at 0 0 (dueDays span) (s .due) d h (ok .due-long)) };
+    due = record {
+      least = λ d h. omega arith;
+      most = λ d h. omega (arith, filled-at 0 0 (dueDays span) (s .due) d h (ok .due-long));
+    };
   }
 
-  retained-same : (dated n : ℕ) (s′ : Deck) (k : Card) → Joining rows (length (s .cards)) (length (s .counts)) dated n (addCard s′ k) → Joining rows (length (s .cards)) (length (s .counts)) dated n (addKeptCard span s′ k)
+  retained-same : (dated n : ℕ) (s′ : Deck) (k : Card)
+      → Joining rows (length (s .cards)) (length (s .counts)) dated n (addCard s′ k)
+      → Joining rows (length (s .cards)) (length (s .counts)) dated n (addKeptCard span s′ k)
   unfolding addKeptCard
-  retained-same dated n s′ k j = record { cards-are = j .cards-are; counts-are = j .counts-are; fill = j .fill; near = j .near; news = j .news; lapses = j .lapses }
+  retained-same dated n s′ k j = record {
+    cards-are = j .cards-are;
+    counts-are = j .counts-are;
+    fill = j .fill;
+    near = j .near;
+    news = j .news;
+    lapses = j .lapses;
+  }
 
   retains : (n : ℕ) → n ≤ length es → Came (introducedBefore es ns n) n (addExistingCards span es ns n (emptyDeck i s))
   unfolding addExistingCards addExistingCard introducedBefore
@@ -201,22 +236,34 @@ module _ {C : Type 0} (b : CostRule Drawn C) (i : Inputs) (s : State C) (ok : Ac
       before : Deck
       before = addExistingCards span es ns n (emptyDeck i s)
 
-      go : (b : Bool) → isKept k ≡ b → Came (introducedBefore es ns n) n before → Came (introducedBefore es ns n + bit (b && not (isNew (k .«last_date»)))) (suc n) (cond b (addKeptCard span before k) before)
+      go : (b : Bool) → isKept k ≡ b → Came (introducedBefore es ns n) n before
+          → Came (introducedBefore es ns n + bit (b && not (isNew (k .«last_date»)))) (suc n)
+          (cond b (addKeptCard span before k) before)
       go true e c =
           let l : c .cards < deck = omega (arith, c .few, ok .existing-few) in
           let fine = ok .cards-ok n (omega arith) e in
           let j =
-          join rows (length (s .cards)) (length (s .counts)) (introducedBefore es ns n) (c .cards) before k (c .joining) (omega (arith, ok .cards-long)) (omega (arith, ok .counts-long))
+          join rows (length (s .cards)) (length (s .counts)) (introducedBefore es ns n) (c .cards) before k
+          (c .joining) (omega (arith, ok .cards-long)) (omega (arith, ok .counts-long))
           (omega (arith, ok .queue-long)) (omega (arith, ok .deck-most)) (day-kept k fine) (lapses-kept k fine) in
           let row : c .cards < length (before .cards) = omega (arith, ok .cards-long, c .joining .cards-are) in
           record {
             cards = suc (c .cards);
             few = omega (arith, c .few);
-            joining = retained-same (introducedBefore es ns n + bit (not (isNew (k .«last_date»)))) (suc (c .cards)) before k j;
+            joining = retained-same (introducedBefore es ns n + bit (not (isNew (k .«last_date»))))
+                (suc (c .cards)) before k j;
             due-long = kept-long span before k (c .due-long);
-            due = due-kept span before k (c .cards) (c .joining .fill) (j .fill) row (c .due) (omega (arith, ok .deck-most, c .joining .fill .count)) (c .due-long);
+            due = due-kept span before k (c .cards) (c .joining .fill) (j .fill) row (c .due)
+                (omega (arith, ok .deck-most, c .joining .fill .count)) (c .due-long);
           }
-      go false e c = record { cards = c .cards; few = omega (arith, c .few); joining = subst (λ (z : ℕ). Joining rows (length (s .cards)) (length (s .counts)) z (c .cards) before) (let z : introducedBefore es ns n ≡ introducedBefore es ns n + 0 = omega arith in z) (c .joining); due-long = c .due-long; due = c .due }
+      go false e c = record {
+        cards = c .cards;
+        few = omega (arith, c .few);
+        joining = subst (λ (z : ℕ). Joining rows (length (s .cards)) (length (s .counts)) z (c .cards) before)
+            (let z : introducedBefore es ns n ≡ introducedBefore es ns n + 0 = omega arith in z) (c .joining);
+        due-long = c .due-long;
+        due = c .due;
+      }
 
   -- ---- the new ones
   abbrev kept : Deck
@@ -227,7 +274,8 @@ module _ {C : Type 0} (b : CostRule Drawn C) (i : Inputs) (s : State C) (ok : Ac
 
   new-day : (n : ℕ) → n < 65536 → dayOf (newCard (i .retention) (i .config .«learn_limit») n .due) < 2147483648
   unfolding newCard
-  new-day n h = let l = div-le-self n (i .config .«learn_limit») in omega (arith, l, day-int (n / i .config .«learn_limit») (omega (arith, l)))
+  new-day n h = let l = div-le-self n (i .config .«learn_limit») in omega
+      (arith, l, day-int (n / i .config .«learn_limit») (omega (arith, l)))
 
   new-lapses : (n : ℕ) → newCard (i .retention) (i .config .«learn_limit») n .lapses ≤ 4000000000
   unfolding newCard
@@ -237,9 +285,17 @@ module _ {C : Type 0} (b : CostRule Drawn C) (i : Inputs) (s : State C) (ok : Ac
   unfolding newCard isNew eq
   new-new n = refl
 
-  creates : (n : ℕ) → all-kept .cards + n ≤ deck → Came (introducedBefore es ns (length es)) (all-kept .cards + n) (addNewCards (i .retention) (i .config .«learn_limit») n kept)
+  creates : (n : ℕ) → all-kept .cards + n ≤ deck
+      → Came (introducedBefore es ns (length es)) (all-kept .cards + n)
+      (addNewCards (i .retention) (i .config .«learn_limit») n kept)
   unfolding addNewCards
-  creates zero h = record { cards = all-kept .cards; few = omega arith; joining = all-kept .joining; due-long = all-kept .due-long; due = all-kept .due }
+  creates zero h = record {
+    cards = all-kept .cards;
+    few = omega arith;
+    joining = all-kept .joining;
+    due-long = all-kept .due-long;
+    due = all-kept .due;
+  }
   creates (suc n) h = go (creates n (omega arith))
     where
       before : Deck
@@ -248,18 +304,23 @@ module _ {C : Type 0} (b : CostRule Drawn C) (i : Inputs) (s : State C) (ok : Ac
       k : Card
       k = newCard (i .retention) (i .config .«learn_limit») n
 
-      go : Came (introducedBefore es ns (length es)) (all-kept .cards + n) before → Came (introducedBefore es ns (length es)) (all-kept .cards + suc n) (addCard before k)
+      go : Came (introducedBefore es ns (length es)) (all-kept .cards + n) before
+          → Came (introducedBefore es ns (length es)) (all-kept .cards + suc n) (addCard before k)
       go c =
           let l : c .cards < deck = omega (arith, c .few, h) in
           let j =
-          join rows (length (s .cards)) (length (s .counts)) (introducedBefore es ns (length es)) (c .cards) before k (c .joining) (omega (arith, ok .cards-long)) (omega (arith, ok .counts-long))
-          (omega (arith, ok .queue-long)) (omega (arith, ok .deck-most)) (new-day n (omega (arith, h, ok .deck-most))) (new-lapses n) in
+          join rows (length (s .cards)) (length (s .counts)) (introducedBefore es ns (length es)) (c .cards) before k
+          (c .joining) (omega (arith, ok .cards-long)) (omega (arith, ok .counts-long))
+          (omega (arith, ok .queue-long)) (omega (arith, ok .deck-most)) (new-day n (omega (arith, h, ok .deck-most)))
+          (new-lapses n) in
           let row : c .cards < length (before .cards) = omega (arith, ok .cards-long, c .joining .cards-are) in
-          let as-many : introducedBefore es ns (length es) + bit (not (isNew (k .«last_date»))) ≡ introducedBefore es ns (length es) = omega (arith, ap (λ (b : Bool). bit (not b)) (new-new n)) in
+          let as-many : introducedBefore es ns (length es) + bit (not (isNew (k .«last_date»)))
+          ≡ introducedBefore es ns (length es) = omega (arith, ap (λ (b : Bool). bit (not b)) (new-new n)) in
           record {
             cards = suc (c .cards);
             few = omega (arith, c .few);
-            joining = subst (λ (z : ℕ). Joining rows (length (s .cards)) (length (s .counts)) z (suc (c .cards)) (addCard before k)) as-many j;
+            joining = subst (λ (z : ℕ). Joining rows (length (s .cards)) (length (s .counts)) z (suc (c .cards))
+                (addCard before k)) as-many j;
             due-long = unfold addCard in (c .due-long);
             due = due-new span before k (c .cards) (c .joining .fill) (j .fill) row (c .due) (new-new n);
           }
@@ -280,7 +341,13 @@ module _ {C : Type 0} (b : CostRule Drawn C) (i : Inputs) (s : State C) (ok : Ac
   unfolding addAllCards
   all-joined =
       let c = creates (newCardCount (i .config) (kept .queue .len)) room in
-      record { cards = c .cards; few = omega (arith, c .few, room); joining = c .joining; due-long = c .due-long; due = c .due }
+      record {
+        cards = c .cards;
+        few = omega (arith, c .few, room);
+        joining = c .joining;
+        due-long = c .due-long;
+        due = c .due;
+      }
 
   len-is : s₁ .queue .len ≡ all-joined .cards
   len-is = all-joined .joining .fill .count
@@ -296,7 +363,8 @@ module _ {C : Type 0} (b : CostRule Drawn C) (i : Inputs) (s : State C) (ok : Ac
   unfolding lt ofBits ofFields
   all-free t p h =
       let e : getD (replicate (length (t .intervals)) (ofBits binary32 0)) p nan ≡ ofBits binary32 0 =
-      getD-replicate (length (t .intervals)) p (ofBits binary32 0) nan (omega (arith, h, length-replicate (length (t .intervals)) (ofBits binary32 0))) in
+      getD-replicate (length (t .intervals)) p (ofBits binary32 0) nan
+      (omega (arith, h, length-replicate (length (t .intervals)) (ofBits binary32 0))) in
       rw e
 
   pub set-up-few : setUp (b .none) i s .queue .len ≤ deck
@@ -333,11 +401,14 @@ module _ {C : Type 0} (b : CostRule Drawn C) (i : Inputs) (s : State C) (ok : Ac
         counts = record {
           recalls = λ d h. omega (arith, ap (λ (l : List ℕ). getD l 2 0) (row-at d h));
           introduced = λ d h. news d h;
-          events = λ d h. omega (arith, ap (λ (l : List ℕ). getD l 0 0) (row-at d h), ap (λ (l : List ℕ). getD l 1 0) (row-at d h));
+          events = λ d h. omega
+              (arith, ap (λ (l : List ℕ). getD l 0 0) (row-at d h), ap (λ (l : List ℕ). getD l 1 0) (row-at d h));
           lapses = λ c l. omega (arith, j .lapses c (omega (arith, l, len-is)));
         };
         due = all-joined .due;
       }
     where
-      news : (d : ℕ) → d < span → getD (getD (filled (firstDayCounts i) span (s .days)) d []) 3 0 + sumTo (s₁ .queue .len) (λ c. bit (newIn (s₁ .cards) c)) ≤ s₁ .queue .len
+      news : (d : ℕ) → d < span
+          → getD (getD (filled (firstDayCounts i) span (s .days)) d []) 3 0 + sumTo (s₁ .queue .len)
+          (λ c. bit (newIn (s₁ .cards) c)) ≤ s₁ .queue .len
       news d h = rw len-is (omega (arith, ap (λ (l : List ℕ). getD l 3 0) (row-at d h), all-joined .joining .news))

@@ -22,8 +22,10 @@ simulate-inner-requires c κs =
     let at-check-entry = at-enum-told .before .before in
     let start = at-check-entry .before .before .before .before .before .before .before .before .before .before .before .before .before .before .before in
     let a = start .args in
-    let i = inputs (a .config) (a .parameters .now) (a .retention) (a .seed) (a .existing .now) (a .existing-counts .now) in
-    let s = state (lent (a .cards .now) (a .counts .now) (a .rows .now) (a .days .now) (a .costs .now) (a .memorized .now) (a .due .now) (a .keys .now) (a .intervals .now)) 0 (a .seed) in
+    let i = inputs (a .config) (a .parameters .now) (a .retention) (a .seed) (a .existing .now)
+    (a .existing-counts .now) in
+    let s = state (lent (a .cards .now) (a .counts .now) (a .rows .now) (a .days .now) (a .costs .now)
+    (a .memorized .now) (a .due .now) (a .keys .now) (a .intervals .now)) 0 (a .seed) in
     sym (same-check i s (at-check-entry .check-entry .ensures)) ∙ at-enum-told .enum-told .given .1
 
 same-length : tie.Need-same-length
@@ -59,8 +61,10 @@ returns c =
     let at-check-entry = at-entry .before .before in
     let start = at-check-entry .before .before .before .before .before .before .before .before .before .before .before .before .before .before .before in
     let a = start .args in
-    let i = inputs (a .config) (a .parameters .now) (a .retention) (a .seed) (a .existing .now) (a .existing-counts .now) in
-    let s = state (lent (a .cards .now) (a .counts .now) (a .rows .now) (a .days .now) (a .costs .now) (a .memorized .now) (a .due .now) (a .keys .now) (a .intervals .now)) 0 (a .seed) in
+    let i = inputs (a .config) (a .parameters .now) (a .retention) (a .seed) (a .existing .now)
+    (a .existing-counts .now) in
+    let s = state (lent (a .cards .now) (a .counts .now) (a .rows .now) (a .days .now) (a .costs .now)
+    (a .memorized .now) (a .due .now) (a .keys .now) (a .intervals .now)) 0 (a .seed) in
     refused-is i s _ (sym (same-check i s (at-check-entry .check-entry .ensures)) ∙ at-entry .entry .given .1)
 
 same-length-10 : tie.Need-same-length-10
@@ -97,8 +101,10 @@ returns-2 c =
     let at-check-entry = at-enum-told .before .before in
     let start = at-check-entry .before .before .before .before .before .before .before .before .before .before .before .before .before .before .before in
     let a = start .args in
-    let i = inputs (a .config) (a .parameters .now) (a .retention) (a .seed) (a .existing .now) (a .existing-counts .now) in
-    let s = state (lent (a .cards .now) (a .counts .now) (a .rows .now) (a .days .now) (a .costs .now) (a .memorized .now) (a .due .now) (a .keys .now) (a .intervals .now)) 0 (a .seed) in
+    let i = inputs (a .config) (a .parameters .now) (a .retention) (a .seed) (a .existing .now)
+    (a .existing-counts .now) in
+    let s = state (lent (a .cards .now) (a .counts .now) (a .rows .now) (a .days .now) (a .costs .now)
+    (a .memorized .now) (a .due .now) (a .keys .now) (a .intervals .now)) 0 (a .seed) in
     let e = sym (same-check i s (at-check-entry .check-entry .ensures)) ∙ at-enum-told .enum-told .given .1 in
     accepted-is i s e (at-simulate-inner .simulate-inner .ensures)
 

@@ -35,7 +35,8 @@ use Rattle.simulation.specs.declared.Refusal.the-variants as refusal
 use Rattle.simulation.specs.declared.Stop.the-variants as stop
 use Rattle.simulation.specs.State.{State, Lent, lent, state, keyOf}
 use Rattle.simulation.specs.Rules.{Rules}
-use Rattle.simulation.specs.Turn.{refuses, turnAs, eventTurn, cardAfterEvent, afterRetire, afterPutOff, afterEvent, eventWithSlot, eventOn, orElse, act, next}
+use Rattle.simulation.specs.Turn.{refuses, turnAs, eventTurn, cardAfterEvent, afterRetire, afterPutOff}
+use Rattle.simulation.specs.Turn.{afterEvent, eventWithSlot, eventOn, orElse, act, next}
 use Rattle.simulation.specs.Steps.{TurnContract, PutOff, PutOffStep, RetireStep, DaysWritten, CardWritten}
 use Rattle.simulation.proofs.Lent.{same-lists}
 
@@ -44,14 +45,20 @@ pub not-happened : (e : Event) → OneOf (1 ∷ []) (tagOf event-type.the-type e
 not-happened (event.Happened x) a = absurd (omega (arith, a))
 not-happened event.ChanceOutOfRange a = refl
 
-pub put-off-refused : (span c : ℕ) (k : Card) (d len draws : ℕ) (cards : List (List Float)) (rows : List (List ℕ)) (due : List ℕ) (new b : Bool)
+pub put-off-refused : (span c : ℕ) (k : Card) (d len draws : ℕ) (cards : List (List Float)) (rows : List (List ℕ))
+    (due : List ℕ) (new b : Bool)
     → new ≡ isNew (k .«last_date») → b ≡ noneDue due new d → b ≡ true
-    → PutOffStep span c k d len draws cards rows due (outcome.Stopped (stop.Refused (refusal.DueCount c))) cards rows due
+    → PutOffStep span c k d len draws cards rows due
+    (outcome.Stopped (stop.Refused (refusal.DueCount c))) cards rows due
 put-off-refused span c k d len draws cards rows due new b en eb t =
     let x : noneDue due (isNew (k .«last_date»)) d ≡ true = rw (← en) (sym eb ∙ t) in
-    record { refused = λ y. (refl, record { cards-are = refl; rows-are = refl; due-are = refl }); done = λ y. absurd (true≢false (sym x ∙ y)) }
+    record {
+      refused = λ y. (refl, record { cards-are = refl; rows-are = refl; due-are = refl });
+      done = λ y. absurd (true≢false (sym x ∙ y));
+    }
 
-pub put-off-done : (span c : ℕ) (k : Card) (d len draws : ℕ) (cards : List (List Float)) (rows : List (List ℕ)) (due : List ℕ) (new b : Bool) (cards′ : List (List Float)) (rows′ : List (List ℕ)) (due′ : List ℕ)
+pub put-off-done : (span c : ℕ) (k : Card) (d len draws : ℕ) (cards : List (List Float)) (rows : List (List ℕ))
+    (due : List ℕ) (new b : Bool) (cards′ : List (List Float)) (rows′ : List (List ℕ)) (due′ : List ℕ)
     → new ≡ isNew (k .«last_date») → b ≡ noneDue due new d → b ≡ false
     → PutOff span c k d len cards rows due cards′ rows′ due′
     → PutOffStep span c k d len draws cards rows due (outcome.Took len draws) cards′ rows′ due′
@@ -65,7 +72,8 @@ module _ {C : Type 0} (R : Rules C) (r : State C) (c : ℕ) (k : Card) (new : Bo
   event-full (slot.Enter p a b v) e = absurd (false≢true e)
   event-full slot.Full e = refl
 
-  pub event-taken : (t : Slot) → isFull t ≡ false → eventWithSlot R r c k new d y t ≡ takes (eventTurn R r c k new d y) (afterEvent R r c k new d y t)
+  pub event-taken : (t : Slot) → isFull t ≡ false
+      → eventWithSlot R r c k new d y t ≡ takes (eventTurn R r c k new d y) (afterEvent R r c k new d y t)
   event-taken (slot.Keep v) e = refl
   event-taken (slot.Enter p a b v) e = refl
   event-taken slot.Full e = absurd (true≢false e)
@@ -76,20 +84,24 @@ module _ (R : Rules Float) (l : Lent Float) (len draws : ℕ) where
 
   -- ---- an event
   module _ (c : ℕ) (k : Card) (new : Bool) (d : ℕ) where
-    pub chance-is : (e : Event) → e ≡ R .model .event (R .draw) k new d draws → e ≡ event.ChanceOutOfRange → TurnContract (eventOn R st c k new d) st (outcome.Stopped (stop.Refused (refusal.ChanceOutOfRange c))) l
+    pub chance-is : (e : Event) → e ≡ R .model .event (R .draw) k new d draws → e ≡ event.ChanceOutOfRange
+        → TurnContract (eventOn R st c k new d) st (outcome.Stopped (stop.Refused (refusal.ChanceOutOfRange c))) l
     unfolding eventOn
     chance-is e p q =
         let x : R .model .event (R .draw) k new d draws ≡ event.ChanceOutOfRange = sym p ∙ q in
         rw x (record { outcome = refl; lists = refl })
 
-    module _ (e : Event) (x : Memory) (p : e ≡ R .model .event (R .draw) k new d draws) (q : e ≡ event.Happened x) (t : Slot) (z : t ≡ R .model .slot (table (l .keys) (l .intervals)) (x .stability) (k .«desired_retention»)) where
+    module _ (e : Event) (x : Memory) (p : e ≡ R .model .event (R .draw) k new d draws) (q : e ≡ event.Happened x)
+        (t : Slot) (z : t ≡ R .model .slot (table (l .keys) (l .intervals)) (x .stability)
+        (k .«desired_retention»)) where
       handles : eventOn R st c k new d ≡ eventWithSlot R st c k new d x t
       unfolding eventOn
       handles =
           let y : R .model .event (R .draw) k new d draws ≡ event.Happened x = sym p ∙ q in
           rw (y, z)
 
-      pub full-is : (f : Bool) → f ≡ isFull t → f ≡ true → TurnContract (eventOn R st c k new d) st (outcome.Stopped (stop.Refused (refusal.TableFull c))) l
+      pub full-is : (f : Bool) → f ≡ isFull t → f ≡ true
+          → TurnContract (eventOn R st c k new d) st (outcome.Stopped (stop.Refused (refusal.TableFull c))) l
       full-is f u y = rw (handles ∙ event-full R st c k new d x t (sym u ∙ y)) (record { outcome = refl; lists = refl })
 
       pub handled-is : (f : Bool) → f ≡ isFull t → f ≡ false
@@ -105,7 +117,8 @@ module _ (R : Rules Float) (l : Lent Float) (len draws : ℕ) where
           → TurnContract (eventOn R st c k new d) st (outcome.Took len (x .draws)) l′
       unfolding afterEvent
       handled-is f u y v ev k′ ek day ed l′ cw dw pw du tw =
-          let kk : cardAfterEvent k new x d (intervalOf t) ≡ k′ = sym (ek ∙ ap (λ (w : Float). cardAfterEvent k new x d w) ev) in
+          let kk : cardAfterEvent k new x d (intervalOf t)
+          ≡ k′ = sym (ek ∙ ap (λ (w : Float). cardAfterEvent k new x d w) ev) in
           let q′ : frontChanged (queue (l .rows) len) (keyOf k′) ≡ queue (l′ .rows) len = sym (cw .queue-is) in
           rw (handles ∙ event-taken R st c k new d x t (sym u ∙ y))
           (rw (kk, q′)
@@ -129,29 +142,49 @@ module _ (R : Rules Float) (l : Lent Float) (len draws : ℕ) where
   unfolding next
   ended-is e = rw (eq-eqb len 0 e) (record { outcome = refl; lists = refl })
 
-  module _ (ne : len ≢ 0) (c : ℕ) (k : Card) (d m r : ℕ) (x : Float) (ch : Choice) (ec : c ≡ front (queue (l .rows) len)) (ek : k ≡ cardAt (l .cards) (l .counts) c) (ed : d ≡ dayOf (k .due))
-      (el : m ≡ learnedAt (l .days) d) (er : r ≡ reviewedAt (l .days) d) (ex : x ≡ costAt (R .costs .none) (l .costs) d) (eh : ch ≡ choiceOf (R .span) (R .lapse-limit) (R .limits) d k m r x) where
+  module _ (ne : len ≢ 0) (c : ℕ) (k : Card) (d m r : ℕ) (x : Float) (ch : Choice)
+      (ec : c ≡ front (queue (l .rows) len)) (ek : k ≡ cardAt (l .cards) (l .counts) c) (ed : d ≡ dayOf (k .due))
+      (el : m ≡ learnedAt (l .days) d) (er : r ≡ reviewedAt (l .days) d)
+      (ex : x ≡ costAt (R .costs .none) (l .costs) d)
+      (eh : ch ≡ choiceOf (R .span) (R .lapse-limit) (R .limits) d k m r x) where
     next-is : next R st ≡ act R st c k d ch
     unfolding next
     next-is = rw (ne-eqb len 0 ne, ← ec, ← ek, ← ed, ← el, ← er, ← ex, ← eh)
 
-    pub retired-is : (o : Outcome) (memorized′ : List Float) (rows′ : List (List ℕ)) → ch ≡ choice.Retire → RetireStep R k len draws (l .memorized) (l .rows) o memorized′ rows′
-        → TurnContract (next R st) st o (lent (l .cards) (l .counts) rows′ (l .days) (l .costs) memorized′ (l .due) (l .keys) (l .intervals))
+    pub retired-is : (o : Outcome) (memorized′ : List Float) (rows′ : List (List ℕ)) → ch ≡ choice.Retire
+        → RetireStep R k len draws (l .memorized) (l .rows) o memorized′ rows′
+        → TurnContract (next R st) st o
+        (lent (l .cards) (l .counts) rows′ (l .days) (l .costs) memorized′ (l .due) (l .keys) (l .intervals))
     unfolding afterRetire
     retired-is o memorized′ rows′ e p =
         rw (next-is ∙ ap (act R st c k d) e)
         (record {
           outcome = p .outcome;
-          lists = same-lists (record { cards-are = refl; counts-are = refl; rows-are = p .rows-are; days-are = refl; costs-are = refl; memorized-are = p .memorized-are; due-are = refl; keys-are = refl; intervals-are = refl });
+          lists = same-lists (record {
+            cards-are = refl;
+            counts-are = refl;
+            rows-are = p .rows-are;
+            days-are = refl;
+            costs-are = refl;
+            memorized-are = p .memorized-are;
+            due-are = refl;
+            keys-are = refl;
+            intervals-are = refl;
+          });
         })
 
-    pub put-off-is : (o : Outcome) (cards′ : List (List Float)) (rows′ : List (List ℕ)) (due′ : List ℕ) → ch ≡ choice.PutOff → PutOffStep (R .span) c k d len draws (l .cards) (l .rows) (l .due) o cards′ rows′ due′
-        → TurnContract (next R st) st o (lent cards′ (l .counts) rows′ (l .days) (l .costs) (l .memorized) due′ (l .keys) (l .intervals))
+    pub put-off-is : (o : Outcome) (cards′ : List (List Float)) (rows′ : List (List ℕ)) (due′ : List ℕ)
+        → ch ≡ choice.PutOff → PutOffStep (R .span) c k d len draws (l .cards) (l .rows) (l .due) o cards′ rows′ due′
+        → TurnContract (next R st) st o
+        (lent cards′ (l .counts) rows′ (l .days) (l .costs) (l .memorized) due′ (l .keys) (l .intervals))
     unfolding afterPutOff
-    put-off-is o cards′ rows′ due′ e p = rw (next-is ∙ ap (act R st c k d) e) (go (noneDue (l .due) (isNew (k .«last_date»)) d) refl)
+    put-off-is o cards′ rows′ due′ e p = rw (next-is ∙ ap (act R st c k d) e)
+        (go (noneDue (l .due) (isNew (k .«last_date»)) d) refl)
       where
         go : (b : Bool) → noneDue (l .due) (isNew (k .«last_date»)) d ≡ b
-            → TurnContract (orElse b (refuses (refusal.DueCount c)) (takes (turnAs c d putOff) (afterPutOff R st c k d))) st o (lent cards′ (l .counts) rows′ (l .days) (l .costs) (l .memorized) due′ (l .keys) (l .intervals))
+            → TurnContract (orElse b (refuses (refusal.DueCount c))
+            (takes (turnAs c d putOff) (afterPutOff R st c k d))) st o
+            (lent cards′ (l .counts) rows′ (l .days) (l .costs) (l .memorized) due′ (l .keys) (l .intervals))
         go true y =
             let h = p .refused y in
             record { outcome = h .0; lists = rw (h .1 .cards-are, h .1 .rows-are, h .1 .due-are) }
@@ -159,5 +192,6 @@ module _ (R : Rules Float) (l : Lent Float) (len draws : ℕ) where
             let h = p .done y in
             rw (sym (h .1 .queue-is)) (record { outcome = h .0; lists = rw (h .1 .cards-are, h .1 .due-are) })
 
-    pub event-is : (new : Bool) (o : Outcome) (l′ : Lent Float) → act R st c k d ch ≡ eventOn R st c k new d → TurnContract (eventOn R st c k new d) st o l′ → TurnContract (next R st) st o l′
+    pub event-is : (new : Bool) (o : Outcome) (l′ : Lent Float) → act R st c k d ch ≡ eventOn R st c k new d
+        → TurnContract (eventOn R st c k new d) st o l′ → TurnContract (next R st) st o l′
     event-is new o l′ e p = rw (next-is ∙ e) p

@@ -22,9 +22,12 @@ use Rattle.cards.specs.Day.{IntervalInRange, dayOf, isNew}
 use Rattle.cards.specs.Cards.{cardAt, noCounts, writeFloats, writeCounts, countsOf}
 use Rattle.turns.proofs.Logic.{getD-any}
 use Rattle.cards.proofs.Later.{day-later, day-bound}
-use Rattle.days.specs.Counts.{saturatingSuc, learnedAt, reviewedAt, correctAt, introducedAt, addLearn, addReview, addIntroducedFrom, addEvent}
+use Rattle.days.specs.Counts.{saturatingSuc, learnedAt, reviewedAt, correctAt, introducedAt, addLearn, addReview}
+use Rattle.days.specs.Counts.{addIntroducedFrom, addEvent}
 use Rattle.days.specs.Sums.{costAt, addCost}
-use Rattle.days.proofs.Laws.{saturating-is, learn-long, learn-learned, learn-reviewed, learn-correct, learn-introduced, from-long, from-learned, from-reviewed, from-correct, from-introduced, review-long, review-learned, review-reviewed, review-introduced, review-correct, cost-long, cost-added}
+use Rattle.days.proofs.Laws.{saturating-is, learn-long, learn-learned, learn-reviewed, learn-correct, learn-introduced}
+use Rattle.days.proofs.Laws.{from-long, from-learned, from-reviewed, from-correct, from-introduced, review-long}
+use Rattle.days.proofs.Laws.{review-learned, review-reviewed, review-introduced, review-correct, cost-long, cost-added}
 use Rattle.days.specs.Due.{dueDays, addDue}
 use Rattle.days.proofs.Due.{add-long}
 use Rattle.events.specs.declared.Memory.{Memory}
@@ -43,7 +46,8 @@ use Rattle.simulation.specs.Rules.{Rules}
 use Rattle.simulation.specs.Invariant.{dayIn, newIn, keyIn, lapsesIn, RunBounds, DueCounts, StateInvariant}
 use Rattle.simulation.proofs.turn.Views.{view, columns}
 use Rattle.simulation.proofs.turn.Due.{due-event}
-use Rattle.simulation.proofs.turn.Invariant.{write-long, else-key, else-day, else-new, own-day, own-new, own-key, is-card, has-row, first-is}
+use Rattle.simulation.proofs.turn.Invariant.{write-long, else-key, else-day, else-new, own-day, own-new, own-key}
+use Rattle.simulation.proofs.turn.Invariant.{is-card, has-row, first-is}
 
 -- a whole number is no minus infinity
 new-of : (x : Float) (n : ℕ) → HasValue x false n 1 → isNew x ≡ false
@@ -71,7 +75,8 @@ module _ (counts : List (List ℕ)) (c : ℕ) (k : Card) where
   else-lapses x ne = ap (λ (l : List ℕ). getD l 1 0) (getD-set-other counts c x (countsOf k) [] ne)
 
 -- a fair interval entered leaves a table of fair intervals
-fair-entered : (t : Table) (x : Slot) → IntervalInRange (intervalOf x) → ((p : ℕ) → p < places t → freeAt t p ≡ false → IntervalInRange (valueAt t p))
+fair-entered : (t : Table) (x : Slot) → IntervalInRange (intervalOf x)
+    → ((p : ℕ) → p < places t → freeAt t p ≡ false → IntervalInRange (valueAt t p))
     → (p : ℕ) → p < places (entered t x) → freeAt (entered t x) p ≡ false → IntervalInRange (valueAt (entered t x) p)
 fair-entered t (slot.Keep v) f h p l e = h p l e
 fair-entered t slot.Full f h p l e = h p l e
@@ -84,8 +89,10 @@ fair-entered t (slot.Enter q a b v) f h p l e = go (ℕ-discrete p q)
     go (yes x) = rw x (rw (value-same t q a b v (omega (arith, within, x))) f)
     go (no x) = rw (value-other t q a b v p x) (h p within (sym (free-other t q a b v p x) ∙ e))
 
-module _ {C : Type 0} (R : Rules C) (cards : ℕ) (fine : RunBounds (R .span) cards) (ts : List (Turn Drawn)) (s : State C) (good : StateInvariant cards (R .span) s) (some : 0 < s .queue .len)
-    (new : Bool) (x : Memory) (t : Slot) (fair : IntervalInRange (intervalOf t)) (h : dayOf (cardIn s (front (s .queue)) .due) < R .span) where
+module _ {C : Type 0} (R : Rules C) (cards : ℕ) (fine : RunBounds (R .span) cards) (ts : List (Turn Drawn))
+    (s : State C) (good : StateInvariant cards (R .span) s) (some : 0 < s .queue .len)
+    (new : Bool) (x : Memory) (t : Slot) (fair : IntervalInRange (intervalOf t))
+    (h : dayOf (cardIn s (front (s .queue)) .due) < R .span) where
   abbrev c : ℕ
   c = front (s .queue)
 
@@ -125,20 +132,23 @@ module _ {C : Type 0} (R : Rules C) (cards : ℕ) (fine : RunBounds (R .span) ca
   onward = rw due-day (day-later d (intervalOf t) (omega (arith, h, fine .most)) (fair .least))
 
   keyed′ : Keyed cards (keyIn fs′) (frontChanged (s .queue) (keyOf k′))
-  keyed′ = requeue cards (keyIn fs) (s .queue) (good .order .keyed) (keyIn fs′) (keyOf k′) some (else-key fs c k′) (sym (own-key fs c k′ row))
+  keyed′ = requeue cards (keyIn fs) (s .queue) (good .order .keyed) (keyIn fs′) (keyOf k′) some (else-key fs c k′)
+      (sym (own-key fs c k′ row))
 
   near′ : (i : ℕ) → i < cards → dayIn fs′ i < 2147483648
   near′ i l = at (ℕ-discrete i c)
     where
       at : Dec (i ≡ c) → dayIn fs′ i < 2147483648
-      at (yes q) = let b = day-bound d (intervalOf t) (omega (arith, h, fine .most)) fair in rw q (rw due-day (omega arith))
+      at (yes q) = let b = day-bound d (intervalOf t) (omega (arith, h, fine .most)) fair in rw q
+          (rw due-day (omega arith))
       at (no q) = omega (arith, else-day fs c k′ i q, good .order .near i l)
 
   abbrev none : C
   none = R .costs .none
 
   pays : (y : C) (i : ℕ) → i < R .span
-      → costAt none (addCost none (R .costs .plus) (s .costs) d y) i ≡ cond (eqb d i) (R .costs .plus (costAt none (s .costs) i) y) (costAt none (s .costs) i)
+      → costAt none (addCost none (R .costs .plus) (s .costs) d y) i
+      ≡ cond (eqb d i) (R .costs .plus (costAt none (s .costs) i) y) (costAt none (s .costs) i)
   pays y i l = cost-added none (R .costs .plus) (s .costs) d y i (omega (arith, h, good .lengths .costs-long))
 
   -- what is drawn
@@ -150,23 +160,39 @@ module _ {C : Type 0} (R : Rules C) (cards : ℕ) (fine : RunBounds (R .span) ca
 
   lapses-then : k .lapses ≡ lapsesIn (s .counts) c
   unfolding cardAt
-  lapses-then = ap (λ (l : List ℕ). getD l 1 0) (getD-any (s .counts) c noCounts [] (omega (arith, mine, good .lengths .counts-long)))
+  lapses-then = ap (λ (l : List ℕ). getD l 1 0)
+      (getD-any (s .counts) c noCounts [] (omega (arith, mine, good .lengths .counts-long)))
 
   -- a day's events are no more than the cards: each has put its card to a later day
   few-events : (i : ℕ) → i < R .span → learnedAt rows i + reviewedAt rows i ≤ 65536
-  few-events i l = omega (arith, good .counts .events i l, sum-le cards 1 (λ j. bit (ltb i (dayIn fs j))) (λ j u. bit-le (ltb i (dayIn fs j))), fine .few)
+  few-events i l = omega (
+    arith,
+    good .counts .events i l,
+    sum-le cards 1 (λ j. bit (ltb i (dayIn fs j))) (λ j u. bit-le (ltb i (dayIn fs j))),
+    fine .few,
+  )
 
-  later-cards : (i : ℕ) → sumTo cards (λ j. bit (ltb i (dayIn fs j))) + bit (eqb d i) ≤ sumTo cards (λ j. bit (ltb i (dayIn fs′ j)))
+  later-cards : (i : ℕ)
+      → sumTo cards (λ j. bit (ltb i (dayIn fs j))) + bit (eqb d i) ≤ sumTo cards (λ j. bit (ltb i (dayIn fs′ j)))
   unfolding cardAt
-  later-cards i = omega (arith, lt-step i d (dayIn fs′ c) onward, sum-at cards c (λ j. bit (ltb i (dayIn fs j))) (λ j. bit (ltb i (dayIn fs′ j))) mine (λ j ne. ap (λ (y : ℕ). bit (ltb i y)) (else-day fs c k′ j ne)))
+  later-cards i = omega (
+    arith,
+    lt-step i d (dayIn fs′ c) onward,
+    sum-at cards c (λ j. bit (ltb i (dayIn fs j))) (λ j. bit (ltb i (dayIn fs′ j))) mine
+        (λ j ne. ap (λ (y : ℕ). bit (ltb i y)) (else-day fs c k′ j ne)),
+  )
 
   -- the card is counted on its new day
-  due-now : DueCounts cards (R .span) fs′ (frontChanged (s .queue) (keyOf k′)) (addDue (R .span) (s .due) (dayOf (k′ .due)))
+  due-now : DueCounts cards (R .span) fs′ (frontChanged (s .queue) (keyOf k′))
+      (addDue (R .span) (s .due) (dayOf (k′ .due)))
   unfolding cardAt
   due-now =
-      subst (λ (z : ℕ). DueCounts cards (R .span) fs′ (frontChanged (s .queue) (keyOf k′)) (addDue (R .span) (s .due) z)) (own-day fs c k′ row)
-      (due-event cards (R .span) fs (s .queue) (s .due) (good .due) fs′ (frontChanged (s .queue) (keyOf k′)) c mine (else-day fs c k′) (else-new fs c k′)
-      (λ i ne. change-queued (s .queue) (keyOf k′) (good .order .keyed .sound) i) (fine .few) (good .lengths .due-long) onward)
+      subst (λ (z : ℕ). DueCounts cards (R .span) fs′ (frontChanged (s .queue) (keyOf k′))
+      (addDue (R .span) (s .due) z)) (own-day fs c k′ row)
+      (due-event cards (R .span) fs (s .queue) (s .due) (good .due) fs′ (frontChanged (s .queue) (keyOf k′)) c mine
+      (else-day fs c k′) (else-new fs c k′)
+      (λ i ne. change-queued (s .queue) (keyOf k′) (good .order .keyed .sound) i) (fine .few)
+      (good .lengths .due-long) onward)
 
   due-long′ : dueDays (R .span) ≤ length (addDue (R .span) (s .due) (dayOf (k′ .due)))
   due-long′ = omega (arith, good .lengths .due-long, add-long (R .span) (s .due) (dayOf (k′ .due)))
@@ -186,13 +212,15 @@ module _ {C : Type 0} (R : Rules C) (cards : ℕ) (fine : RunBounds (R .span) ca
       at (no q) = omega (arith, good .counts .lapses i l, else-lapses (s .counts) c k′ i q, else-day fs c k′ i q)
 
   -- ---- A LEARNING
-  module _ (en : newIn fs c ≡ true) (is : new ≡ true) (l-ok : learnedAt rows d < R .limits .learns d) (b-ok : R .limits .counted d ≡ true → learnedAt rows d + reviewedAt rows d < R .limits .reviews d)
+  module _ (en : newIn fs c ≡ true) (is : new ≡ true) (l-ok : learnedAt rows d < R .limits .learns d)
+      (b-ok : R .limits .counted d ≡ true → learnedAt rows d + reviewedAt rows d < R .limits .reviews d)
       (c-ok : R .limits .over d (costAt (R .costs .none) (s .costs) d) ≡ false) where
     abbrev rows′ : List (List ℕ)
     rows′ = addIntroducedFrom (addLearn rows d) (R .span - d) d
 
     learn-row : (i : ℕ) → learnedAt rows′ i ≡ learnedAt rows i + bit (eqb d i)
-    learn-row i = from-learned (addLearn rows d) (R .span - d) d i ∙ learn-learned rows d i (omega (arith, h, good .lengths .days-long)) (omega (arith, few-events d h))
+    learn-row i = from-learned (addLearn rows d) (R .span - d) d i
+        ∙ learn-learned rows d i (omega (arith, h, good .lengths .days-long)) (omega (arith, few-events d h))
 
     review-row : (i : ℕ) → reviewedAt rows′ i ≡ reviewedAt rows i
     review-row i = from-reviewed (addLearn rows d) (R .span - d) d i ∙ learn-reviewed rows d i
@@ -202,14 +230,21 @@ module _ {C : Type 0} (R : Rules C) (cards : ℕ) (fine : RunBounds (R .span) ca
 
     introduced-row : (i : ℕ) → i < R .span → introducedAt rows′ i ≡ introducedAt rows i + bit (ltb d (suc i))
     introduced-row i l =
-        from-introduced (R .span - d) d (addLearn rows d) (λ j u v. omega (arith, learn-introduced rows d j, good .counts .introduced j (omega (arith, h)), fine .few)) (omega (arith, learn-long rows d, h, good .lengths .days-long)) i (omega (arith, h))
+        from-introduced (R .span - d) d (addLearn rows d)
+        (λ j u v. omega (
+          arith,
+          learn-introduced rows d j,
+          good .counts .introduced j (omega (arith, h)),
+          fine .few,
+        )) (omega (arith, learn-long rows d, h, good .lengths .days-long)) i (omega (arith, h))
         ∙ ap (λ (n : ℕ). n + bit (ltb d (suc i))) (learn-introduced rows d i)
 
     same-lapses : lapsesIn (writeCounts (s .counts) c k′) c ≡ lapsesIn (s .counts) c
     unfolding cardAfterEvent
     same-lapses = lapses-now ∙ rw is lapses-then
 
-    pub step-learn : Step view (columns (R .costs .none)) (R .costs) (R .limits) cards (R .span) ts s (eventTurn R s c k true d x) (afterEvent R s c k true d x t)
+    pub step-learn : Step view (columns (R .costs .none)) (R .costs) (R .limits) cards (R .span) ts s
+        (eventTurn R s c k true d x) (afterEvent R s c k true d x t)
     unfolding afterEvent addEvent cardAt
     step-learn = rw (← is) (record {
       moves = record {
@@ -217,7 +252,11 @@ module _ {C : Type 0} (R : Rules C) (cards : ℕ) (fine : RunBounds (R .span) ca
         is-queued = front-queued (s .queue) some;
         is-day = refl;
         does = (en, dated, (h, onward));
-        others = λ i ne. record { same-day = else-day fs c k′ i ne; same-new = else-new fs c k′ i ne; same-queued = change-queued (s .queue) (keyOf k′) (good .order .keyed .sound) i };
+        others = λ i ne. record {
+          same-day = else-day fs c k′ i ne;
+          same-new = else-new fs c k′ i ne;
+          same-queued = change-queued (s .queue) (keyOf k′) (good .order .keyed .sound) i;
+        };
       };
       least = first-is R cards fine ts s good some;
       writes = record {
@@ -233,7 +272,12 @@ module _ {C : Type 0} (R : Rules C) (cards : ℕ) (fine : RunBounds (R .span) ca
     })
 
     fewer : sumTo cards (λ i. bit (newIn fs′ i)) + 1 ≡ sumTo cards (λ i. bit (newIn fs i))
-    fewer = omega (arith, sum-at cards c (λ i. bit (newIn fs i)) (λ i. bit (newIn fs′ i)) mine (λ i ne. ap bit (else-new fs c k′ i ne)), ap bit en, ap bit dated)
+    fewer = omega (
+      arith,
+      sum-at cards c (λ i. bit (newIn fs i)) (λ i. bit (newIn fs′ i)) mine (λ i ne. ap bit (else-new fs c k′ i ne)),
+      ap bit en,
+      ap bit dated,
+    )
 
     pub good-learn : StateInvariant cards (R .span) (afterEvent R s c k true d x t)
     unfolding afterEvent addEvent
@@ -241,8 +285,17 @@ module _ {C : Type 0} (R : Rules C) (cards : ℕ) (fine : RunBounds (R .span) ca
       lengths = record {
         cards-long = omega (arith, good .lengths .cards-long, write-long fs c k′);
         counts-long = omega (arith, good .lengths .counts-long, counts-long (s .counts) c k′);
-        days-long = omega (arith, good .lengths .days-long, from-long (addLearn rows d) (R .span - d) d, learn-long rows d);
-        costs-long = omega (arith, good .lengths .costs-long, cost-long none (R .costs .plus) (s .costs) d (R .costs .cost (turnAs c d (learn rs))));
+        days-long = omega (
+          arith,
+          good .lengths .days-long,
+          from-long (addLearn rows d) (R .span - d) d,
+          learn-long rows d,
+        );
+        costs-long = omega (
+          arith,
+          good .lengths .costs-long,
+          cost-long none (R .costs .plus) (s .costs) d (R .costs .cost (turnAs c d (learn rs))),
+        );
         due-long = due-long′;
       };
       order = record {
@@ -252,7 +305,8 @@ module _ {C : Type 0} (R : Rules C) (cards : ℕ) (fine : RunBounds (R .span) ca
       table = fair-entered (s .table) t fair (good .table);
       counts = record {
         recalls = λ i l. omega (arith, good .counts .recalls i l, review-row i, correct-row i);
-        introduced = λ i l. omega (arith, good .counts .introduced i l, introduced-row i l, fewer, bit-le (ltb d (suc i)));
+        introduced = λ i l. omega
+            (arith, good .counts .introduced i l, introduced-row i l, fewer, bit-le (ltb d (suc i)));
         events = λ i l. omega (arith, good .counts .events i l, learn-row i, review-row i, later-cards i);
         lapses = lapses-few 0 (omega arith) (omega (arith, same-lapses));
       };
@@ -260,7 +314,8 @@ module _ {C : Type 0} (R : Rules C) (cards : ℕ) (fine : RunBounds (R .span) ca
     })
 
   -- ---- A REVIEW
-  module _ (en : newIn fs c ≡ false) (is : new ≡ false) (r-ok : reviewedAt rows d < R .limits .reviews d) (c-ok : R .limits .over d (costAt (R .costs .none) (s .costs) d) ≡ false) where
+  module _ (en : newIn fs c ≡ false) (is : new ≡ false) (r-ok : reviewedAt rows d < R .limits .reviews d)
+      (c-ok : R .limits .over d (costAt (R .costs .none) (s .costs) d) ≡ false) where
     abbrev rows″ : List (List ℕ)
     rows″ = addReview rows d (x .recalled)
 
@@ -271,7 +326,8 @@ module _ {C : Type 0} (R : Rules C) (cards : ℕ) (fine : RunBounds (R .span) ca
     reviewed-row i = review-reviewed rows d (x .recalled) i in-rows (omega (arith, few-events d h))
 
     recalled-row : (i : ℕ) → correctAt rows″ i ≡ correctAt rows i + bit (x .recalled && eqb d i)
-    recalled-row i = review-correct rows d (x .recalled) i in-rows (omega (arith, good .counts .recalls d h, few-events d h))
+    recalled-row i = review-correct rows d (x .recalled) i in-rows
+        (omega (arith, good .counts .recalls d h, few-events d h))
 
     lapsed : (b : Bool) (n : ℕ) → n < 4294967295 → cond b n (saturatingSuc n) ≡ n + bit (not b)
     lapsed true n l = omega arith
@@ -279,9 +335,12 @@ module _ {C : Type 0} (R : Rules C) (cards : ℕ) (fine : RunBounds (R .span) ca
 
     more-lapses : lapsesIn (writeCounts (s .counts) c k′) c ≡ lapsesIn (s .counts) c + bit (not (x .recalled))
     unfolding cardAfterEvent
-    more-lapses = lapses-now ∙ rw is (lapsed (x .recalled) (k .lapses) (omega (arith, lapses-then-few, h, fine .most)) ∙ ap (λ (n : ℕ). n + bit (not (x .recalled))) lapses-then)
+    more-lapses = lapses-now
+        ∙ rw is (lapsed (x .recalled) (k .lapses) (omega (arith, lapses-then-few, h, fine .most))
+        ∙ ap (λ (n : ℕ). n + bit (not (x .recalled))) lapses-then)
 
-    pub step-review : Step view (columns (R .costs .none)) (R .costs) (R .limits) cards (R .span) ts s (eventTurn R s c k false d x) (afterEvent R s c k false d x t)
+    pub step-review : Step view (columns (R .costs .none)) (R .costs) (R .limits) cards (R .span) ts s
+        (eventTurn R s c k false d x) (afterEvent R s c k false d x t)
     unfolding afterEvent addEvent cardAt
     step-review = rw (← is) (record {
       moves = record {
@@ -289,7 +348,11 @@ module _ {C : Type 0} (R : Rules C) (cards : ℕ) (fine : RunBounds (R .span) ca
         is-queued = front-queued (s .queue) some;
         is-day = refl;
         does = (en, dated, (h, onward));
-        others = λ i ne. record { same-day = else-day fs c k′ i ne; same-new = else-new fs c k′ i ne; same-queued = change-queued (s .queue) (keyOf k′) (good .order .keyed .sound) i };
+        others = λ i ne. record {
+          same-day = else-day fs c k′ i ne;
+          same-new = else-new fs c k′ i ne;
+          same-queued = change-queued (s .queue) (keyOf k′) (good .order .keyed .sound) i;
+        };
       };
       least = first-is R cards fine ts s good some;
       writes = record {
@@ -318,7 +381,11 @@ module _ {C : Type 0} (R : Rules C) (cards : ℕ) (fine : RunBounds (R .span) ca
         cards-long = omega (arith, good .lengths .cards-long, write-long fs c k′);
         counts-long = omega (arith, good .lengths .counts-long, counts-long (s .counts) c k′);
         days-long = omega (arith, good .lengths .days-long, review-long rows d (x .recalled));
-        costs-long = omega (arith, good .lengths .costs-long, cost-long none (R .costs .plus) (s .costs) d (R .costs .cost (turnAs c d (review (x .recalled) rs))));
+        costs-long = omega (
+          arith,
+          good .lengths .costs-long,
+          cost-long none (R .costs .plus) (s .costs) d (R .costs .cost (turnAs c d (review (x .recalled) rs))),
+        );
         due-long = due-long′;
       };
       order = record {
@@ -327,9 +394,16 @@ module _ {C : Type 0} (R : Rules C) (cards : ℕ) (fine : RunBounds (R .span) ca
       };
       table = fair-entered (s .table) t fair (good .table);
       counts = record {
-        recalls = λ i l. omega (arith, good .counts .recalls i l, reviewed-row i, recalled-row i, and-le (x .recalled) (eqb d i));
-        introduced = λ i l. omega (arith, good .counts .introduced i l, review-introduced rows d (x .recalled) i, sum-same cards (λ j. bit (newIn fs′ j)) (λ j. bit (newIn fs j)) (λ j u. ap bit (all-new j)));
-        events = λ i l. omega (arith, good .counts .events i l, review-learned rows d (x .recalled) i, reviewed-row i, later-cards i);
+        recalls = λ i l. omega
+            (arith, good .counts .recalls i l, reviewed-row i, recalled-row i, and-le (x .recalled) (eqb d i));
+        introduced = λ i l. omega (
+          arith,
+          good .counts .introduced i l,
+          review-introduced rows d (x .recalled) i,
+          sum-same cards (λ j. bit (newIn fs′ j)) (λ j. bit (newIn fs j)) (λ j u. ap bit (all-new j)),
+        );
+        events = λ i l. omega
+            (arith, good .counts .events i l, review-learned rows d (x .recalled) i, reviewed-row i, later-cards i);
         lapses = lapses-few (bit (not (x .recalled))) (bit-le (not (x .recalled))) more-lapses;
       };
       due = due-now;

@@ -1,4 +1,5 @@
--- A turn in longer lists: it does in the first places what it does in lists of just these, and leaves the places behind them as they are.
+-- A turn in longer lists: it does in the first places what it does in lists of just these, and leaves the places behind
+-- them as they are.
 --   Exact cards span s    the lists of s have just the places that a run of so many cards and days needs
 --   framed                the next turn of `extended s b` is that of s, with b behind, and stays exact
 use mathlib.Core.Path.{_≡_, refl, ap, _∙_}
@@ -30,7 +31,8 @@ use Rattle.events.specs.declared.Event.{Event}
 use Rattle.events.specs.declared.Event.the-variants as event
 use Rattle.events.specs.Drawn.{Drawn}
 use Rattle.queue.specs.Queue.{front}
-use Rattle.queue.proofs.Frame.{front-widened, popped-widened, popped-long, popped-less, changed-widened, changed-long, changed-same}
+use Rattle.queue.proofs.Frame.{front-widened, popped-widened, popped-long, popped-less, changed-widened, changed-long}
+use Rattle.queue.proofs.Frame.{changed-same}
 use Rattle.intervals.specs.declared.Slot.{Slot}
 use Rattle.intervals.specs.declared.Slot.the-variants as slot
 use Rattle.intervals.specs.Schedule.{intervalOf}
@@ -40,7 +42,9 @@ use Rattle.simulation.specs.declared.Stop.the-variants as stop
 use Rattle.simulation.specs.State.{State, Lent, cardIn, keyOf}
 use Rattle.simulation.specs.Model.{Model}
 use Rattle.simulation.specs.Rules.{Rules}
-use Rattle.simulation.specs.Turn.{refuses, turnAs, cardAfterPutOff, cardAfterEvent, addForgettingCurve, eventTurn, afterRetire, afterPutOff, afterEvent, eventWithSlot, eventWithDraw, eventOn, orElse, act, turnOfCard, next}
+use Rattle.simulation.specs.Turn.{refuses, turnAs, cardAfterPutOff, cardAfterEvent, addForgettingCurve, eventTurn}
+use Rattle.simulation.specs.Turn.{afterRetire, afterPutOff, afterEvent, eventWithSlot, eventWithDraw, eventOn}
+use Rattle.simulation.specs.Turn.{orElse, act, turnOfCard, next}
 use Rattle.simulation.specs.Invariant.{RunBounds, StateInvariant}
 use Rattle.simulation.specs.Frame.{extended}
 use Rattle.simulation.proofs.turn.Invariant.{is-card, in-span}
@@ -65,7 +69,8 @@ module _ (m : Model) (a : List Float) (k : Card) (e : ℕ) where
 
   curve-own : (b : List Float) → e ≤ length a → addForgettingCurve m (a ++ b) k e ≡ addForgettingCurve m a k e ++ b
   unfolding addForgettingCurve
-  curve-own b h = go (isNew (k .«last_date»)) (range-own (λ t. m .chance t (k .stability)) (k .«last_date») a b (e - from) from (λ z. omega (arith, h, z)))
+  curve-own b h = go (isNew (k .«last_date»))
+      (range-own (λ t. m .chance t (k .stability)) (k .«last_date») a b (e - from) from (λ z. omega (arith, h, z)))
     where
       go : (t : Bool) → on (a ++ b) ≡ on a ++ b → cond t (a ++ b) (on (a ++ b)) ≡ cond t a (on a) ++ b
       go true q = refl
@@ -73,13 +78,15 @@ module _ (m : Model) (a : List Float) (k : Card) (e : ℕ) where
 
   curve-long : length (addForgettingCurve m a k e) ≡ length a
   unfolding addForgettingCurve
-  curve-long = go (isNew (k .«last_date»)) (range-long (λ t. m .chance t (k .stability)) (k .«last_date») a (e - from) from)
+  curve-long = go (isNew (k .«last_date»))
+      (range-long (λ t. m .chance t (k .stability)) (k .«last_date») a (e - from) from)
     where
       go : (t : Bool) → length (on a) ≡ length a → length (cond t a (on a)) ≡ length a
       go true q = refl
       go false q = q
 
-module _ {C : Type 0} (R : Rules C) (cards : ℕ) (fine : RunBounds (R .span) cards) (s : State C) (b : Lent C) (good : StateInvariant cards (R .span) (extended s b)) (ex : Exact cards (R .span) s) where
+module _ {C : Type 0} (R : Rules C) (cards : ℕ) (fine : RunBounds (R .span) cards) (s : State C) (b : Lent C)
+    (good : StateInvariant cards (R .span) (extended s b)) (ex : Exact cards (R .span) s) where
   abbrev pub wide : State C
   wide = extended s b
 
@@ -112,7 +119,10 @@ module _ {C : Type 0} (R : Rules C) (cards : ℕ) (fine : RunBounds (R .span) ca
 
     same-card : cardIn wide c ≡ k
     unfolding cardAt
-    same-card = rw (List·getD-append (s .cards) (b .cards) noFloats c mine, List·getD-append (s .counts) (b .counts) noCounts c mine′)
+    same-card = rw (
+      List·getD-append (s .cards) (b .cards) noFloats c mine,
+      List·getD-append (s .counts) (b .counts) noCounts c mine′,
+    )
 
     same-turn : cardIn wide (front (wide .queue)) ≡ k
     same-turn = ap (cardIn wide) same-front ∙ same-card
@@ -123,7 +133,10 @@ module _ {C : Type 0} (R : Rules C) (cards : ℕ) (fine : RunBounds (R .span) ca
     -- ---- what each turn leaves
     retire-own : afterRetire R wide k ≡ extended (afterRetire R s k) b
     unfolding afterRetire
-    retire-own = rw (popped-widened (s .queue) (b .rows) some room, curve-own (R .model) (s .memorized) k (R .span) (b .memorized) (omega (arith, ex .memorized-are)))
+    retire-own = rw (
+      popped-widened (s .queue) (b .rows) some room,
+      curve-own (R .model) (s .memorized) k (R .span) (b .memorized) (omega (arith, ex .memorized-are)),
+    )
 
     retire-exact : Exact cards (R .span) (afterRetire R s k)
     unfolding afterRetire
@@ -145,7 +158,8 @@ module _ {C : Type 0} (R : Rules C) (cards : ℕ) (fine : RunBounds (R .span) ca
           rw (
             set-append-left (s .cards) (b .cards) c (floatsOf (cardAfterPutOff k d)) mine,
             changed-widened (s .queue) (b .rows) some room (keyOf (cardAfterPutOff k d)),
-            move-due-own (R .span) (s .due) (b .due) (isNew (k .«last_date»)) d (omega (arith, ex .due-are)) (omega (arith, h, ex .due-are)),
+            move-due-own (R .span) (s .due) (b .due) (isNew (k .«last_date»)) d (omega (arith, ex .due-are))
+                (omega (arith, h, ex .due-are)),
           )
 
       put-exact : Exact cards (R .span) (afterPutOff R s c k d)
@@ -171,7 +185,8 @@ module _ {C : Type 0} (R : Rules C) (cards : ℕ) (fine : RunBounds (R .span) ca
               set-append-left (s .counts) (b .counts) c (countsOf k′) mine′,
               changed-widened (s .queue) (b .rows) some room (keyOf k′),
               event-own (s .days) (b .days) (R .span) d h (omega (arith, ex .days-are)) (x .recalled) new,
-              cost-own (R .costs .none) (R .costs .plus) (s .costs) (b .costs) d (R .costs .cost (eventTurn R s c k new d x)) (omega (arith, h, ex .costs-are)),
+              cost-own (R .costs .none) (R .costs .plus) (s .costs) (b .costs) d
+                  (R .costs .cost (eventTurn R s c k new d x)) (omega (arith, h, ex .costs-are)),
               curve-own (R .model) (s .memorized) k d (b .memorized) (omega (arith, h, ex .memorized-are)),
               add-due-own (R .span) (s .due) (b .due) (dayOf (k′ .due)) (omega (arith, ex .due-are)),
             )
@@ -189,9 +204,14 @@ module _ {C : Type 0} (R : Rules C) (cards : ℕ) (fine : RunBounds (R .span) ca
           queued = omega (arith, ex .queued, changed-same (s .queue) (keyOf (cardAfterEvent k new x d (intervalOf t))));
         }
 
-      slot-framed : (new : Bool) (x : Memory) (t : Slot) → Framed (eventWithSlot R s c k new d x t) (eventWithSlot R wide c k new d x t)
-      slot-framed new x (slot.Keep v) = (ap (takes (eventTurn R s c k new d x)) (event-is-own new x (slot.Keep v)), event-exact new x (slot.Keep v))
-      slot-framed new x (slot.Enter p y z v) = (ap (takes (eventTurn R s c k new d x)) (event-is-own new x (slot.Enter p y z v)), event-exact new x (slot.Enter p y z v))
+      slot-framed : (new : Bool) (x : Memory) (t : Slot)
+          → Framed (eventWithSlot R s c k new d x t) (eventWithSlot R wide c k new d x t)
+      slot-framed new x (slot.Keep v) =
+          (ap (takes (eventTurn R s c k new d x)) (event-is-own new x (slot.Keep v)), event-exact new x (slot.Keep v))
+      slot-framed new x (slot.Enter p y z v) = (
+        ap (takes (eventTurn R s c k new d x)) (event-is-own new x (slot.Enter p y z v)),
+        event-exact new x (slot.Enter p y z v),
+      )
       slot-framed new x slot.Full = refl
 
       event-framed : (new : Bool) → Framed (eventOn R s c k new d) (eventOn R wide c k new d)
@@ -209,7 +229,9 @@ module _ {C : Type 0} (R : Rules C) (cards : ℕ) (fine : RunBounds (R .span) ca
       put-framed : Framed (act R s c k d choice.PutOff) (act R wide c k d choice.PutOff)
       put-framed = rw due-same (go (noneDue (s .due) (isNew (k .«last_date»)) d))
         where
-          go : (t : Bool) → Framed (orElse t (refuses (refusal.DueCount c)) (takes (turnAs c d putOff) (afterPutOff R s c k d))) (orElse t (refuses (refusal.DueCount c)) (takes (turnAs c d putOff) (afterPutOff R wide c k d)))
+          go : (t : Bool) → Framed
+              (orElse t (refuses (refusal.DueCount c)) (takes (turnAs c d putOff) (afterPutOff R s c k d)))
+              (orElse t (refuses (refusal.DueCount c)) (takes (turnAs c d putOff) (afterPutOff R wide c k d)))
           go true = refl
           go false = (ap (takes (turnAs c d putOff)) put-own, put-exact)
 
@@ -220,10 +242,15 @@ module _ {C : Type 0} (R : Rules C) (cards : ℕ) (fine : RunBounds (R .span) ca
       act-framed choice.Review = event-framed false
 
       -- within the span the rows are read in the first places
-      days-same : choiceOf (R .span) (R .lapse-limit) (R .limits) d k (learnedAt (wide .days) d) (reviewedAt (wide .days) d) (costAt (R .costs .none) (wide .costs) d)
-          ≡ choiceOf (R .span) (R .lapse-limit) (R .limits) d k (learnedAt (s .days) d) (reviewedAt (s .days) d) (costAt (R .costs .none) (s .costs) d)
+      days-same : choiceOf (R .span) (R .lapse-limit) (R .limits) d k (learnedAt (wide .days) d)
+          (reviewedAt (wide .days) d) (costAt (R .costs .none) (wide .costs) d)
+          ≡ choiceOf (R .span) (R .lapse-limit) (R .limits) d k (learnedAt (s .days) d) (reviewedAt (s .days) d)
+          (costAt (R .costs .none) (s .costs) d)
       days-same =
-          rw (List·getD-append (s .days) (b .days) [] d (omega (arith, h, ex .days-are)), List·getD-append (s .costs) (b .costs) (R .costs .none) d (omega (arith, h, ex .costs-are)))
+          rw (
+            List·getD-append (s .days) (b .days) [] d (omega (arith, h, ex .days-are)),
+            List·getD-append (s .costs) (b .costs) (R .costs .none) d (omega (arith, h, ex .costs-are)),
+          )
 
     -- a card that is retired is so whatever its day's row says
     gone : retires (R .span) (R .lapse-limit) k ≡ true → Framed (turnOfCard R s c k d) (turnOfCard R wide c k d)
@@ -233,11 +260,16 @@ module _ {C : Type 0} (R : Rules C) (cards : ℕ) (fine : RunBounds (R .span) ca
     card-framed : Framed (turnOfCard R s c k d) (turnOfCard R wide c k d)
     card-framed = go (retires (R .span) (R .lapse-limit) k) refl
       where
-        go : (t : Bool) → retires (R .span) (R .lapse-limit) k ≡ t → Framed (turnOfCard R s c k d) (turnOfCard R wide c k d)
+        go : (t : Bool) → retires (R .span) (R .lapse-limit) k ≡ t
+            → Framed (turnOfCard R s c k d) (turnOfCard R wide c k d)
         go true e = gone e
-        go false e = let h = within e in rw (days-same h) (act-framed h (choiceOf (R .span) (R .lapse-limit) (R .limits) d k (learnedAt (s .days) d) (reviewedAt (s .days) d) (costAt (R .costs .none) (s .costs) d)))
+        go false e = let h = within e in rw (days-same h)
+            (act-framed h (choiceOf (R .span) (R .lapse-limit) (R .limits) d k (learnedAt (s .days) d)
+            (reviewedAt (s .days) d) (costAt (R .costs .none) (s .costs) d)))
 
-    turn-framed : Framed (turnOfCard R s c k d) (turnOfCard R wide (front (wide .queue)) (cardIn wide (front (wide .queue))) (dayOf (cardIn wide (front (wide .queue)) .due)))
+    turn-framed : Framed (turnOfCard R s c k d)
+        (turnOfCard R wide (front (wide .queue)) (cardIn wide (front (wide .queue)))
+        (dayOf (cardIn wide (front (wide .queue)) .due)))
     turn-framed = rw (same-front, same-card) card-framed
 
   pub framed : Framed (next R s) (next R wide)
@@ -245,7 +277,11 @@ module _ {C : Type 0} (R : Rules C) (cards : ℕ) (fine : RunBounds (R .span) ca
   framed = go (eqb (s .queue .len) 0) refl
     where
       go : (t : Bool) → eqb (s .queue .len) 0 ≡ t
-          → Framed (orElse t (stops stop.Ended) (turnOfCard R s (front (s .queue)) (cardIn s (front (s .queue))) (dayOf (cardIn s (front (s .queue)) .due))))
-          (orElse t (stops stop.Ended) (turnOfCard R wide (front (wide .queue)) (cardIn wide (front (wide .queue))) (dayOf (cardIn wide (front (wide .queue)) .due))))
+          → Framed (orElse t (stops stop.Ended)
+          (turnOfCard R s (front (s .queue)) (cardIn s (front (s .queue)))
+          (dayOf (cardIn s (front (s .queue)) .due))))
+          (orElse t (stops stop.Ended)
+          (turnOfCard R wide (front (wide .queue)) (cardIn wide (front (wide .queue)))
+          (dayOf (cardIn wide (front (wide .queue)) .due))))
       go true e = refl
       go false e = let ne = eqb-false (s .queue .len) 0 e in turn-framed (omega (arith, ne))

@@ -25,7 +25,8 @@ use Rattle.queue.specs.Key.{cardPriority, priorityOf}
 use Rattle.queue.specs.Queue.{front, frontChanged, popped}
 use Rattle.queue.specs.Sound.{queued}
 use Rattle.queue.proofs.Keys.{packed-day, priority-in}
-use Rattle.queue.proofs.Laws.{change-queued, pop-other, pop-front, front-queued, keyed-least, queued-named, requeue, unqueue}
+use Rattle.queue.proofs.Laws.{change-queued, pop-other, pop-front, front-queued, keyed-least, queued-named, requeue}
+use Rattle.queue.proofs.Laws.{unqueue}
 use Rattle.events.specs.Drawn.{Drawn}
 use Rattle.simulation.specs.State.{State, cardIn, keyOf}
 use Rattle.simulation.specs.Turn.{cardAfterPutOff, afterPutOff, afterRetire, turnAs}
@@ -36,12 +37,14 @@ use Rattle.simulation.proofs.turn.Due.{due-put, due-retire}
 use Rattle.turns.proofs.Logic.{or-left}
 
 -- keys in order put places in order
-key-place : (d d′ : ℕ) (n n′ : Bool) (x x′ : Float) → d < 2147483648 → d′ < 2147483648 → cardPriority d n x ≤ cardPriority d′ n′ x′ → 2 * d + bit n ≤ 2 * d′ + bit n′
+key-place : (d d′ : ℕ) (n n′ : Bool) (x x′ : Float) → d < 2147483648 → d′ < 2147483648
+    → cardPriority d n x ≤ cardPriority d′ n′ x′ → 2 * d + bit n ≤ 2 * d′ + bit n′
 unfolding cardPriority
 key-place d d′ n n′ x x′ h h′ l =
     let e : min d (2 ^ 31 - 1) ≡ d = omega arith in
     let e′ : min d′ (2 ^ 31 - 1) ≡ d′ = omega arith in
-    let p = packed-day (min d (2 ^ 31 - 1)) (min d′ (2 ^ 31 - 1)) n n′ (priorityOf x) (priorityOf x′) (priority-in x) (priority-in x′) l in
+    let p = packed-day (min d (2 ^ 31 - 1)) (min d′ (2 ^ 31 - 1)) n n′ (priorityOf x) (priorityOf x′) (priority-in x)
+    (priority-in x′) l in
     omega (arith, p, e, e′)
 
 -- ---- rows of cards after one is written
@@ -76,7 +79,8 @@ module _ (cards : List (List Float)) (c : ℕ) (k : Card) where
   pub own-key : c < length cards → keyIn (writeFloats cards c k) c ≡ keyOf k
   own-key h = rw (write-own h)
 
-module _ {C : Type 0} (R : Rules C) (cards : ℕ) (fine : RunBounds (R .span) cards) (ts : List (Turn Drawn)) (s : State C) (good : StateInvariant cards (R .span) s) (some : 0 < s .queue .len) where
+module _ {C : Type 0} (R : Rules C) (cards : ℕ) (fine : RunBounds (R .span) cards) (ts : List (Turn Drawn))
+    (s : State C) (good : StateInvariant cards (R .span) s) (some : 0 < s .queue .len) where
   abbrev c : ℕ
   c = front (s .queue)
 
@@ -98,9 +102,11 @@ module _ {C : Type 0} (R : Rules C) (cards : ℕ) (fine : RunBounds (R .span) ca
   pub has-row : c < length fs
   has-row = omega (arith, is-card, good .lengths .cards-long)
 
-  pub first-is : (x : ℕ) → view .queued s x ≡ true → 2 * dayIn fs c + bit (newIn fs c) ≤ 2 * dayIn fs x + bit (newIn fs x)
+  pub first-is : (x : ℕ) → view .queued s x ≡ true
+      → 2 * dayIn fs c + bit (newIn fs c) ≤ 2 * dayIn fs x + bit (newIn fs x)
   first-is x q =
-      key-place (dayIn fs c) (dayIn fs x) (newIn fs c) (newIn fs x) (difficultyIn fs c) (difficultyIn fs x) (good .order .near c is-card) (good .order .near x (queued-card x q))
+      key-place (dayIn fs c) (dayIn fs x) (newIn fs c) (newIn fs x) (difficultyIn fs c) (difficultyIn fs x)
+      (good .order .near c is-card) (good .order .near x (queued-card x q))
       (keyed-least cards (keyIn fs) (s .queue) (good .order .keyed) some x q)
     where
       queued-card : (x : ℕ) → queued (s .queue) x ≡ true → x < cards
@@ -108,7 +114,8 @@ module _ {C : Type 0} (R : Rules C) (cards : ℕ) (fine : RunBounds (R .span) ca
 
   pub in-span : retires (R .span) (R .lapse-limit) k ≡ false → d < R .span
   unfolding retires
-  in-span e = day-in-span (R .span) (k .due) (fine .some) (fine .most) (or-left (le (ofInt binary32 (pos (R .span))) (k .due)) (leb (R .lapse-limit) (k .lapses)) e)
+  in-span e = day-in-span (R .span) (k .due) (fine .some) (fine .most)
+      (or-left (le (ofInt binary32 (pos (R .span))) (k .due)) (leb (R .lapse-limit) (k .lapses)) e)
 
   -- ---- PUTTING OFF
   abbrev k′ : Card
@@ -141,11 +148,30 @@ module _ {C : Type 0} (R : Rules C) (cards : ℕ) (fine : RunBounds (R .span) ca
           is-card = is-card;
           is-queued = front-queued (s .queue) some;
           is-day = refl;
-          does = (put-new c, (h, rw put-own-day (day-later d (ofBits binary32 0x3F80_0000) (omega (arith, fine .most)) (one-in-range .least))));
-          others = λ x ne. record { same-day = else-day fs c k′ x ne; same-new = put-new x; same-queued = change-queued (s .queue) (keyOf k′) (good .order .keyed .sound) x };
+          does = (
+            put-new c,
+            (
+              h,
+              rw put-own-day (day-later d (ofBits binary32 0x3F80_0000) (omega (arith, fine .most))
+                  (one-in-range .least)),
+            ),
+          );
+          others = λ x ne. record {
+            same-day = else-day fs c k′ x ne;
+            same-new = put-new x;
+            same-queued = change-queued (s .queue) (keyOf k′) (good .order .keyed .sound) x;
+          };
         };
         least = first-is;
-        writes = record { learns = λ i l. omega arith; reviews = λ i l. omega arith; corrects = λ i l. omega arith; introduces = λ i l. omega arith; lapse = omega arith; other-lapses = λ x ne. refl; pays = λ i l. refl };
+        writes = record {
+          learns = λ i l. omega arith;
+          reviews = λ i l. omega arith;
+          corrects = λ i l. omega arith;
+          introduces = λ i l. omega arith;
+          lapse = omega arith;
+          other-lapses = λ x ne. refl;
+          pays = λ i l. refl;
+        };
         tests = tt;
       }
 
@@ -160,30 +186,47 @@ module _ {C : Type 0} (R : Rules C) (cards : ℕ) (fine : RunBounds (R .span) ca
       due-long = omega (arith, good .lengths .due-long, move-long (R .span) (s .due) (isNew (k .«last_date»)) d);
     };
     order = record {
-      keyed = requeue cards (keyIn fs) (s .queue) (good .order .keyed) (keyIn fs′) (keyOf k′) some (else-key fs c k′) (sym (own-key fs c k′ has-row));
+      keyed = requeue cards (keyIn fs) (s .queue) (good .order .keyed) (keyIn fs′) (keyOf k′) some (else-key fs c k′)
+          (sym (own-key fs c k′ has-row));
       near = λ x l. at x l (ℕ-discrete x c);
     };
     table = good .table;
     counts = record {
       recalls = good .counts .recalls;
-      introduced = λ i l. omega (arith, good .counts .introduced i l, sum-same cards (λ x. bit (newIn fs′ x)) (λ x. bit (newIn fs x)) (λ x u. ap bit (put-new x)));
-      events = λ i l. omega (arith, good .counts .events i l, lt-step i d (dayIn fs′ c) later, sum-at cards c (λ x. bit (ltb i (dayIn fs x))) (λ x. bit (ltb i (dayIn fs′ x))) is-card (λ x ne. ap (λ (y : ℕ). bit (ltb i y)) (else-day fs c k′ x ne)));
+      introduced = λ i l. omega (
+        arith,
+        good .counts .introduced i l,
+        sum-same cards (λ x. bit (newIn fs′ x)) (λ x. bit (newIn fs x)) (λ x u. ap bit (put-new x)),
+      );
+      events = λ i l. omega (
+        arith,
+        good .counts .events i l,
+        lt-step i d (dayIn fs′ c) later,
+        sum-at cards c (λ x. bit (ltb i (dayIn fs x))) (λ x. bit (ltb i (dayIn fs′ x))) is-card
+            (λ x ne. ap (λ (y : ℕ). bit (ltb i y)) (else-day fs c k′ x ne)),
+      );
       lapses = λ x l. few x l (ℕ-discrete x c);
     };
-    due = due-put cards (R .span) fs (s .queue) (s .due) (good .due) fs′ (frontChanged (s .queue) (keyOf k′)) c is-card (else-day fs c k′) (λ x ne. put-new x)
-        (λ x ne. change-queued (s .queue) (keyOf k′) (good .order .keyed .sound) x) (fine .few) (good .lengths .due-long)
-        (front-queued (s .queue) some) (put-new c) (omega (arith, in-span e)) (put-own-day ∙ day-next d (omega (arith, in-span e, fine .most)) ∙ omega arith);
+    due = due-put cards (R .span) fs (s .queue) (s .due) (good .due) fs′ (frontChanged (s .queue) (keyOf k′)) c is-card
+        (else-day fs c k′) (λ x ne. put-new x)
+        (λ x ne. change-queued (s .queue) (keyOf k′) (good .order .keyed .sound) x) (fine .few)
+        (good .lengths .due-long)
+        (front-queued (s .queue) some) (put-new c) (omega (arith, in-span e))
+        (put-own-day ∙ day-next d (omega (arith, in-span e, fine .most)) ∙ omega arith);
   }
     where
       later : d < dayIn fs′ c
-      later = rw put-own-day (day-later d (ofBits binary32 0x3F80_0000) (omega (arith, in-span e, fine .most)) (one-in-range .least))
+      later = rw put-own-day
+          (day-later d (ofBits binary32 0x3F80_0000) (omega (arith, in-span e, fine .most)) (one-in-range .least))
 
-      few : (x : ℕ) → x < cards → Dec (x ≡ c) → columns (R .costs .none) .lapses s x ≤ 4000000000 + min (dayIn fs′ x) (R .span)
+      few : (x : ℕ) → x < cards → Dec (x ≡ c)
+          → columns (R .costs .none) .lapses s x ≤ 4000000000 + min (dayIn fs′ x) (R .span)
       few x l (yes q) = omega (arith, good .counts .lapses x l, later, ap (dayIn fs) q, ap (dayIn fs′) q)
       few x l (no q) = omega (arith, good .counts .lapses x l, else-day fs c k′ x q)
 
       at : (x : ℕ) → x < cards → Dec (x ≡ c) → dayIn fs′ x < 2147483648
-      at x l (yes q) = let b = day-bound d (ofBits binary32 0x3F80_0000) (omega (arith, in-span e, fine .most)) one-in-range in rw (q, put-own-day) (omega arith)
+      at x l (yes q) = let b = day-bound d (ofBits binary32 0x3F80_0000)
+          (omega (arith, in-span e, fine .most)) one-in-range in rw (q, put-own-day) (omega arith)
       at x l (no q) = omega (arith, else-day fs c k′ x q, good .order .near x l)
 
   -- ---- RETIRING
@@ -195,10 +238,22 @@ module _ {C : Type 0} (R : Rules C) (cards : ℕ) (fine : RunBounds (R .span) ca
       is-queued = front-queued (s .queue) some;
       is-day = refl;
       does = (refl, pop-front (s .queue) (good .order .keyed .sound));
-      others = λ x ne. record { same-day = refl; same-new = refl; same-queued = pop-other (s .queue) (good .order .keyed .sound) x ne };
+      others = λ x ne. record {
+        same-day = refl;
+        same-new = refl;
+        same-queued = pop-other (s .queue) (good .order .keyed .sound) x ne;
+      };
     };
     least = first-is;
-    writes = record { learns = λ i l. omega arith; reviews = λ i l. omega arith; corrects = λ i l. omega arith; introduces = λ i l. omega arith; lapse = omega arith; other-lapses = λ x ne. refl; pays = λ i l. refl };
+    writes = record {
+      learns = λ i l. omega arith;
+      reviews = λ i l. omega arith;
+      corrects = λ i l. omega arith;
+      introduces = λ i l. omega arith;
+      lapse = omega arith;
+      other-lapses = λ x ne. refl;
+      pays = λ i l. refl;
+    };
     tests = tt;
   }
 
@@ -223,6 +278,7 @@ module _ {C : Type 0} (R : Rules C) (cards : ℕ) (fine : RunBounds (R .span) ca
       events = good .counts .events;
       lapses = good .counts .lapses;
     };
-    due = due-retire cards (R .span) fs (s .queue) (s .due) (good .due) fs (popped (s .queue)) c is-card (λ x ne. refl) (λ x ne. refl)
+    due = due-retire cards (R .span) fs (s .queue) (s .due) (good .due) fs (popped (s .queue)) c is-card (λ x ne. refl)
+        (λ x ne. refl)
         (pop-other (s .queue) (good .order .keyed .sound)) refl (pop-front (s .queue) (good .order .keyed .sound));
   }

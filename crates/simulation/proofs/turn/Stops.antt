@@ -36,8 +36,10 @@ use Rattle.simulation.specs.declared.Stop.{Stop}
 use Rattle.simulation.specs.declared.Stop.the-variants as stop
 use Rattle.simulation.specs.State.{State}
 use Rattle.simulation.specs.Rules.{Rules, rulesWith}
-use Rattle.simulation.specs.Turn.{refuses, turnAs, afterPutOff, eventWithSlot, eventWithDraw, eventOn, orElse, act, turnOfCard, next}
-use Rattle.simulation.specs.RunRefusals.{turnCard, turnDay, turnChoice, eventChoice, ChanceRefused, TableRefused, DueRefused, StopCondition}
+use Rattle.simulation.specs.Turn.{refuses, turnAs, afterPutOff, eventWithSlot, eventWithDraw, eventOn, orElse}
+use Rattle.simulation.specs.Turn.{act, turnOfCard, next}
+use Rattle.simulation.specs.RunRefusals.{turnCard, turnDay, turnChoice, eventChoice, ChanceRefused, TableRefused}
+use Rattle.simulation.specs.RunRefusals.{DueRefused, StopCondition}
 use Rattle.simulation.proofs.turn.Calls.{event-full}
 use Rattle.turns.proofs.Logic.{not-one}
 
@@ -46,12 +48,16 @@ happened-not y e = not-one cc
 
 -- an event of FSRS-7 is refused exactly where it is a review at a chance that is not 0 to 1
 module _ (w : DrawRule) (g : SimulatorConfig) (x : Scalars) (k : Card) (d state : ℕ) where
-  refused-chance : (new : Bool) → eventOf w g x k new d state ≡ event.ChanceOutOfRange → (new ≡ false) × (chanceOk (chanceOn x k d) ≡ false)
+  refused-chance : (new : Bool) → eventOf w g x k new d state ≡ event.ChanceOutOfRange
+      → (new ≡ false) × (chanceOk (chanceOn x k d) ≡ false)
   unfolding eventOf eventAt reviewing
   refused-chance true e = absurd (happened-not (learning w g x state) e)
   refused-chance false e = (refl, go (chanceOk (chanceOn x k d)) (recalled (chanceOn x k d) (w .word state)) e)
     where
-      go : (ok recall : Bool) → pickEvent ok (pickEvent recall (event.Happened (success w g x k (chanceOn x k d) (w .after state))) (event.Happened (lapse w g x k (chanceOn x k d) (w .after state)))) event.ChanceOutOfRange ≡ event.ChanceOutOfRange → ok ≡ false
+      go : (ok recall : Bool)
+          → pickEvent ok (pickEvent recall (event.Happened (success w g x k (chanceOn x k d) (w .after state)))
+          (event.Happened (lapse w g x k (chanceOn x k d) (w .after state)))) event.ChanceOutOfRange
+          ≡ event.ChanceOutOfRange → ok ≡ false
       go false recall z = refl
       go true true z = absurd (happened-not _ z)
       go true false z = absurd (happened-not _ z)
@@ -78,17 +84,30 @@ module _ (w : DrawRule) (g : SimulatorConfig) (x : Scalars) (s : State Float) (o
   Tells (takes t s′) = Unit {0}
   Tells (stops y) = StopCondition R s y
 
-  slot-full : (y : Float) (z : Float) → (isFull (R .model .slot (s .table) y z) ≡ true) ↔ ((heldIn (s .table) (stabilityBucket y) (retentionBucket z) ≡ none) × (countIn (s .table) ≡ places (s .table)))
+  slot-full : (y : Float) (z : Float)
+      → (isFull (R .model .slot (s .table) y z) ≡ true) ↔
+      ((heldIn (s .table) (stabilityBucket y) (retentionBucket z) ≡ none) × (countIn (s .table) ≡ places (s .table)))
   slot-full y z = slot-full-iff (s .table) (stabilityBucket y) (retentionBucket z) _ _ ok
 
   module _ (some : 0 < s .queue .len) where
-    slot-tells : (new : Bool) (y : Memory) (t : Slot) → turnChoice R s ≡ eventChoice new → R .model .event (R .draw) k new d (s .draws) ≡ event.Happened y
-        → t ≡ R .model .slot (s .table) (y .stability) (k .«desired_retention») → Tells (eventWithSlot R s c k new d y t)
+    slot-tells : (new : Bool) (y : Memory) (t : Slot) → turnChoice R s ≡ eventChoice new
+        → R .model .event (R .draw) k new d (s .draws) ≡ event.Happened y
+        → t ≡ R .model .slot (s .table) (y .stability) (k .«desired_retention»)
+        → Tells (eventWithSlot R s c k new d y t)
     slot-tells new y (slot.Keep v) e h q = tt
     slot-tells new y (slot.Enter p a b v) e h q = tt
     slot-tells new y slot.Full e h q =
         let f = slot-full (y .stability) (k .«desired_retention») .0 (ap isFull (sym q)) in
-        record { queued = some; first = refl; new = new; is-event = e; memory = y; happens = h; new-key = f .0; full = f .1 }
+        record {
+          queued = some;
+          first = refl;
+          new = new;
+          is-event = e;
+          memory = y;
+          happens = h;
+          new-key = f .0;
+          full = f .1;
+        }
 
     event-tells : (new : Bool) → turnChoice R s ≡ eventChoice new → Tells (eventOn R s c k new d)
     unfolding eventOn
@@ -98,13 +117,19 @@ module _ (w : DrawRule) (g : SimulatorConfig) (x : Scalars) (s : State Float) (o
         go (event.Happened y) q = slot-tells new y _ e q refl
         go event.ChanceOutOfRange q =
             let h = refused-chance w g x k d (s .draws) new q in
-            unfold chanceOn in (record { queued = some; first = refl; review = e ∙ ap eventChoice (h .0); chance = h .1 })
+            unfold chanceOn in (record {
+              queued = some;
+              first = refl;
+              review = e ∙ ap eventChoice (h .0);
+              chance = h .1;
+            })
 
     act-tells : (z : Choice) → turnChoice R s ≡ z → Tells (act R s c k d z)
     act-tells choice.Retire e = tt
     act-tells choice.PutOff e = go (noneDue (s .due) (isNew (k .«last_date»)) d) refl
       where
-        go : (b : Bool) → noneDue (s .due) (isNew (k .«last_date»)) d ≡ b → Tells (orElse b (refuses (refusal.DueCount c)) (takes (turnAs c d putOff) (afterPutOff R s c k d)))
+        go : (b : Bool) → noneDue (s .due) (isNew (k .«last_date»)) d ≡ b
+            → Tells (orElse b (refuses (refusal.DueCount c)) (takes (turnAs c d putOff) (afterPutOff R s c k d)))
         go true q = record { queued = some; first = refl; put-off = e; none-due = q }
         go false q = tt
     act-tells choice.Learn e = event-tells true e
@@ -132,14 +157,19 @@ module _ (w : DrawRule) (g : SimulatorConfig) (x : Scalars) (s : State Float) (o
 
   chance-meets : (c′ : ℕ) → ChanceRefused R s c′ → next R s ≡ refuses (refusal.ChanceOutOfRange c′)
   unfolding eventOn chanceOn
-  chance-meets c′ h = turn-is choice.Review (h .queued) (h .review) ∙ rw (chance-refused w g x k d (s .draws) (h .chance), h .first)
+  chance-meets c′ h = turn-is choice.Review (h .queued) (h .review)
+      ∙ rw (chance-refused w g x k d (s .draws) (h .chance), h .first)
 
   table-meets : (c′ : ℕ) → TableRefused R s c′ → next R s ≡ refuses (refusal.TableFull c′)
   unfolding eventOn
   table-meets c′ h =
       let f = slot-full (h .memory .stability) (k .«desired_retention») .1 (h .new-key, h .full) in
-      let full : eventOn R s c k (h .new) d ≡ refuses (refusal.TableFull c) = rw (h .happens) (event-full R s c k (h .new) d (h .memory) (R .model .slot (s .table) (h .memory .stability) (k .«desired_retention»)) f) in
-      turn-is (eventChoice (h .new)) (h .queued) (h .is-event) ∙ acts (h .new) ∙ full ∙ ap (λ (z : ℕ). refuses (refusal.TableFull z)) (sym (h .first))
+      let full : eventOn R s c k (h .new) d
+      ≡ refuses (refusal.TableFull c) = rw (h .happens)
+      (event-full R s c k (h .new) d (h .memory)
+      (R .model .slot (s .table) (h .memory .stability) (k .«desired_retention»)) f) in
+      turn-is (eventChoice (h .new)) (h .queued) (h .is-event) ∙ acts (h .new) ∙ full
+      ∙ ap (λ (z : ℕ). refuses (refusal.TableFull z)) (sym (h .first))
     where
       acts : (new : Bool) → act R s c k d (eventChoice new) ≡ eventOn R s c k new d
       acts true = refl

@@ -8,10 +8,12 @@ cast-at : tie.Need-cast-at
 cast-at c = search needs
 
 returns : tie.Need-returns
-returns c = change-empty (c .before .args .rows .now) (c .before .args .self .len) (c .before .args .key) (c .if1 .taken)
+returns c = change-empty (c .before .args .rows .now) (c .before .args .self .len) (c .before .args .key)
+    (c .if1 .taken)
 
 returns-2 : tie.Need-returns-2
-returns-2 c = change-short (c .before .before .args .rows .now) (c .before .before .args .self .len) (c .before .before .args .key) (c .if2 .taken)
+returns-2 c = change-short (c .before .before .args .rows .now) (c .before .before .args .self .len)
+    (c .before .before .args .key) (c .if2 .taken)
 
 index-1-card : tie.Need-index-1-card
 index-1-card c = search needs
@@ -26,7 +28,10 @@ same-length : tie.Need-same-length
 same-length c = search needs
 
 returns-3 : tie.Need-returns-3
-returns-3 c = change-is (c .before .before .before .before .before .before .args .rows .now) (c .before .before .before .before .before .before .args .self .len) (c .before .before .before .before .before .before .args .key) (omega arith) (omega arith) _ (c .before .heapify .ensures)
+returns-3 c = change-is (c .before .before .before .before .before .before .args .rows .now)
+    (c .before .before .before .before .before .before .args .self .len)
+    (c .before .before .before .before .before .before .args .key) (omega arith) (omega arith) _
+    (c .before .heapify .ensures)
 
 pub change-front-spec : {M : Type 1} → statement M
 change-front-spec =

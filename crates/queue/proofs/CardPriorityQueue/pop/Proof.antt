@@ -35,7 +35,9 @@ same-length : tie.Need-same-length
 same-length c = search needs
 
 returns-3 : tie.Need-returns-3
-returns-3 c = pop-is (c .before .before .before .before .before .before .args .rows .now) (c .before .before .before .before .before .before .args .self .len) (omega arith) (omega arith) _ (c .before .heapify .ensures)
+returns-3 c = pop-is (c .before .before .before .before .before .before .args .rows .now)
+    (c .before .before .before .before .before .before .args .self .len) (omega arith) (omega arith) _
+    (c .before .heapify .ensures)
 
 pub pop-spec : {M : Type 1} → statement M
 pop-spec =

@@ -24,7 +24,8 @@ returns c =
     let at-match = c .before in
     let at-check-parameters = at-match .before in
     let start = at-check-parameters .before .before .before .before .before .before in
-    parameters-fail (start .args .parameters .now) _ _ (at-check-parameters .check-parameters .ensures) (at-match .match .keys2)
+    parameters-fail (start .args .parameters .now) _ _ (at-check-parameters .check-parameters .ensures)
+    (at-match .match .keys2)
 
 returns-2 : tie.Need-returns-2
 unfolding checked
@@ -32,7 +33,9 @@ returns-2 c =
     let at-enum-told = c .before .before in
     let at-check-parameters = at-enum-told .before .before in
     let start = at-check-parameters .before .before .before .before .before .before in
-    let e : checkParameters (start .args .parameters .now) check.Passed ≡ check.Passed = sym (at-check-parameters .check-parameters .ensures) ∙ at-enum-told .enum-told .given .1 in rw (parameters-pass, eq-eqb _ _ (c .if1 .taken))
+    let e : checkParameters (start .args .parameters .now) check.Passed
+    ≡ check.Passed = sym (at-check-parameters .check-parameters .ensures)
+    ∙ at-enum-told .enum-told .given .1 in rw (parameters-pass, eq-eqb _ _ (c .if1 .taken))
 
 returns-3 : tie.Need-returns-3
 unfolding checked
@@ -41,8 +44,10 @@ returns-3 c =
     let at-enum-told = at-if1 .before .before in
     let at-check-parameters = at-enum-told .before .before in
     let start = at-check-parameters .before .before .before .before .before .before in
-    let e : checkParameters (start .args .parameters .now) check.Passed ≡ check.Passed = sym (at-check-parameters .check-parameters .ensures) ∙
-    at-enum-told .enum-told .given .1 in rw (parameters-pass, ne-eqb _ _ (at-if1 .if1 .left), lt-ltb _ _ (c .if2 .taken))
+    let e : checkParameters (start .args .parameters .now) check.Passed
+    ≡ check.Passed = sym (at-check-parameters .check-parameters .ensures) ∙
+    at-enum-told .enum-told .given .1 in rw
+    (parameters-pass, ne-eqb _ _ (at-if1 .if1 .left), lt-ltb _ _ (c .if2 .taken))
 
 returns-4 : tie.Need-returns-4
 unfolding checked
@@ -52,7 +57,8 @@ returns-4 c =
     let at-enum-told = at-if1 .before .before in
     let at-check-parameters = at-enum-told .before .before in
     let start = at-check-parameters .before .before .before .before .before .before in
-    let e : checkParameters (start .args .parameters .now) check.Passed ≡ check.Passed = sym (at-check-parameters .check-parameters .ensures) ∙
+    let e : checkParameters (start .args .parameters .now) check.Passed
+    ≡ check.Passed = sym (at-check-parameters .check-parameters .ensures) ∙
     at-enum-told .enum-told .given .1 in rw
     (parameters-pass, ne-eqb _ _ (at-if1 .if1 .left), le-ltb _ _ (at-if2 .if2 .left), eq-eqb _ _ (c .if3 .taken))
 
@@ -65,7 +71,8 @@ returns-5 c =
     let at-enum-told = at-if1 .before .before in
     let at-check-parameters = at-enum-told .before .before in
     let start = at-check-parameters .before .before .before .before .before .before in
-    let e : checkParameters (start .args .parameters .now) check.Passed ≡ check.Passed = sym (at-check-parameters .check-parameters .ensures) ∙
+    let e : checkParameters (start .args .parameters .now) check.Passed
+    ≡ check.Passed = sym (at-check-parameters .check-parameters .ensures) ∙
     at-enum-told .enum-told .given .1 in rw (
       parameters-pass,
       ne-eqb _ _ (at-if1 .if1 .left),
@@ -88,9 +95,17 @@ returns-6 c =
     let at-enum-told = at-if1 .before .before in
     let at-check-parameters = at-enum-told .before .before in
     let start = at-check-parameters .before .before .before .before .before .before in
-    let e : checkParameters (start .args .parameters .now) check.Passed ≡ check.Passed = sym (at-check-parameters .check-parameters .ensures) ∙
-    at-enum-told .enum-told .given .1 in rw
-    (parameters-pass, ne-eqb _ _ (at-if1 .if1 .left), le-ltb _ _ (at-if2 .if2 .left), ne-eqb _ _ (at-if3 .if3 .left), le-ltb _ _ (at-if4 .if4 .left), ← at-config-ok .config-ok .ensures, not-true (at-config-ok .config-ok .result) (c .if5 .taken))
+    let e : checkParameters (start .args .parameters .now) check.Passed
+    ≡ check.Passed = sym (at-check-parameters .check-parameters .ensures) ∙
+    at-enum-told .enum-told .given .1 in rw (
+      parameters-pass,
+      ne-eqb _ _ (at-if1 .if1 .left),
+      le-ltb _ _ (at-if2 .if2 .left),
+      ne-eqb _ _ (at-if3 .if3 .left),
+      le-ltb _ _ (at-if4 .if4 .left),
+      ← at-config-ok .config-ok .ensures,
+      not-true (at-config-ok .config-ok .result) (c .if5 .taken),
+    )
 
 is-finite-requires : tie.Need-is-finite-requires
 is-finite-requires c κs = search needs
@@ -108,9 +123,19 @@ returns-7 c =
     let at-enum-told = at-if1 .before .before in
     let at-check-parameters = at-enum-told .before .before in
     let start = at-check-parameters .before .before .before .before .before .before in
-    let e : checkParameters (start .args .parameters .now) check.Passed ≡ check.Passed = sym (at-check-parameters .check-parameters .ensures) ∙
-    at-enum-told .enum-told .given .1 in rw
-    (parameters-pass, ne-eqb _ _ (at-if1 .if1 .left), le-ltb _ _ (at-if2 .if2 .left), ne-eqb _ _ (at-if3 .if3 .left), le-ltb _ _ (at-if4 .if4 .left), ← at-config-ok .config-ok .ensures, not-false (at-config-ok .config-ok .result) (at-if5 .if5 .left), ← at-is-finite .is-finite .ensures, not-true (at-is-finite .is-finite .result) (c .if6 .taken))
+    let e : checkParameters (start .args .parameters .now) check.Passed
+    ≡ check.Passed = sym (at-check-parameters .check-parameters .ensures) ∙
+    at-enum-told .enum-told .given .1 in rw (
+      parameters-pass,
+      ne-eqb _ _ (at-if1 .if1 .left),
+      le-ltb _ _ (at-if2 .if2 .left),
+      ne-eqb _ _ (at-if3 .if3 .left),
+      le-ltb _ _ (at-if4 .if4 .left),
+      ← at-config-ok .config-ok .ensures,
+      not-false (at-config-ok .config-ok .result) (at-if5 .if5 .left),
+      ← at-is-finite .is-finite .ensures,
+      not-true (at-is-finite .is-finite .result) (c .if6 .taken),
+    )
 
 lists-ok-requires : tie.Need-lists-ok-requires
 lists-ok-requires c κs = search needs
@@ -130,9 +155,21 @@ returns-8 c =
     let at-enum-told = at-if1 .before .before in
     let at-check-parameters = at-enum-told .before .before in
     let start = at-check-parameters .before .before .before .before .before .before in
-    let e : checkParameters (start .args .parameters .now) check.Passed ≡ check.Passed = sym (at-check-parameters .check-parameters .ensures) ∙
-    at-enum-told .enum-told .given .1 in rw
-    (parameters-pass, ne-eqb _ _ (at-if1 .if1 .left), le-ltb _ _ (at-if2 .if2 .left), ne-eqb _ _ (at-if3 .if3 .left), le-ltb _ _ (at-if4 .if4 .left), ← at-config-ok .config-ok .ensures, not-false (at-config-ok .config-ok .result) (at-if5 .if5 .left), ← at-is-finite .is-finite .ensures, not-false (at-is-finite .is-finite .result) (at-if6 .if6 .left), ← at-lists-ok .lists-ok .ensures (start .args .parameters .now) (start .args .retention), not-true (at-lists-ok .lists-ok .result) (c .if7 .taken))
+    let e : checkParameters (start .args .parameters .now) check.Passed
+    ≡ check.Passed = sym (at-check-parameters .check-parameters .ensures) ∙
+    at-enum-told .enum-told .given .1 in rw (
+      parameters-pass,
+      ne-eqb _ _ (at-if1 .if1 .left),
+      le-ltb _ _ (at-if2 .if2 .left),
+      ne-eqb _ _ (at-if3 .if3 .left),
+      le-ltb _ _ (at-if4 .if4 .left),
+      ← at-config-ok .config-ok .ensures,
+      not-false (at-config-ok .config-ok .result) (at-if5 .if5 .left),
+      ← at-is-finite .is-finite .ensures,
+      not-false (at-is-finite .is-finite .result) (at-if6 .if6 .left),
+      ← at-lists-ok .lists-ok .ensures (start .args .parameters .now) (start .args .retention),
+      not-true (at-lists-ok .lists-ok .result) (c .if7 .taken),
+    )
 
 cast-if8 : tie.Need-cast-if8
 cast-if8 c = search needs
@@ -153,9 +190,22 @@ returns-9 c =
     let at-enum-told = at-if1 .before .before in
     let at-check-parameters = at-enum-told .before .before in
     let start = at-check-parameters .before .before .before .before .before .before in
-    let e : checkParameters (start .args .parameters .now) check.Passed ≡ check.Passed = sym (at-check-parameters .check-parameters .ensures) ∙
-    at-enum-told .enum-told .given .1 in rw
-    (parameters-pass, ne-eqb _ _ (at-if1 .if1 .left), le-ltb _ _ (at-if2 .if2 .left), ne-eqb _ _ (at-if3 .if3 .left), le-ltb _ _ (at-if4 .if4 .left), ← at-config-ok .config-ok .ensures, not-false (at-config-ok .config-ok .result) (at-if5 .if5 .left), ← at-is-finite .is-finite .ensures, not-false (at-is-finite .is-finite .result) (at-if6 .if6 .left), ← at-lists-ok .lists-ok .ensures (start .args .parameters .now) (start .args .retention), not-false (at-lists-ok .lists-ok .result) (at-if7 .if7 .left), lt-ltb _ _ (c .if8 .taken))
+    let e : checkParameters (start .args .parameters .now) check.Passed
+    ≡ check.Passed = sym (at-check-parameters .check-parameters .ensures) ∙
+    at-enum-told .enum-told .given .1 in rw (
+      parameters-pass,
+      ne-eqb _ _ (at-if1 .if1 .left),
+      le-ltb _ _ (at-if2 .if2 .left),
+      ne-eqb _ _ (at-if3 .if3 .left),
+      le-ltb _ _ (at-if4 .if4 .left),
+      ← at-config-ok .config-ok .ensures,
+      not-false (at-config-ok .config-ok .result) (at-if5 .if5 .left),
+      ← at-is-finite .is-finite .ensures,
+      not-false (at-is-finite .is-finite .result) (at-if6 .if6 .left),
+      ← at-lists-ok .lists-ok .ensures (start .args .parameters .now) (start .args .retention),
+      not-false (at-lists-ok .lists-ok .result) (at-if7 .if7 .left),
+      lt-ltb _ _ (c .if8 .taken),
+    )
 
 cast-check-cards : tie.Need-cast-check-cards
 cast-check-cards c = search needs
@@ -180,9 +230,22 @@ returns-10 c =
     let at-enum-told = at-if1 .before .before in
     let at-check-parameters = at-enum-told .before .before in
     let start = at-check-parameters .before .before .before .before .before .before in
-    let e : checkParameters (start .args .parameters .now) check.Passed ≡ check.Passed = sym (at-check-parameters .check-parameters .ensures) ∙
-    at-enum-told .enum-told .given .1 in rw
-    (parameters-pass, ne-eqb _ _ (at-if1 .if1 .left), le-ltb _ _ (at-if2 .if2 .left), ne-eqb _ _ (at-if3 .if3 .left), le-ltb _ _ (at-if4 .if4 .left), ← at-config-ok .config-ok .ensures, not-false (at-config-ok .config-ok .result) (at-if5 .if5 .left), ← at-is-finite .is-finite .ensures, not-false (at-is-finite .is-finite .result) (at-if6 .if6 .left), ← at-lists-ok .lists-ok .ensures (start .args .parameters .now) (start .args .retention), not-false (at-lists-ok .lists-ok .result) (at-if7 .if7 .left), le-ltb _ _ (at-if8 .if8 .left))
+    let e : checkParameters (start .args .parameters .now) check.Passed
+    ≡ check.Passed = sym (at-check-parameters .check-parameters .ensures) ∙
+    at-enum-told .enum-told .given .1 in rw (
+      parameters-pass,
+      ne-eqb _ _ (at-if1 .if1 .left),
+      le-ltb _ _ (at-if2 .if2 .left),
+      ne-eqb _ _ (at-if3 .if3 .left),
+      le-ltb _ _ (at-if4 .if4 .left),
+      ← at-config-ok .config-ok .ensures,
+      not-false (at-config-ok .config-ok .result) (at-if5 .if5 .left),
+      ← at-is-finite .is-finite .ensures,
+      not-false (at-is-finite .is-finite .result) (at-if6 .if6 .left),
+      ← at-lists-ok .lists-ok .ensures (start .args .parameters .now) (start .args .retention),
+      not-false (at-lists-ok .lists-ok .result) (at-if7 .if7 .left),
+      le-ltb _ _ (at-if8 .if8 .left),
+    )
     (c .check-cards .ensures)
 
 pub check-entry-spec : {M : Type 1} → statement M

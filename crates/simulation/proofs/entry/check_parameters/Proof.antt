@@ -14,11 +14,19 @@ first-not-finite-requires c κs = search needs
 
 returns-2 : tie.Need-returns-2
 unfolding checkParameters
-returns-2 c = rw (le-ltb _ _ (c .before .before .if1 .left), ← c .before .first-not-finite .ensures, lt-ltb _ _ (c .if2 .taken))
+returns-2 c = rw (
+  le-ltb _ _ (c .before .before .if1 .left),
+  ← c .before .first-not-finite .ensures,
+  lt-ltb _ _ (c .if2 .taken),
+)
 
 returns-3 : tie.Need-returns-3
 unfolding checkParameters
-returns-3 c = rw (le-ltb _ _ (c .before .before .if1 .left), ← c .before .first-not-finite .ensures, le-ltb _ _ (c .if2 .left))
+returns-3 c = rw (
+  le-ltb _ _ (c .before .before .if1 .left),
+  ← c .before .first-not-finite .ensures,
+  le-ltb _ _ (c .if2 .left),
+)
 
 pub check-parameters-spec : {M : Type 1} → statement M
 check-parameters-spec = tie.close (tie.spec returns first-not-finite-requires returns-2 returns-3)

@@ -16,7 +16,11 @@ abbrev μ-loop : tie.MeasureT-loop
 μ-loop w n i₀ i = n - i
 
 loop-holds : tie.Need-loop-holds Inv-loop μ-loop
-loop-holds c = (ap (λ (z : ℕ). firstWhere (notFinite (c .before .args .w .now)) z 0) (let z : c .before .args .n - 0 ≡ c .before .args .n = omega arith in z), omega arith)
+loop-holds c = (
+  ap (λ (z : ℕ). firstWhere (notFinite (c .before .args .w .now)) z 0)
+      (let z : c .before .args .n - 0 ≡ c .before .args .n = omega arith in z),
+  omega arith,
+)
 
 parameter-requires : tie.Need-parameter-requires Inv-loop μ-loop
 parameter-requires c κs = tt
@@ -30,8 +34,10 @@ returns c =
     let at-loop = at-loop-test .before in
     let start = at-loop .before .before in
     let e : notFinite (start .args .w .now) (at-loop .loop .i) ≡ true = sym
-    (ap not (c .before .is-finite .ensures ∙ ap isFinite (c .before .before .parameter .ensures))) ∙ c .if1 .taken in sym
-    (first-here (notFinite (start .args .w .now)) (start .args .n) (at-loop .loop .i) (at-loop-test .loop-test .taken) e) ∙ at-loop .loop .inv .0
+    (ap not (c .before .is-finite .ensures ∙ ap isFinite (c .before .before .parameter .ensures)))
+    ∙ c .if1 .taken in sym
+    (first-here (notFinite (start .args .w .now)) (start .args .n) (at-loop .loop .i)
+    (at-loop-test .loop-test .taken) e) ∙ at-loop .loop .inv .0
 
 add-i : tie.Need-add-i Inv-loop μ-loop
 add-i c = omega arith
@@ -46,12 +52,14 @@ loop-again c =
     let start = at-loop .before .before in
     let e : notFinite (start .args .w .now) (at-loop .loop .i) ≡ false = sym
     (ap not (c .before .is-finite .ensures ∙ ap isFinite (c .before .before .parameter .ensures))) ∙ c .if1 .left in (
-      first-on (notFinite (start .args .w .now)) (start .args .n) (at-loop .loop .i) (at-loop-test .loop-test .taken) e ∙ at-loop .loop .inv .0,
+      first-on (notFinite (start .args .w .now)) (start .args .n) (at-loop .loop .i) (at-loop-test .loop-test .taken) e
+          ∙ at-loop .loop .inv .0,
       omega arith,
     )
 
 returns-2 : tie.Need-returns-2 Inv-loop μ-loop
-returns-2 c = sym (first-end (notFinite (c .before .before .before .args .w .now)) (c .before .before .before .args .n) (c .before .loop .i) (c .loop-test .left) (c .before .loop .inv .1)) ∙ c .before .loop .inv .0
+returns-2 c = sym (first-end (notFinite (c .before .before .before .args .w .now)) (c .before .before .before .args .n)
+    (c .before .loop .i) (c .loop-test .left) (c .before .loop .inv .1)) ∙ c .before .loop .inv .0
 
 pub first-not-finite-spec : {M : Type 1} → statement M
 first-not-finite-spec =

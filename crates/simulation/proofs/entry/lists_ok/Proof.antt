@@ -35,7 +35,12 @@ returns-4 c =
     let at-if3 = c .before in
     let at-if2 = at-if3 .before in
     let at-if1 = at-if2 .before in
-    λ w retention. rw (eq-eqb _ _ (at-if1 .if1 .left), eq-eqb _ _ (at-if2 .if2 .left), eq-eqb _ _ (at-if3 .if3 .left), lt-leb _ _ (c .if4 .taken))
+    λ w retention. rw (
+      eq-eqb _ _ (at-if1 .if1 .left),
+      eq-eqb _ _ (at-if2 .if2 .left),
+      eq-eqb _ _ (at-if3 .if3 .left),
+      lt-leb _ _ (c .if4 .taken),
+    )
 
 returns-5 : tie.Need-returns-5
 unfolding listsOk
@@ -44,7 +49,13 @@ returns-5 c =
     let at-if3 = at-if4 .before in
     let at-if2 = at-if3 .before in
     let at-if1 = at-if2 .before in
-    λ w retention. rw (eq-eqb _ _ (at-if1 .if1 .left), eq-eqb _ _ (at-if2 .if2 .left), eq-eqb _ _ (at-if3 .if3 .left), le-leb _ _ (at-if4 .if4 .left), lt-leb _ _ (c .if5 .taken))
+    λ w retention. rw (
+      eq-eqb _ _ (at-if1 .if1 .left),
+      eq-eqb _ _ (at-if2 .if2 .left),
+      eq-eqb _ _ (at-if3 .if3 .left),
+      le-leb _ _ (at-if4 .if4 .left),
+      lt-leb _ _ (c .if5 .taken),
+    )
 
 returns-6 : tie.Need-returns-6
 unfolding listsOk
@@ -54,7 +65,14 @@ returns-6 c =
     let at-if3 = at-if4 .before in
     let at-if2 = at-if3 .before in
     let at-if1 = at-if2 .before in
-    λ w retention. rw (eq-eqb _ _ (at-if1 .if1 .left), eq-eqb _ _ (at-if2 .if2 .left), eq-eqb _ _ (at-if3 .if3 .left), le-leb _ _ (at-if4 .if4 .left), le-leb _ _ (at-if5 .if5 .left), lt-leb _ _ (c .if6 .taken))
+    λ w retention. rw (
+      eq-eqb _ _ (at-if1 .if1 .left),
+      eq-eqb _ _ (at-if2 .if2 .left),
+      eq-eqb _ _ (at-if3 .if3 .left),
+      le-leb _ _ (at-if4 .if4 .left),
+      le-leb _ _ (at-if5 .if5 .left),
+      lt-leb _ _ (c .if6 .taken),
+    )
 
 returns-7 : tie.Need-returns-7
 unfolding listsOk
@@ -65,7 +83,15 @@ returns-7 c =
     let at-if3 = at-if4 .before in
     let at-if2 = at-if3 .before in
     let at-if1 = at-if2 .before in
-    λ w retention. rw (eq-eqb _ _ (at-if1 .if1 .left), eq-eqb _ _ (at-if2 .if2 .left), eq-eqb _ _ (at-if3 .if3 .left), le-leb _ _ (at-if4 .if4 .left), le-leb _ _ (at-if5 .if5 .left), le-leb _ _ (at-if6 .if6 .left), lt-leb _ _ (c .if7 .taken))
+    λ w retention. rw (
+      eq-eqb _ _ (at-if1 .if1 .left),
+      eq-eqb _ _ (at-if2 .if2 .left),
+      eq-eqb _ _ (at-if3 .if3 .left),
+      le-leb _ _ (at-if4 .if4 .left),
+      le-leb _ _ (at-if5 .if5 .left),
+      le-leb _ _ (at-if6 .if6 .left),
+      lt-leb _ _ (c .if7 .taken),
+    )
 
 returns-8 : tie.Need-returns-8
 unfolding listsOk
@@ -77,7 +103,16 @@ returns-8 c =
     let at-if3 = at-if4 .before in
     let at-if2 = at-if3 .before in
     let at-if1 = at-if2 .before in
-    λ w retention. rw (eq-eqb _ _ (at-if1 .if1 .left), eq-eqb _ _ (at-if2 .if2 .left), eq-eqb _ _ (at-if3 .if3 .left), le-leb _ _ (at-if4 .if4 .left), le-leb _ _ (at-if5 .if5 .left), le-leb _ _ (at-if6 .if6 .left), le-leb _ _ (at-if7 .if7 .left), lt-leb _ _ (c .if8 .taken))
+    λ w retention. rw (
+      eq-eqb _ _ (at-if1 .if1 .left),
+      eq-eqb _ _ (at-if2 .if2 .left),
+      eq-eqb _ _ (at-if3 .if3 .left),
+      le-leb _ _ (at-if4 .if4 .left),
+      le-leb _ _ (at-if5 .if5 .left),
+      le-leb _ _ (at-if6 .if6 .left),
+      le-leb _ _ (at-if7 .if7 .left),
+      lt-leb _ _ (c .if8 .taken),
+    )
 
 due-days-requires : tie.Need-due-days-requires
 due-days-requires c κs = search needs
@@ -93,7 +128,18 @@ returns-9 c =
     let at-if3 = at-if4 .before in
     let at-if2 = at-if3 .before in
     let at-if1 = at-if2 .before in
-    λ w retention. rw (eq-eqb _ _ (at-if1 .if1 .left), eq-eqb _ _ (at-if2 .if2 .left), eq-eqb _ _ (at-if3 .if3 .left), le-leb _ _ (at-if4 .if4 .left), le-leb _ _ (at-if5 .if5 .left), le-leb _ _ (at-if6 .if6 .left), le-leb _ _ (at-if7 .if7 .left), le-leb _ _ (at-if8 .if8 .left), ← c .due-days .ensures)
+    λ w retention. rw (
+      eq-eqb _ _ (at-if1 .if1 .left),
+      eq-eqb _ _ (at-if2 .if2 .left),
+      eq-eqb _ _ (at-if3 .if3 .left),
+      le-leb _ _ (at-if4 .if4 .left),
+      le-leb _ _ (at-if5 .if5 .left),
+      le-leb _ _ (at-if6 .if6 .left),
+      le-leb _ _ (at-if7 .if7 .left),
+      le-leb _ _ (at-if8 .if8 .left),
+      ← c .due-days .ensures,
+    )
 
 pub lists-ok-spec : {M : Type 1} → statement M
-lists-ok-spec = tie.close (tie.spec cast-deck cast-span returns returns-2 returns-3 returns-4 returns-5 returns-6 returns-7 returns-8 due-days-requires returns-9)
+lists-ok-spec = tie.close
+    (tie.spec cast-deck cast-span returns returns-2 returns-3 returns-4 returns-5 returns-6 returns-7 returns-8 due-days-requires returns-9)

@@ -1,5 +1,5 @@
--- The invariant of its loop, `Going`: after k turns the lists are the state of `run k`, and what is left stops as the whole does; `SameLengths`: the lists are as long
--- as they came. The measure is the bound less the turns.
+-- The invariant of its loop, `Going`: after k turns the lists are the state of `run k`, and what is left stops as the
+-- whole does; `SameLengths`: the lists are as long as they came. The measure is the bound less the turns.
 use Prim.Native.Nat.{_-_}
 use native.Mathlib.Omega.{arith}
 use mathlib.Core.Path.{refl, _∙_}
@@ -13,15 +13,28 @@ use borrow.Author.Needs.{needs}
 
 abbrev Inv-loop : tie.InvT-loop
 Inv-loop cards₀ counts₀ rows₀ days₀ costs₀ memorized₀ due₀ keys₀ intervals₀ config m len seed bound n₀ draws₀ turns₀ cards counts rows days costs memorized due keys intervals n draws turns = Going (rulesOf config (kept m)) (state (lent cards₀ counts₀ rows₀ days₀ costs₀ memorized₀ due₀ keys₀ intervals₀) len seed) bound (state (lent cards counts rows days costs memorized due keys intervals) n draws) turns
-    × SameLengths (lent cards₀ counts₀ rows₀ days₀ costs₀ memorized₀ due₀ keys₀ intervals₀) (lent cards counts rows days costs memorized due keys intervals)
+    × SameLengths (lent cards₀ counts₀ rows₀ days₀ costs₀ memorized₀ due₀ keys₀ intervals₀)
+    (lent cards counts rows days costs memorized due keys intervals)
 
 abbrev μ-loop : tie.MeasureT-loop
 μ-loop cards₀ counts₀ rows₀ days₀ costs₀ memorized₀ due₀ keys₀ intervals₀ config m len seed bound n₀ draws₀ turns₀ cards counts rows days costs memorized due keys intervals n draws turns = bound - turns
 
 loop-holds : tie.Need-loop-holds Inv-loop μ-loop
 loop-holds c =
-    let start = c .before .before .before .before in
-    (going-start (rulesOf (start .args .config) (kept (start .args .m))) (start .args .bound) _, record { cards = refl; counts = refl; rows = refl; days = refl; costs = refl; memorized = refl; due = refl; keys = refl; intervals = refl })
+    let start = c .before .before .before .before in (
+      going-start (rulesOf (start .args .config) (kept (start .args .m))) (start .args .bound) _,
+      record {
+        cards = refl;
+        counts = refl;
+        rows = refl;
+        days = refl;
+        costs = refl;
+        memorized = refl;
+        due = refl;
+        keys = refl;
+        intervals = refl;
+      },
+    )
 
 turn-requires : tie.Need-turn-requires Inv-loop μ-loop
 turn-requires c κs = tt
@@ -97,7 +110,9 @@ returns c =
     let at-loop = at-loop-test .before in
     let start = at-loop .before .before .before .before .before in
     going-stops (rulesOf (start .args .config) (kept (start .args .m)))
-    (state (lent (start .args .cards .now) (start .args .counts .now) (start .args .rows .now) (start .args .days .now) (start .args .costs .now) (start .args .memorized .now) (start .args .due .now) (start .args .keys .now) (start .args .intervals .now)) (start .args .len) (start .args .seed))
+    (state (lent (start .args .cards .now) (start .args .counts .now) (start .args .rows .now) (start .args .days .now)
+    (start .args .costs .now) (start .args .memorized .now) (start .args .due .now) (start .args .keys .now)
+    (start .args .intervals .now)) (start .args .len) (start .args .seed))
     (start .args .bound) (at-loop .loop .inv .0) (at-turn .turn .ensures) (at-loop-test .loop-test .taken)
     (at-match .match .keys2) (c .stop-in .result) (c .stop-in .ensures)
 
@@ -118,8 +133,11 @@ loop-again c =
     let at-loop = at-loop-test .before in
     let start = at-loop .before .before .before .before .before in (
       going-on (rulesOf (start .args .config) (kept (start .args .m)))
-          (state (lent (start .args .cards .now) (start .args .counts .now) (start .args .rows .now) (start .args .days .now) (start .args .costs .now) (start .args .memorized .now) (start .args .due .now) (start .args .keys .now) (start .args .intervals .now)) (start .args .len) (start .args .seed))
-          (start .args .bound) (at-loop .loop .inv .0) (at-turn .turn .ensures) (at-loop-test .loop-test .taken) _ _ (at-o .o .given .1),
+          (state (lent (start .args .cards .now) (start .args .counts .now) (start .args .rows .now)
+          (start .args .days .now) (start .args .costs .now) (start .args .memorized .now) (start .args .due .now)
+          (start .args .keys .now) (start .args .intervals .now)) (start .args .len) (start .args .seed))
+          (start .args .bound) (at-loop .loop .inv .0) (at-turn .turn .ensures) (at-loop-test .loop-test .taken) _ _
+          (at-o .o .given .1),
       record {
         cards = at-turn .turn .kept .0 ∙ at-loop .loop .inv .1 .cards;
         counts = at-turn .turn .kept .1 .0 ∙ at-loop .loop .inv .1 .counts;
@@ -183,7 +201,9 @@ returns-2 c =
     let at-loop = c .before in
     let start = at-loop .before .before .before .before .before in
     going-spent (rulesOf (start .args .config) (kept (start .args .m)))
-    (state (lent (start .args .cards .now) (start .args .counts .now) (start .args .rows .now) (start .args .days .now) (start .args .costs .now) (start .args .memorized .now) (start .args .due .now) (start .args .keys .now) (start .args .intervals .now)) (start .args .len) (start .args .seed))
+    (state (lent (start .args .cards .now) (start .args .counts .now) (start .args .rows .now) (start .args .days .now)
+    (start .args .costs .now) (start .args .memorized .now) (start .args .due .now) (start .args .keys .now)
+    (start .args .intervals .now)) (start .args .len) (start .args .seed))
     (start .args .bound) (at-loop .loop .inv .0) (c .loop-test .left)
 
 pub run-turns-spec : {M : Type 1} → statement M

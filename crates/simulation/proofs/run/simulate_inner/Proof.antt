@@ -17,7 +17,8 @@ set-up-requires c κs =
     let a = start .args in
     let ok = accepted
     (inputs (a .config) (a .parameters .now) (a .retention) (a .seed) (a .existing .now) (a .existing-counts .now))
-    (state (lent (a .cards .now) (a .counts .now) (a .rows .now) (a .days .now) (a .costs .now) (a .memorized .now) (a .due .now) (a .keys .now) (a .intervals .now)) 0 (a .seed))
+    (state (lent (a .cards .now) (a .counts .now) (a .rows .now) (a .days .now) (a .costs .now) (a .memorized .now)
+    (a .due .now) (a .keys .now) (a .intervals .now)) 0 (a .seed))
     (start .pre) in
     (omega (arith, ok .existing-few, ok .deck-most), ok .span-most)
 
@@ -31,7 +32,8 @@ bound-of-requires c κs =
     let a = start .args in
     few-cards (rulesOf (a .config) (kept (c .new .result)))
     (inputs (a .config) (a .parameters .now) (a .retention) (a .seed) (a .existing .now) (a .existing-counts .now))
-    (state (lent (a .cards .now) (a .counts .now) (a .rows .now) (a .days .now) (a .costs .now) (a .memorized .now) (a .due .now) (a .keys .now) (a .intervals .now)) 0 (a .seed))
+    (state (lent (a .cards .now) (a .counts .now) (a .rows .now) (a .days .now) (a .costs .now) (a .memorized .now)
+    (a .due .now) (a .keys .now) (a .intervals .now)) 0 (a .seed))
     (at-set-up .set-up .ensures (a .parameters .now) (a .seed) (a .keys .now)) (start .pre)
 
 run-turns-requires : tie.Need-run-turns-requires
@@ -99,7 +101,8 @@ returns c =
     rw (c .answer-of .ensures, ← at-new .new .ensures)
     (inner-is (rulesOf (a .config) (kept (at-new .new .result)))
     (inputs (a .config) (a .parameters .now) (a .retention) (a .seed) (a .existing .now) (a .existing-counts .now))
-    (state (lent (a .cards .now) (a .counts .now) (a .rows .now) (a .days .now) (a .costs .now) (a .memorized .now) (a .due .now) (a .keys .now) (a .intervals .now)) 0 (a .seed))
+    (state (lent (a .cards .now) (a .counts .now) (a .rows .now) (a .days .now) (a .costs .now) (a .memorized .now)
+    (a .due .now) (a .keys .now) (a .intervals .now)) 0 (a .seed))
     (at-set-up .set-up .ensures (a .parameters .now) (a .seed) (a .keys .now))
     (at-bound-of .bound-of .ensures) (at-run-turns .run-turns .ensures))
 

@@ -25,7 +25,12 @@ same-length-3 : tie.Need-same-length-3
 same-length-3 c = search needs
 
 returns : tie.Need-returns
-returns c = record { cards-are = c .before .before .before .before .before .before .before .write-floats .ensures; counts-are = c .before .before .before .before .write-counts .ensures; queue-is = rw (← c .before .before .before .before .before .before .before .before .before .key-of .ensures) (c .before .push .ensures) }
+returns c = record {
+  cards-are = c .before .before .before .before .before .before .before .write-floats .ensures;
+  counts-are = c .before .before .before .before .write-counts .ensures;
+  queue-is = rw (← c .before .before .before .before .before .before .before .before .before .key-of .ensures)
+      (c .before .push .ensures);
+}
 
 pub add-card-spec : {M : Type 1} → statement M
 add-card-spec =

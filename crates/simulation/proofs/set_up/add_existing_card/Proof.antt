@@ -35,11 +35,13 @@ returns c =
     let at-if1 = at-add-card .before .before .before .before in
     let at-is-kept = at-if1 .before in
     let start = at-is-kept .before .before in
-    retained-is (start .args .card) (start .args .len) _ _ _ _ _ _ _ (at-add-card .add-card .ensures) (start .args .span) _ _ _ _ (at-is-kept .is-kept .ensures)
+    retained-is (start .args .card) (start .args .len) _ _ _ _ _ _ _ (at-add-card .add-card .ensures)
+    (start .args .span) _ _ _ _ (at-is-kept .is-kept .ensures)
     (at-if1 .if1 .taken) (at-day-of .day-of .ensures) (c .before .before .add-due .ensures)
 
 returns-2 : tie.Need-returns-2
-returns-2 c = dropped-is (c .before .before .before .args .span) _ (c .before .before .before .args .card) _ (c .before .is-kept .ensures) (c .if1 .left)
+returns-2 c = dropped-is (c .before .before .before .args .span) _ (c .before .before .before .args .card) _
+    (c .before .is-kept .ensures) (c .if1 .left)
 
 pub add-existing-card-spec : {M : Type 1} → statement M
 add-existing-card-spec =

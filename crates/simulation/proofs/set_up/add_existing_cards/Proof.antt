@@ -9,7 +9,11 @@ use Rattle.simulation.proofs.set_up.add_existing_cards.Statement.{state
 use Rattle.simulation.proofs.set_up.add_existing_cards.Tie as tie
 
 abbrev Inv-loop : tie.InvT-loop
-Inv-loop cards₀ counts₀ rows₀ due₀ existing existing-counts span n len₀ i₀ cards counts rows due len i = (deck cards counts rows due len ≡ addExistingCards span existing existing-counts i (deck cards₀ counts₀ rows₀ due₀ 0)) × (i ≤ n) × (length cards ≡ length cards₀) × (length counts ≡ length counts₀) × (length rows ≡ length rows₀) × (length due ≡ length due₀)
+Inv-loop cards₀ counts₀ rows₀ due₀ existing existing-counts span n len₀ i₀ cards counts rows due len i =
+    (deck cards counts rows due len
+    ≡ addExistingCards span existing existing-counts i (deck cards₀ counts₀ rows₀ due₀ 0)) × (i ≤ n)
+    × (length cards ≡ length cards₀) × (length counts ≡ length counts₀) × (length rows ≡ length rows₀)
+    × (length due ≡ length due₀)
 
 abbrev μ-loop : tie.MeasureT-loop
 μ-loop cards₀ counts₀ rows₀ due₀ existing existing-counts span n len₀ i₀ cards counts rows due len i = n - i
@@ -36,7 +40,8 @@ loop-again c =
     let at-card-at = at-add-existing-card .before .before .before .before .before in
     let at-loop = at-card-at .before .before in
     let start = at-loop .before .before in (
-      retain-next (start .args .span) (start .args .existing .now) (start .args .existing-counts .now) _ _ _ _ _ (at-loop .loop .inv .0) (at-card-at .card-at .ensures) (at-add-existing-card .add-existing-card .ensures),
+      retain-next (start .args .span) (start .args .existing .now) (start .args .existing-counts .now) _ _ _ _ _
+          (at-loop .loop .inv .0) (at-card-at .card-at .ensures) (at-add-existing-card .add-existing-card .ensures),
       omega arith,
       omega arith,
       omega arith,
@@ -60,7 +65,8 @@ returns : tie.Need-returns Inv-loop μ-loop
 returns c =
     let start = c .before .before .before in
     let e : c .before .loop .i ≡ start .args .n = omega arith in c .before .loop .inv .0 ∙ ap
-    (λ (z : ℕ). addExistingCards (start .args .span) (start .args .existing .now) (start .args .existing-counts .now) z (deck (start .args .cards .now) (start .args .counts .now) (start .args .rows .now) (start .args .due .now) 0))
+    (λ (z : ℕ). addExistingCards (start .args .span) (start .args .existing .now) (start .args .existing-counts .now) z
+    (deck (start .args .cards .now) (start .args .counts .now) (start .args .rows .now) (start .args .due .now) 0))
     e
 
 pub add-existing-cards-spec : {M : Type 1} → statement M

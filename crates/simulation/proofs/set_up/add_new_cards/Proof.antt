@@ -10,7 +10,9 @@ use Rattle.simulation.proofs.set_up.add_new_cards.Statement.{statement}
 use Rattle.simulation.proofs.set_up.add_new_cards.Tie as tie
 
 abbrev Inv-loop : tie.InvT-loop
-Inv-loop cards₀ counts₀ rows₀ retention limit n from len₀ i₀ cards counts rows len i = (deck cards counts rows [] len ≡ addNewCards retention limit i (deck cards₀ counts₀ rows₀ [] from)) × (i ≤ n) × (length cards ≡ length cards₀) × (length counts ≡ length counts₀) × (length rows ≡ length rows₀)
+Inv-loop cards₀ counts₀ rows₀ retention limit n from len₀ i₀ cards counts rows len i =
+    (deck cards counts rows [] len ≡ addNewCards retention limit i (deck cards₀ counts₀ rows₀ [] from)) × (i ≤ n)
+    × (length cards ≡ length cards₀) × (length counts ≡ length counts₀) × (length rows ≡ length rows₀)
 
 abbrev μ-loop : tie.MeasureT-loop
 μ-loop cards₀ counts₀ rows₀ retention limit n from len₀ i₀ cards counts rows len i = n - i
@@ -37,7 +39,8 @@ loop-again c =
     let at-new-card = at-add-card .before .before .before .before in
     let at-loop = at-new-card .before .before in
     let start = at-loop .before in (
-      create-next (start .args .retention) (start .args .limit) _ _ _ _ _ (at-loop .loop .inv .0) (at-new-card .new-card .ensures) (joined-is _ _ _ _ _ _ _ _ _ (at-add-card .add-card .ensures) []),
+      create-next (start .args .retention) (start .args .limit) _ _ _ _ _ (at-loop .loop .inv .0)
+          (at-new-card .new-card .ensures) (joined-is _ _ _ _ _ _ _ _ _ (at-add-card .add-card .ensures) []),
       omega arith,
       omega arith,
       omega arith,
@@ -56,7 +59,9 @@ same-length-3 c = omega arith
 returns : tie.Need-returns Inv-loop μ-loop
 returns c =
     let e : c .before .loop .i ≡ c .before .before .args .n = omega arith in c .before .loop .inv .0 ∙ ap
-    (λ (z : ℕ). addNewCards (c .before .before .args .retention) (c .before .before .args .limit) z (deck (c .before .before .args .cards .now) (c .before .before .args .counts .now) (c .before .before .args .rows .now) [] (c .before .before .args .from)))
+    (λ (z : ℕ). addNewCards (c .before .before .args .retention) (c .before .before .args .limit) z
+    (deck (c .before .before .args .cards .now) (c .before .before .args .counts .now)
+    (c .before .before .args .rows .now) [] (c .before .before .args .from)))
     e
 
 pub add-new-cards-spec : {M : Type 1} → statement M

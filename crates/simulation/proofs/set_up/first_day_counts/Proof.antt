@@ -10,7 +10,8 @@ use Rattle.simulation.proofs.set_up.first_day_counts.Statement.{stateme
 use Rattle.simulation.proofs.set_up.first_day_counts.Tie as tie
 
 abbrev Inv-loop : tie.InvT-loop
-Inv-loop days₀ span introduced i₀ days i = (days ≡ filled (dayRow 0 0 0 introduced) i days₀) × (i ≤ span) × (length days ≡ length days₀)
+Inv-loop days₀ span introduced i₀ days i = (days ≡ filled (dayRow 0 0 0 introduced) i days₀) × (i ≤ span)
+    × (length days ≡ length days₀)
 
 abbrev μ-loop : tie.MeasureT-loop
 μ-loop days₀ span introduced i₀ days i = span - i
@@ -29,13 +30,20 @@ loop-less : tie.Need-loop-less Inv-loop μ-loop
 loop-less c = omega arith
 
 loop-again : tie.Need-loop-again Inv-loop μ-loop
-loop-again c = (filled-next (dayRow 0 0 0 (c .before .before .before .before .before .args .introduced)) _ _ _ _ (c .before .before .before .before .loop .inv .0) (c .before .put-counts .ensures), omega arith, omega arith)
+loop-again c = (
+  filled-next (dayRow 0 0 0 (c .before .before .before .before .before .args .introduced)) _ _ _ _
+      (c .before .before .before .before .loop .inv .0) (c .before .put-counts .ensures),
+  omega arith,
+  omega arith,
+)
 
 same-length : tie.Need-same-length Inv-loop μ-loop
 same-length c = omega arith
 
 returns : tie.Need-returns Inv-loop μ-loop
-returns c = let e : c .before .loop .i ≡ c .before .before .args .span = omega arith in c .before .loop .inv .0 ∙ ap (λ (z : ℕ). filled (dayRow 0 0 0 (c .before .before .args .introduced)) z (c .before .before .args .days .now)) e
+returns c = let e : c .before .loop .i ≡ c .before .before .args .span = omega arith in c .before .loop .inv .0
+    ∙ ap (λ (z : ℕ). filled (dayRow 0 0 0 (c .before .before .args .introduced)) z
+    (c .before .before .args .days .now)) e
 
 pub first-day-counts-spec : {M : Type 1} → statement M
 first-day-counts-spec =

@@ -28,13 +28,19 @@ loop-less : tie.Need-loop-less Inv-loop μ-loop
 loop-less c = omega arith
 
 loop-again : tie.Need-loop-again Inv-loop μ-loop
-loop-again c = (filled-next 0 _ _ _ _ (c .before .before .before .before .before .loop .inv .0) (c .before .before .put-due .ensures), omega arith, omega arith)
+loop-again c = (
+  filled-next 0 _ _ _ _ (c .before .before .before .before .before .loop .inv .0)
+      (c .before .before .put-due .ensures),
+  omega arith,
+  omega arith,
+)
 
 same-length : tie.Need-same-length Inv-loop μ-loop
 same-length c = omega arith
 
 returns : tie.Need-returns Inv-loop μ-loop
-returns c = let e : c .before .loop .i ≡ c .before .before .before .args .n = omega arith in c .before .loop .inv .0 ∙ ap (λ (z : ℕ). filled 0 z (c .before .before .before .args .due .now)) e
+returns c = let e : c .before .loop .i ≡ c .before .before .before .args .n = omega arith in c .before .loop .inv .0
+    ∙ ap (λ (z : ℕ). filled 0 z (c .before .before .before .args .due .now)) e
 
 pub first-due-spec : {M : Type 1} → statement M
 first-due-spec =

@@ -31,8 +31,11 @@ loop-less c = omega arith
 loop-again : tie.Need-loop-again Inv-loop μ-loop
 loop-again c =
     let at-put-zero = c .before .before in
-    let at-loop = at-put-zero .before .before .before in
-    (filled-next (ofBits binary32 0) _ _ _ _ (at-loop .loop .inv .0) (at-put-zero .put-zero .ensures), omega arith, omega arith)
+    let at-loop = at-put-zero .before .before .before in (
+      filled-next (ofBits binary32 0) _ _ _ _ (at-loop .loop .inv .0) (at-put-zero .put-zero .ensures),
+      omega arith,
+      omega arith,
+    )
 
 same-length : tie.Need-same-length Inv-loop μ-loop
 same-length c = omega arith

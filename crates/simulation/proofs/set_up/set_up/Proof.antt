@@ -1,4 +1,5 @@
--- The calls of set-up leave, one after the other, the parts of `setUp`; nothing of it reads the parameters, the seed or the table's keys.
+-- The calls of set-up leave, one after the other, the parts of `setUp`; nothing of it reads the parameters, the seed or
+-- the table's keys.
 use mathlib.Core.Path.{refl, _∙_}
 use Rattle.simulation.proofs.set_up.State.{set-up-is}
 use borrow.Author.Needs.{needs}
@@ -79,9 +80,12 @@ returns c =
     let start = at-first-due .before .before .before .before .before .before in
     let a = start .args in
     λ w seed keys. set-up-is (a .config) w (a .retention) seed (a .existing .now) (a .existing-counts .now)
-    (a .cards .now) (a .counts .now) (a .rows .now) (a .days .now) (a .costs .now) (a .memorized .now) (a .due .now) keys (a .intervals .now) _ _ refl refl
-    (at-first-due .first-due .ensures) (at-add-existing-cards .add-existing-cards .ensures) (at-new-card-count .new-card-count .ensures) (at-add-new-cards .add-new-cards .ensures)
-    (at-introduced-before .introduced-before .ensures) (at-first-day-counts .first-day-counts .ensures) (at-first-zeros .first-zeros .ensures) (at-first-zeros2 .first-zeros2 .ensures) (at-clear .clear .ensures)
+    (a .cards .now) (a .counts .now) (a .rows .now) (a .days .now) (a .costs .now) (a .memorized .now)
+    (a .due .now) keys (a .intervals .now) _ _ refl refl
+    (at-first-due .first-due .ensures) (at-add-existing-cards .add-existing-cards .ensures)
+    (at-new-card-count .new-card-count .ensures) (at-add-new-cards .add-new-cards .ensures)
+    (at-introduced-before .introduced-before .ensures) (at-first-day-counts .first-day-counts .ensures)
+    (at-first-zeros .first-zeros .ensures) (at-first-zeros2 .first-zeros2 .ensures) (at-clear .clear .ensures)
 
 pub set-up-spec : {M : Type 1} → statement M
 set-up-spec =

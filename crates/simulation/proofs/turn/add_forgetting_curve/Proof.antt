@@ -29,7 +29,14 @@ returns-2 c =
     let at-if1 = at-to-u32 .before in
     let at-is-new = at-if1 .before in
     let start = at-is-new .before .before in
-    rw (← at-is-new .is-new .ensures, at-if1 .if1 .left, at-add-forgetting-curve-range .add-forgetting-curve-range .ensures, start .pre, at-to-u32 .to-u32 .ensures)
+    rw (
+      ← at-is-new .is-new .ensures,
+      at-if1 .if1 .left,
+      at-add-forgetting-curve-range .add-forgetting-curve-range .ensures,
+      start .pre,
+      at-to-u32 .to-u32 .ensures,
+    )
 
 pub add-forgetting-curve-spec : {M : Type 1} → statement M
-add-forgetting-curve-spec = tie.close (tie.spec is-new-requires returns to-u32-requires add-forgetting-curve-range-requires same-length returns-2)
+add-forgetting-curve-spec = tie.close
+    (tie.spec is-new-requires returns to-u32-requires add-forgetting-curve-range-requires same-length returns-2)

@@ -15,7 +15,12 @@ event-at-requires c κs = search needs
 
 returns : tie.Need-returns
 unfolding chanceOn eventOf
-returns c = rw (c .event-at .ensures, c .before .retention .ensures, c .before .before .before .from-u32 .ensures, c .before .before .before .before .pre)
+returns c = rw (
+  c .event-at .ensures,
+  c .before .retention .ensures,
+  c .before .before .before .from-u32 .ensures,
+  c .before .before .before .before .pre,
+)
 
 pub event-of-spec : {M : Type 1} → statement M
 event-of-spec = tie.close (tie.spec from-u32-requires retention-requires event-at-requires returns)

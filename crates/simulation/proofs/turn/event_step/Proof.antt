@@ -28,9 +28,12 @@ returns c =
     let at-match = c .before in
     let at-event-of = at-match .before in
     let start = at-event-of .before .before .before .before .before .before in
-    chance-is (rulesOf (start .args .config) (kept (start .args .m))) (lent (start .args .cards .now) (start .args .counts .now)
-    (start .args .rows .now) (start .args .days .now) (start .args .costs .now) (start .args .memorized .now) (start .args .due .now) (start .args .keys .now)
-    (start .args .intervals .now)) (start .args .len) (start .args .draws) (start .args .c) (start .args .card) (start .args .new) (start .args .d) _
+    chance-is (rulesOf (start .args .config) (kept (start .args .m)))
+    (lent (start .args .cards .now) (start .args .counts .now)
+    (start .args .rows .now) (start .args .days .now) (start .args .costs .now) (start .args .memorized .now)
+    (start .args .due .now) (start .args .keys .now)
+    (start .args .intervals .now)) (start .args .len) (start .args .draws) (start .args .c) (start .args .card)
+    (start .args .new) (start .args .d) _
     (at-event-of .event-of .ensures) (not-happened _ (at-match .match .keys2))
 
 scheduled-interval-requires : tie.Need-scheduled-interval-requires
@@ -53,10 +56,14 @@ returns-2 c =
     let at-drawn = at-scheduled-interval .before .before .before .before in
     let at-event-of = at-drawn .before .before in
     let start = at-event-of .before .before .before .before .before .before in
-    full-is (rulesOf (start .args .config) (kept (start .args .m))) (lent (start .args .cards .now) (start .args .counts .now)
-    (start .args .rows .now) (start .args .days .now) (start .args .costs .now) (start .args .memorized .now) (start .args .due .now) (start .args .keys .now)
-    (start .args .intervals .now)) (start .args .len) (start .args .draws) (start .args .c) (start .args .card) (start .args .new) (start .args .d) _ _
-    (at-event-of .event-of .ensures) (at-drawn .drawn .given .1) _ (at-scheduled-interval .scheduled-interval .ensures) _ (at-is-full .is-full .ensures)
+    full-is (rulesOf (start .args .config) (kept (start .args .m)))
+    (lent (start .args .cards .now) (start .args .counts .now)
+    (start .args .rows .now) (start .args .days .now) (start .args .costs .now) (start .args .memorized .now)
+    (start .args .due .now) (start .args .keys .now)
+    (start .args .intervals .now)) (start .args .len) (start .args .draws) (start .args .c) (start .args .card)
+    (start .args .new) (start .args .d) _ _
+    (at-event-of .event-of .ensures) (at-drawn .drawn .given .1) _
+    (at-scheduled-interval .scheduled-interval .ensures) _ (at-is-full .is-full .ensures)
     (c .if1 .taken)
 
 interval-in-requires : tie.Need-interval-in-requires
@@ -123,13 +130,20 @@ returns-3 c =
     let at-drawn = at-scheduled-interval .before .before .before .before in
     let at-event-of = at-drawn .before .before in
     let start = at-event-of .before .before .before .before .before .before in
-    handled-is (rulesOf (start .args .config) (kept (start .args .m))) (lent (start .args .cards .now) (start .args .counts .now)
-    (start .args .rows .now) (start .args .days .now) (start .args .costs .now) (start .args .memorized .now) (start .args .due .now) (start .args .keys .now)
-    (start .args .intervals .now)) (start .args .len) (start .args .draws) (start .args .c) (start .args .card) (start .args .new) (start .args .d) _ _
-    (at-event-of .event-of .ensures) (at-drawn .drawn .given .1) _ (at-scheduled-interval .scheduled-interval .ensures) _ (at-is-full .is-full .ensures)
-    (at-if1 .if1 .left) _ (at-interval-in .interval-in .ensures) _ (at-event-card .event-card .ensures) _ (at-day-of .day-of .ensures) _
+    handled-is (rulesOf (start .args .config) (kept (start .args .m)))
+    (lent (start .args .cards .now) (start .args .counts .now)
+    (start .args .rows .now) (start .args .days .now) (start .args .costs .now) (start .args .memorized .now)
+    (start .args .due .now) (start .args .keys .now)
+    (start .args .intervals .now)) (start .args .len) (start .args .draws) (start .args .c) (start .args .card)
+    (start .args .new) (start .args .d) _ _
+    (at-event-of .event-of .ensures) (at-drawn .drawn .given .1) _
+    (at-scheduled-interval .scheduled-interval .ensures) _ (at-is-full .is-full .ensures)
+    (at-if1 .if1 .left) _ (at-interval-in .interval-in .ensures) _ (at-event-card .event-card .ensures) _
+    (at-day-of .day-of .ensures) _
     (at-write-card .write-card .ensures) (at-write-days .write-days .ensures)
-    (event-cost splitMix (start .args .config) (kept (start .args .m)) (start .args .card) (start .args .new) (start .args .d) (start .args .draws) _ (sym (at-event-of .event-of .ensures) ∙ at-drawn .drawn .given .1)) (at-add-due .add-due .ensures) (at-enter-slot .enter-slot .ensures)
+    (event-cost splitMix (start .args .config) (kept (start .args .m)) (start .args .card) (start .args .new)
+    (start .args .d) (start .args .draws) _ (sym (at-event-of .event-of .ensures) ∙ at-drawn .drawn .given .1))
+    (at-add-due .add-due .ensures) (at-enter-slot .enter-slot .ensures)
 
 pub event-step-spec : {M : Type 1} → statement M
 event-step-spec =

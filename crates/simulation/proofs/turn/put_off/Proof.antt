@@ -40,8 +40,14 @@ returns c =
     let p = c .before .before .before .before .before .before .before .before .before .before .before in
     let n = p .before .before in
     record {
-      cards-are = rw (← p .before .put-off-card .ensures) (c .before .before .before .before .before .before .before .before .write-floats .ensures);
-      queue-is = rw (← n .is-new .ensures, ← p .day-after .ensures, ← c .before .before .before .before .before .before .before .before .before .before .card-priority .ensures) (c .before .before .before .before .before .change-front .ensures);
+      cards-are = rw (← p .before .put-off-card .ensures)
+          (c .before .before .before .before .before .before .before .before .write-floats .ensures);
+      queue-is = rw (
+        ← n .is-new .ensures,
+        ← p .day-after .ensures,
+        ← c .before .before .before .before .before .before .before .before .before .before .card-priority .ensures,
+      )
+          (c .before .before .before .before .before .change-front .ensures);
       due-are = rw (← n .is-new .ensures) (c .before .before .move-due .ensures);
     }
 

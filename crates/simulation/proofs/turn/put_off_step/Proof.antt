@@ -17,8 +17,10 @@ returns : tie.Need-returns
 returns c =
     let at-is-new = c .before .before .before in
     let start = at-is-new .before .before in
-    put-off-refused (start .args .span) (start .args .c) (start .args .card) (start .args .d) (start .args .len) (start .args .draws)
-    (start .args .cards .now) (start .args .rows .now) (start .args .due .now) _ _ (at-is-new .is-new .ensures) (c .before .none-due .ensures)
+    put-off-refused (start .args .span) (start .args .c) (start .args .card) (start .args .d) (start .args .len)
+    (start .args .draws)
+    (start .args .cards .now) (start .args .rows .now) (start .args .due .now) _ _ (at-is-new .is-new .ensures)
+    (c .before .none-due .ensures)
     (c .if1 .taken)
 
 put-off-requires : tie.Need-put-off-requires
@@ -40,8 +42,10 @@ returns-2 c =
     let at-none-due = at-if1 .before in
     let at-is-new = at-none-due .before .before in
     let start = at-is-new .before .before in
-    put-off-done (start .args .span) (start .args .c) (start .args .card) (start .args .d) (start .args .len) (start .args .draws)
-    (start .args .cards .now) (start .args .rows .now) (start .args .due .now) _ _ _ _ _ (at-is-new .is-new .ensures) (at-none-due .none-due .ensures)
+    put-off-done (start .args .span) (start .args .c) (start .args .card) (start .args .d) (start .args .len)
+    (start .args .draws)
+    (start .args .cards .now) (start .args .rows .now) (start .args .due .now) _ _ _ _ _ (at-is-new .is-new .ensures)
+    (at-none-due .none-due .ensures)
     (at-if1 .if1 .left) (at-put-off .put-off .ensures)
 
 pub put-off-step-spec : {M : Type 1} → statement M

@@ -13,8 +13,10 @@ use Rattle.simulation.proofs.turn.turn.Tie as tie
 returns : tie.Need-returns
 returns c =
     let start = c .before .before .before .before .before in
-    ended-is (rulesOf (start .args .config) (kept (start .args .m))) (lent (start .args .cards .now) (start .args .counts .now)
-    (start .args .rows .now) (start .args .days .now) (start .args .costs .now) (start .args .memorized .now) (start .args .due .now) (start .args .keys .now)
+    ended-is (rulesOf (start .args .config) (kept (start .args .m)))
+    (lent (start .args .cards .now) (start .args .counts .now)
+    (start .args .rows .now) (start .args .days .now) (start .args .costs .now) (start .args .memorized .now)
+    (start .args .due .now) (start .args .keys .now)
     (start .args .intervals .now)) (start .args .len) (start .args .draws) (c .if1 .taken)
 
 peek-index-requires : tie.Need-peek-index-requires
@@ -99,11 +101,16 @@ returns-2 c =
     let at-peek-index = at-card-at .before .before .before in
     let at-if1 = at-peek-index .before .before in
     let start = at-if1 .before .before .before .before .before in
-    retired-is (rulesOf (start .args .config) (kept (start .args .m))) (lent (start .args .cards .now) (start .args .counts .now)
-    (start .args .rows .now) (start .args .days .now) (start .args .costs .now) (start .args .memorized .now) (start .args .due .now) (start .args .keys .now)
-    (start .args .intervals .now)) (start .args .len) (start .args .draws) (at-if1 .if1 .left) _ _ _ _ _ _ _ (at-peek-index .peek-index .ensures)
-    (at-card-at .card-at .ensures) (at-day-of .day-of .ensures) (at-learned-at .learned-at .ensures) (at-reviewed-at .reviewed-at .ensures)
-    (at-cost-at .cost-at .ensures) (at-decide .decide .ensures (at-day-of .day-of .result)) _ _ _ (at-enum-told .enum-told .given .1) (at-retire-step .retire-step .ensures)
+    retired-is (rulesOf (start .args .config) (kept (start .args .m)))
+    (lent (start .args .cards .now) (start .args .counts .now)
+    (start .args .rows .now) (start .args .days .now) (start .args .costs .now) (start .args .memorized .now)
+    (start .args .due .now) (start .args .keys .now)
+    (start .args .intervals .now)) (start .args .len) (start .args .draws) (at-if1 .if1 .left) _ _ _ _ _ _ _
+    (at-peek-index .peek-index .ensures)
+    (at-card-at .card-at .ensures) (at-day-of .day-of .ensures) (at-learned-at .learned-at .ensures)
+    (at-reviewed-at .reviewed-at .ensures)
+    (at-cost-at .cost-at .ensures) (at-decide .decide .ensures (at-day-of .day-of .result)) _ _ _
+    (at-enum-told .enum-told .given .1) (at-retire-step .retire-step .ensures)
 
 same-length-7 : tie.Need-same-length-7
 same-length-7 c = search needs
@@ -136,11 +143,16 @@ returns-3 c =
     let at-peek-index = at-card-at .before .before .before in
     let at-if1 = at-peek-index .before .before in
     let start = at-if1 .before .before .before .before .before in
-    put-off-is (rulesOf (start .args .config) (kept (start .args .m))) (lent (start .args .cards .now) (start .args .counts .now)
-    (start .args .rows .now) (start .args .days .now) (start .args .costs .now) (start .args .memorized .now) (start .args .due .now) (start .args .keys .now)
-    (start .args .intervals .now)) (start .args .len) (start .args .draws) (at-if1 .if1 .left) _ _ _ _ _ _ _ (at-peek-index .peek-index .ensures)
-    (at-card-at .card-at .ensures) (at-day-of .day-of .ensures) (at-learned-at .learned-at .ensures) (at-reviewed-at .reviewed-at .ensures)
-    (at-cost-at .cost-at .ensures) (at-decide .decide .ensures (at-day-of .day-of .result)) _ _ _ _ (at-enum-told2 .enum-told2 .given .1) (at-put-off-step .put-off-step .ensures)
+    put-off-is (rulesOf (start .args .config) (kept (start .args .m)))
+    (lent (start .args .cards .now) (start .args .counts .now)
+    (start .args .rows .now) (start .args .days .now) (start .args .costs .now) (start .args .memorized .now)
+    (start .args .due .now) (start .args .keys .now)
+    (start .args .intervals .now)) (start .args .len) (start .args .draws) (at-if1 .if1 .left) _ _ _ _ _ _ _
+    (at-peek-index .peek-index .ensures)
+    (at-card-at .card-at .ensures) (at-day-of .day-of .ensures) (at-learned-at .learned-at .ensures)
+    (at-reviewed-at .reviewed-at .ensures)
+    (at-cost-at .cost-at .ensures) (at-decide .decide .ensures (at-day-of .day-of .result)) _ _ _ _
+    (at-enum-told2 .enum-told2 .given .1) (at-put-off-step .put-off-step .ensures)
 
 same-length-13 : tie.Need-same-length-13
 same-length-13 c = search needs
@@ -183,12 +195,20 @@ returns-4 c =
     let at-peek-index = at-card-at .before .before .before in
     let at-if1 = at-peek-index .before .before in
     let start = at-if1 .before .before .before .before .before in
-    event-is (rulesOf (start .args .config) (kept (start .args .m))) (lent (start .args .cards .now) (start .args .counts .now)
-    (start .args .rows .now) (start .args .days .now) (start .args .costs .now) (start .args .memorized .now) (start .args .due .now) (start .args .keys .now)
-    (start .args .intervals .now)) (start .args .len) (start .args .draws) (at-if1 .if1 .left) _ _ _ _ _ _ _ (at-peek-index .peek-index .ensures)
-    (at-card-at .card-at .ensures) (at-day-of .day-of .ensures) (at-learned-at .learned-at .ensures) (at-reviewed-at .reviewed-at .ensures)
+    event-is (rulesOf (start .args .config) (kept (start .args .m)))
+    (lent (start .args .cards .now) (start .args .counts .now)
+    (start .args .rows .now) (start .args .days .now) (start .args .costs .now) (start .args .memorized .now)
+    (start .args .due .now) (start .args .keys .now)
+    (start .args .intervals .now)) (start .args .len) (start .args .draws) (at-if1 .if1 .left) _ _ _ _ _ _ _
+    (at-peek-index .peek-index .ensures)
+    (at-card-at .card-at .ensures) (at-day-of .day-of .ensures) (at-learned-at .learned-at .ensures)
+    (at-reviewed-at .reviewed-at .ensures)
     (at-cost-at .cost-at .ensures) (at-decide .decide .ensures (at-day-of .day-of .result)) true _ _
-    (ap (act (rulesOf (start .args .config) (kept (start .args .m))) (state (lent (start .args .cards .now) (start .args .counts .now) (start .args .rows .now) (start .args .days .now) (start .args .costs .now) (start .args .memorized .now) (start .args .due .now) (start .args .keys .now) (start .args .intervals .now)) (start .args .len) (start .args .draws)) _ _ _) (at-enum-told3 .enum-told3 .given .1))
+    (ap (act (rulesOf (start .args .config) (kept (start .args .m)))
+    (state (lent (start .args .cards .now) (start .args .counts .now) (start .args .rows .now)
+    (start .args .days .now) (start .args .costs .now) (start .args .memorized .now) (start .args .due .now)
+    (start .args .keys .now) (start .args .intervals .now)) (start .args .len) (start .args .draws)) _ _ _)
+    (at-enum-told3 .enum-told3 .given .1))
     (rw (at-copy-of .copy-of .ensures) at (at-event-step .event-step .ensures))
 
 same-length-22 : tie.Need-same-length-22
@@ -232,12 +252,20 @@ returns-5 c =
     let at-peek-index = at-card-at .before .before .before in
     let at-if1 = at-peek-index .before .before in
     let start = at-if1 .before .before .before .before .before in
-    event-is (rulesOf (start .args .config) (kept (start .args .m))) (lent (start .args .cards .now) (start .args .counts .now)
-    (start .args .rows .now) (start .args .days .now) (start .args .costs .now) (start .args .memorized .now) (start .args .due .now) (start .args .keys .now)
-    (start .args .intervals .now)) (start .args .len) (start .args .draws) (at-if1 .if1 .left) _ _ _ _ _ _ _ (at-peek-index .peek-index .ensures)
-    (at-card-at .card-at .ensures) (at-day-of .day-of .ensures) (at-learned-at .learned-at .ensures) (at-reviewed-at .reviewed-at .ensures)
+    event-is (rulesOf (start .args .config) (kept (start .args .m)))
+    (lent (start .args .cards .now) (start .args .counts .now)
+    (start .args .rows .now) (start .args .days .now) (start .args .costs .now) (start .args .memorized .now)
+    (start .args .due .now) (start .args .keys .now)
+    (start .args .intervals .now)) (start .args .len) (start .args .draws) (at-if1 .if1 .left) _ _ _ _ _ _ _
+    (at-peek-index .peek-index .ensures)
+    (at-card-at .card-at .ensures) (at-day-of .day-of .ensures) (at-learned-at .learned-at .ensures)
+    (at-reviewed-at .reviewed-at .ensures)
     (at-cost-at .cost-at .ensures) (at-decide .decide .ensures (at-day-of .day-of .result)) false _ _
-    (ap (act (rulesOf (start .args .config) (kept (start .args .m))) (state (lent (start .args .cards .now) (start .args .counts .now) (start .args .rows .now) (start .args .days .now) (start .args .costs .now) (start .args .memorized .now) (start .args .due .now) (start .args .keys .now) (start .args .intervals .now)) (start .args .len) (start .args .draws)) _ _ _) (at-enum-told4 .enum-told4 .given .1))
+    (ap (act (rulesOf (start .args .config) (kept (start .args .m)))
+    (state (lent (start .args .cards .now) (start .args .counts .now) (start .args .rows .now)
+    (start .args .days .now) (start .args .costs .now) (start .args .memorized .now) (start .args .due .now)
+    (start .args .keys .now) (start .args .intervals .now)) (start .args .len) (start .args .draws)) _ _ _)
+    (at-enum-told4 .enum-told4 .given .1))
     (rw (at-copy-of2 .copy-of2 .ensures) at (at-event-step2 .event-step2 .ensures))
 
 pub turn-spec : {M : Type 1} → statement M

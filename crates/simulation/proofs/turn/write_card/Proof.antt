@@ -29,8 +29,11 @@ returns c =
     let at-write-counts = c .before .before .before .before in
     let at-write-floats = at-write-counts .before .before .before in
     let at-key-of = at-write-floats .before .before in
-    record
-    { cards-are = at-write-floats .write-floats .ensures; counts-are = at-write-counts .write-counts .ensures; queue-is = rw (← at-key-of .key-of .ensures) (c .before .change-front .ensures) }
+    record {
+      cards-are = at-write-floats .write-floats .ensures;
+      counts-are = at-write-counts .write-counts .ensures;
+      queue-is = rw (← at-key-of .key-of .ensures) (c .before .change-front .ensures);
+    }
 
 pub write-card-spec : {M : Type 1} → statement M
 write-card-spec =
