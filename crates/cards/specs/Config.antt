@@ -4,6 +4,7 @@ use mathlib.Core.Bool.{Bool, true, not, _&&_}
 use mathlib.Core.List.{List, [], _∷_}
 use lib.ListN.{getD}
 use lib.Ieee.{Float, nan, ofBits, binary32, lt, le, eq, isNan}
+use Rattle.float32.specs.Numbers.{0ᶠ, 1ᶠ}
 use Rattle.float32.specs.Float32.{isFinite}
 use Rattle.draws.specs.Draws.{sumFrom}
 use Rattle.cards.specs.declared.SimulatorConfig.{SimulatorConfig}
@@ -19,7 +20,7 @@ threeOf row = getD row 0 nan ∷ getD row 1 nan ∷ getD row 2 nan ∷ []
 
 -- finite and not negative; −0.0 is not negative
 unfoldable pub amountOk : Float → Bool
-amountOk x = isFinite x && not (lt x (ofBits binary32 0))
+amountOk x = isFinite x && not (lt x 0ᶠ)
 
 abbrev pub amountsOk : List Float → Bool
 amountsOk [] = true
@@ -28,7 +29,7 @@ amountsOk (x ∷ xs) = amountOk x && amountsOk xs
 -- a weight row: no entry is negative or not finite, and the sum is finite and not 0
 unfoldable pub weightsOk : List Float → Bool
 weightsOk row = amountsOk row &&
-    (let sum = sumFrom (ofBits binary32 0) row in isFinite sum && not (eq sum (ofBits binary32 0)))
+    (let sum = sumFrom 0ᶠ row in isFinite sum && not (eq sum 0ᶠ))
 
 -- three weight rows of four
 unfoldable pub transitionsOk : List Float → Bool
@@ -39,7 +40,7 @@ costsOk table = amountsOk (rowOf table 0) && (amountsOk (rowOf table 1) && amoun
 
 -- 1 to 36,500
 unfoldable pub intervalOk : Float → Bool
-intervalOk x = le (ofBits binary32 0x3F80_0000) x && le x (ofBits binary32 0x470E_9400)
+intervalOk x = le 1ᶠ x && le x (ofBits binary32 0x470E_9400)
 
 unfoldable pub configOk : SimulatorConfig → Bool
 configOk g =

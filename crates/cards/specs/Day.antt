@@ -4,15 +4,16 @@ use Prim.Native.Nat.{ℕ}
 use mathlib.Core.Bool.{Bool, true}
 use lib.Dec.{T}
 use lib.IntN.{pos}
-use lib.Ieee.{Float, inf, ofBits, binary32, add, ofInt, toUnsigned, le, eq}
+use lib.Ieee.{Float, inf, binary32, add, ofInt, toUnsigned, le, eq}
+use Rattle.float32.specs.Numbers.{0ᶠ, 1ᶠ}
 use Rattle.float32.specs.Float32.{max}
 
 unfoldable pub dayOf : Float → ℕ
-dayOf due = toUnsigned 32 (max due (ofBits binary32 0))
+dayOf due = toUnsigned 32 (max due 0ᶠ)
 
 -- when a card that is put off on day d falls due: the next day
 abbrev pub nextDue : ℕ → Float
-nextDue d = add binary32 (ofInt binary32 (pos d)) (ofBits binary32 0x3F80_0000)
+nextDue d = add binary32 (ofInt binary32 (pos d)) 1ᶠ
 
 -- a card is new while its last date is minus infinity
 unfoldable pub isNew : Float → Bool

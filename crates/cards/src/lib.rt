@@ -3,7 +3,8 @@ ghost use Prim.Native.Nat.{ℕ};
 ghost use mathlib.Core.Path.{_≡_};
 ghost use mathlib.Core.Bool.{not, _&&_};
 ghost use lib.ListN.{getD};
-ghost use lib.Ieee.{ofBits, binary32, eq};
+ghost use lib.Ieee.{eq};
+ghost use Rattle.float32.specs.Numbers.{0ᶠ};
 ghost use Rattle.float32.specs.Float32.{isFinite};
 ghost use Rattle.cards.specs.Day.{dayOf, nextDue, isNew};
 ghost use Rattle.cards.specs.Cards.{noFloats, noCounts, cardAt, writeFloats, writeCounts, isKept, dateOk, historyOk, cardOk};
@@ -254,7 +255,7 @@ fn amount_ok(x: f32) -> bool
 
 // Whether `sum`, of finite weights, is finite and not 0.
 fn sum_ok(sum: f32) -> bool
-    ensures { λ r. ⌜ r ≡ isFinite sum && not (eq sum (ofBits binary32 0)) ⌝ }
+    ensures { λ r. ⌜ r ≡ isFinite sum && not (eq sum 0ᶠ) ⌝ }
 {
     if float32::is_finite(sum) {
         !(sum == 0.0)

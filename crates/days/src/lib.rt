@@ -4,7 +4,8 @@ ghost use mathlib.Core.Path.{_≡_};
 ghost use mathlib.Core.Bool.{cond};
 ghost use Prim.Native.Nat.{_+_, _-_, _/_};
 ghost use lib.ListN.{getD, set};
-ghost use lib.Ieee.{ofBits, binary32, add};
+ghost use lib.Ieee.{binary32, add};
+ghost use Rattle.float32.specs.Numbers.{0ᶠ};
 ghost use Rattle.days.specs.Counts.{saturatingSuc, learnedAt, reviewedAt, addLearn, addReview, addIntroduced, addIntroducedFrom, addEvent};
 ghost use Rattle.model.specs.Model.{retention};
 ghost use Rattle.days.specs.Sums.{costAt, addCost, addMemorized, addForgettingCurveRange};
@@ -99,14 +100,14 @@ pub fn add_event(rows: &mut [[u32; 4]], span: u32, new: bool, d: u32, recalled: 
 }
 
 pub fn cost_at(costs: &[f32], d: u32) -> f32
-    ensures { λ r. ⌜ r ≡ costAt (ofBits binary32 0) (now (costs .entry)) d ⌝ }
+    ensures { λ r. ⌜ r ≡ costAt 0ᶠ (now (costs .entry)) d ⌝ }
 {
     let i = d as usize;
     if i < costs.len() { costs[i] } else { 0.0 }
 }
 
 pub fn add_cost(costs: &mut [f32], d: u32, cost: f32)
-    ensures { λ _. ⌜ now (costs .exit) ≡ addCost (ofBits binary32 0) (λ x y. add binary32 x y) (now (costs .entry)) d cost ⌝ }
+    ensures { λ _. ⌜ now (costs .exit) ≡ addCost 0ᶠ (λ x y. add binary32 x y) (now (costs .entry)) d cost ⌝ }
 {
     let i = d as usize;
     if i < costs.len() {

@@ -10,7 +10,8 @@ use mathlib.Core.List.{List, [], _∷_}
 use lib.Dec.{eqb}
 use lib.ListN.{length, set}
 use lib.IntN.{pos}
-use lib.Ieee.{Float, inf, ofBits, binary32, ofInt}
+use lib.Ieee.{Float, inf, binary32, ofInt}
+use Rattle.float32.specs.Numbers.{0ᶠ}
 use Rattle.turns.specs.Sums.{bit}
 use Rattle.cards.specs.declared.SimulatorConfig.{SimulatorConfig}
 use Rattle.cards.specs.declared.Card.{Card}
@@ -131,7 +132,7 @@ setUp none i s =
       queue = deck .queue;
       days = filled (firstDayCounts i) (i .config .«learn_span») (s .days);
       costs = filled none (i .config .«learn_span») (s .costs);
-      memorized = filled (ofBits binary32 0) (i .config .«learn_span») (s .memorized);
+      memorized = filled 0ᶠ (i .config .«learn_span») (s .memorized);
       due = deck .due;
       table = clearIn (s .table);
       draws = i .seed;

@@ -8,7 +8,7 @@ use cards::SimulatorConfig;
 use model::Fsrs7Runtime;
 ghost use mathlib.Core.Path.{_≡_};
 ghost use Prim.Native.Nat.{suc, _*_, _≤_};
-ghost use lib.Ieee.{ofBits, binary32};
+ghost use Rattle.float32.specs.Numbers.{0ᶠ};
 ghost use Rattle.model.specs.Runtime as Runtime;
 ghost use Rattle.events.specs.Scalars.{kept};
 ghost use Rattle.simulation.specs.State.{lent, state, mostCards, mostDays};
@@ -133,7 +133,7 @@ pub(crate) fn simulate_inner(
         (state (lent (now cards) (now counts) (now rows) (now days) (now costs) (now memorized) (now due) (now keys) (now intervals)) 0 seed) ≡ check.Passed ⌝ }
     ensures { λ r. ⌜ InnerContract
         (rulesOf config (kept (Runtime.runtimeOf (now (parameters .entry)))))
-        (setUp (ofBits binary32 0)
+        (setUp 0ᶠ
         (inputs config (now (parameters .entry)) retention seed (now (existing .entry)) (now («existing_counts» .entry)))
         (state (lent (now (cards .entry)) (now (counts .entry)) (now (rows .entry)) (now (days .entry)) (now (costs .entry)) (now (memorized .entry)) (now (due .entry)) (now (keys .entry)) (now (intervals .entry))) 0 seed))
         r

@@ -7,7 +7,8 @@ ghost use mathlib.Core.Bool.{not, _&&_};
 ghost use mathlib.Core.List.{List, []};
 ghost use Prim.Native.Nat.{ℕ, _+_, _/_, _≤_, _<_};
 ghost use lib.ListN.{length, set};
-ghost use lib.Ieee.{Float, ofBits, binary32};
+ghost use lib.Ieee.{Float};
+ghost use Rattle.float32.specs.Numbers.{0ᶠ};
 ghost use Rattle.turns.specs.Sums.{bit};
 ghost use Rattle.days.specs.Counts.{dayRow};
 ghost use Rattle.cards.specs.Day as Day;
@@ -56,7 +57,7 @@ fn first_day_counts(days: &mut [[u32; 4]], span: u32, introduced: u32)
 }
 
 fn put_zero(list: &mut [f32], i: u32)
-    ensures { λ _. ⌜ now (list .exit) ≡ set (now (list .entry)) i (ofBits binary32 0) ⌝ }
+    ensures { λ _. ⌜ now (list .exit) ≡ set (now (list .entry)) i 0ᶠ ⌝ }
 {
     let at = i as usize;
     if at < list.len() {
@@ -66,7 +67,7 @@ fn put_zero(list: &mut [f32], i: u32)
 
 // Costs and what is memorized begin at 0.
 fn first_zeros(list: &mut [f32], span: u32)
-    ensures { λ _. ⌜ now (list .exit) ≡ filled (ofBits binary32 0) span (now (list .entry)) ⌝ }
+    ensures { λ _. ⌜ now (list .exit) ≡ filled 0ᶠ span (now (list .entry)) ⌝ }
 {
     let mut i: u32 = 0;
     while i < span {
@@ -242,7 +243,7 @@ pub(crate) fn set_up(
     requires { ⌜ (length (now existing) ≤ mostCards) × (config .«learn_span» ≤ mostDays) ⌝ }
     ensures { λ r. ⌜ ((w : List Float) (seed : ℕ) (keys : List (List ℕ)) →
         state (lent (now (cards .exit)) (now (counts .exit)) (now (rows .exit)) (now (days .exit)) (now (costs .exit)) (now (memorized .exit)) (now (due .exit)) keys (now (intervals .exit))) r seed
-        ≡ setUp (ofBits binary32 0) (inputs config w retention seed (now (existing .entry)) (now («existing_counts» .entry)))
+        ≡ setUp 0ᶠ (inputs config w retention seed (now (existing .entry)) (now («existing_counts» .entry)))
         (state (lent (now (cards .entry)) (now (counts .entry)) (now (rows .entry)) (now (days .entry)) (now (costs .entry)) (now (memorized .entry)) (now (due .entry)) keys (now (intervals .entry))) 0 seed)) ⌝ }
 {
     let span = config.learn_span;
