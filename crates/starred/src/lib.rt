@@ -1,1 +1,1 @@
-// Document 01's starred points as one table with one theorem: no code, only specs/ and proofs/.
+// The scope's starred points as one table with one theorem: no code, only specs/ and proofs/.
