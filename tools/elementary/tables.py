@@ -131,6 +131,8 @@ TABLES = [
     (None, "power_tables/src/log2 entry", intervals),
     (None, "power_tables/src/exp2 power", words),
     (None, "power_tables/src/large power", words),
+    (None, "power_tables/src/blocks entry", intervals),
+    (None, "power_tables/src/blocks power", words),
 ]
 
 

@@ -1,4 +1,5 @@
 pub mod Common
 pub mod Cubics
+pub mod Filled
 pub mod Points
 pub mod Number

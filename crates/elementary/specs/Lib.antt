@@ -1,6 +1,7 @@
 pub mod Exp
 pub mod Ln
 pub mod Power
+pub mod Filled
 pub mod Quick
 pub mod Pow
 pub mod Accuracy

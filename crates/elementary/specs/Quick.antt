@@ -1,8 +1,10 @@
 -- What the code's arms ask and promise.
 use mathlib.Core.Path.{_≡_}
-use mathlib.Core.Bool.{Bool, true, false, cond}
-use Prim.Native.Nat.{ℕ, _+_, _*_, _%_, _^_, _≤_, _<_}
-use Rattle.elementary.specs.Power.{argOf}
+use mathlib.Core.Bool.{Bool, true, false, not, cond}
+use Prim.Native.Nat.{ℕ, _+_, _-_, _*_, _/_, _%_, _^_, _≤_, _<_}
+use lib.Dec.{T}
+use lib.Ieee.{Float, binary32, isNan, toBits, fits}
+use Rattle.elementary.specs.Power.{log2Of, argOf}
 
 -- x finite and above 0, |y| up to 128, by their bit patterns
 pub record Near (b c : ℕ) : Type 0 where
@@ -33,3 +35,21 @@ pub record Special (b c : ℕ) : Type 0 where
   pub x-number : b % 2 ^ 31 ≤ 0x7F800000
   pub y-number : c % 2 ^ 31 ≤ 0x7F800000
   pub infinite : 0 < b → b < 0x7F800000 → (b ≡ 0x3F800000 → ⊥) → (c % 2 ^ 31 ≡ 0 → ⊥) → 0x7F800000 ≤ c % 2 ^ 31
+
+-- ---- a block of powers
+-- an f32 from 1 to 2^32
+pub record IsBase (x : Float) : Type 0 where
+  pub single : T (fits binary32 x)
+  pub number : T (not (isNan x))
+  pub low : 0x3F800000 ≤ toBits binary32 x
+  pub high : toBits binary32 x < 0x4F800000
+
+-- y from -2 to -2^-31, by its bit pattern
+pub record IsDecay (c : ℕ) : Type 0 where
+  pub low : 0xB0000000 ≤ c
+  pub high : c < 0xC0000000
+
+-- y log2 x + 126 in units of 2^-39, for such x and y
+unfoldable pub quickArg : ℕ → ℕ → ℕ
+unfolding log2Of
+quickArg b c = 126 * 2 ^ 39 - (c % 2 ^ 23 + 2 ^ 23) * log2Of (b - 0x3F800000) / 2 ^ (399 - c / 2 ^ 23)

@@ -1,6 +1,7 @@
 // exp, ln and powf of f32 by whole numbers, so that they give the same bits on every machine. Each promises that it is its
 // definition (specs/Exp, Ln, Pow) and how near that is to the exact value (specs/Accuracy).
 
+mod blocks;
 mod exp;
 mod exp2;
 mod large;
@@ -10,6 +11,7 @@ mod power;
 mod powers;
 mod powf;
 
+pub use blocks::powers_of;
 pub use exp::exp_f32;
 pub use ln::ln_f32;
 pub use powf::powf_f32;

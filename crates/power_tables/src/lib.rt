@@ -4,6 +4,7 @@ ghost use mathlib.Core.Path.{_≡_};
 ghost use Prim.Native.Nat.{_%_};
 ghost use Rattle.power_tables.specs.Tables.{lineWord, curvature, height, powerWord};
 
+mod blocks;
 mod exp2;
 mod large;
 mod log2;
@@ -32,4 +33,16 @@ pub fn large_power_at(i: u64) -> u64
     ensures { λ r. ⌜ r ≡ powerWord (i % 128) ⌝ }
 {
     large::power(i % 128)
+}
+
+pub fn block_interval_at(i: u64) -> Interval
+    ensures { λ r. ⌜ (r .0 ≡ lineWord (i % 512)) × (r .1 ≡ curvature (i % 512)) ⌝ }
+{
+    blocks::entry(i % 512)
+}
+
+pub fn block_power_at(i: u64) -> u64
+    ensures { λ r. ⌜ r ≡ powerWord (i % 128) ⌝ }
+{
+    blocks::power(i % 128)
 }

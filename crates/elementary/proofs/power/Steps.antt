@@ -110,6 +110,9 @@ quick-log b h =
     let e : b - 0x3F800000 + 159 * 2 ^ 23 ≡ b + 2 ^ 28 = omega arith in
     sym (log-shift (b - 0x3F800000)) ∙ ap log2Of (e ∙ sym (normalized-normal b (omega arith)))
 
+pub log-most : (p : ℕ) → p < 2 ^ 28 → log2Of p ≤ 2 ^ 37
+log-most p h = omega (arith, is p, w-le p)
+
 pub pattern-asked : (b c : ℕ) (q : Bool) → (q ≡ true → Quick b c) → cond q 0x3F800000 0 ≤ b
 pattern-asked b c true f = f refl .x-low
 pattern-asked b c false f = omega arith
@@ -122,15 +125,12 @@ arg-asked b c p l true B h k f ep el =
       small = k;
       usual =
           λ _. (
-            le-trans (le-of-eq (el ∙ ap log2Of ep)) (most (b - 0x3F800000) (omega (arith, Q .x-high))),
+            le-trans (le-of-eq (el ∙ ap log2Of ep)) (log-most (b - 0x3F800000) (omega (arith, Q .x-high))),
             Q .y-low,
             Q .y-high,
           );
       other = λ e. absurd (true≢false e);
     }
-  where
-    most : (p : ℕ) → p < 2 ^ 28 → log2Of p ≤ 2 ^ 37
-    most p h = omega (arith, is p, w-le p)
 arg-asked b c p l false B h k f ep el =
     let P = parts b B h in
     record {
