@@ -128,7 +128,8 @@ fn one_by_one(x: &mut [f32; 64], y: f32, n: usize)
     }
 }
 
-fn up_to_64(n: usize) -> usize
+// As many of n as a block holds.
+pub fn up_to_64(n: usize) -> usize
     ensures { λ r. ⌜ (r ≡ min n 64) × (r ≤ 64) ⌝ }
 {
     if n < 64 { n } else { 64 }

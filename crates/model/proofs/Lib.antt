@@ -1,4 +1,5 @@
 -- The laws of the model, and what its proofs share.
+pub mod Retentions
 pub mod Laws
 pub mod Runtime
 pub mod Steps

@@ -98,13 +98,13 @@ fn curve_at(p: CurveParameters, s: f32, d: f32, fast: f32) -> Curve
 }
 
 // What stands under a power.
-fn base(factor: f32, t: f32, s: f32) -> f32
+pub(crate) fn base(factor: f32, t: f32, s: f32) -> f32
     ensures { λ r. ⌜ r ≡ Model.base factor t s ⌝ }
 {
     1.0 + factor * (t / s)
 }
 
-fn squeezed(r: f32) -> f32
+pub(crate) fn squeezed(r: f32) -> f32
     ensures { λ x. ⌜ x ≡ Model.squeezed r ⌝ }
 {
     mul_add(r, 0.99998, 0.00001)
