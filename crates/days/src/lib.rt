@@ -1,5 +1,7 @@
 // The rows of a run's days: counts, sums, and how many cards are due.
-use model::Curve;
+mod memorized;
+
+pub use memorized::add_forgetting_curve_range;
 ghost use mathlib.Core.Path.{_≡_};
 ghost use mathlib.Core.Bool.{cond};
 ghost use Prim.Native.Nat.{_+_, _-_, _/_};
@@ -7,8 +9,7 @@ ghost use lib.ListN.{getD, set};
 ghost use lib.Ieee.{binary32, add};
 ghost use Rattle.float32.specs.Numbers.{0ᶠ};
 ghost use Rattle.days.specs.Counts.{saturatingSuc, learnedAt, reviewedAt, addLearn, addReview, addIntroduced, addIntroducedFrom, addEvent};
-ghost use Rattle.model.specs.Model.{retention};
-ghost use Rattle.days.specs.Sums.{costAt, addCost, addMemorized, addForgettingCurveRange};
+ghost use Rattle.days.specs.Sums.{costAt, addCost};
 ghost use Rattle.days.specs.Due.{addOneAt, addDue, moveDue, noneDue};
 
 pub fn saturating_suc(n: u32) -> u32
@@ -112,33 +113,6 @@ pub fn add_cost(costs: &mut [f32], d: u32, cost: f32)
     let i = d as usize;
     if i < costs.len() {
         costs[i] = costs[i] + cost;
-    }
-}
-
-fn add_memorized(memorized: &mut [f32], d: u32, chance: f32)
-    ensures { λ _. ⌜ now (memorized .exit) ≡ addMemorized (now (memorized .entry)) d chance ⌝ }
-{
-    let i = d as usize;
-    if i < memorized.len() {
-        memorized[i] = memorized[i] + chance;
-    }
-}
-
-// A card's chance on each day from `from` up to `to`, that day left out.
-pub fn add_forgetting_curve_range(
-    memorized: &mut [f32],
-    curve: Curve,
-    from: u32,
-    to: u32,
-    last: f32,
-)
-    ensures { λ _. ⌜ now (memorized .exit) ≡ addForgettingCurveRange (λ t. retention curve t) (now (memorized .entry)) (to - from) from last ⌝ }
-{
-    let mut d = from;
-    while d < to {
-        let t = float32::from_u32(d) - last;
-        add_memorized(memorized, d, curve.retention(t));
-        d += 1;
     }
 }
 

@@ -1,7 +1,7 @@
 // The retentions of a block of up to 64 times. Each step of `Curve::retention` is a loop over the whole block.
+use crate::forgetting_curve::Curve;
 use crate::forgetting_curve::base;
 use crate::forgetting_curve::squeezed;
-use crate::forgetting_curve::Curve;
 use elementary::powers_of;
 use elementary::up_to_64;
 use float32::max;

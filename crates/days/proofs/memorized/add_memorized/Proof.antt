@@ -2,8 +2,8 @@ use mathlib.Core.Path.{refl, sym}
 use lib.Seq.{set-out}
 use Rattle.days.specs.Sums.{addMemorized}
 use borrow.Author.Needs.{needs}
-use Rattle.days.proofs.add_memorized.Statement.{statement}
-use Rattle.days.proofs.add_memorized.Tie as tie
+use Rattle.days.proofs.memorized.add_memorized.Statement.{statement}
+use Rattle.days.proofs.memorized.add_memorized.Tie as tie
 
 mul-memorized : tie.Need-mul-memorized
 mul-memorized c = search needs

@@ -7,8 +7,8 @@ use mathlib.Core.Path.{_≡_, refl}
 use Rattle.model.specs.Model.{retention}
 use Rattle.days.specs.Sums.{addForgettingCurveRange}
 use Rattle.days.proofs.Spans.{range-turn, range-end}
-use Rattle.days.proofs.add_forgetting_curve_range.Statement.{statement}
-use Rattle.days.proofs.add_forgetting_curve_range.Tie as tie
+use Rattle.days.proofs.memorized.add_days.Statement.{statement}
+use Rattle.days.proofs.memorized.add_days.Tie as tie
 
 abbrev Inv-loop : tie.InvT-loop
 Inv-loop list₀ curve from to last d₀ list d =
@@ -58,8 +58,8 @@ returns : tie.Need-returns Inv-loop μ-loop
 returns c = range-end (λ t. retention (c .before .before .before .args .curve) t)
     (c .before .before .before .args .last) _ _ _ _ _ (c .before .loop .inv .0) (omega arith)
 
-pub add-forgetting-curve-range-spec : {M : Type 1} → statement M
-add-forgetting-curve-range-spec =
+pub add-days-spec : {M : Type 1} → statement M
+add-days-spec =
     tie.close
     (tie.spec
     Inv-loop
