@@ -55,32 +55,6 @@ fn bubble_up(rows: &mut [[u64; 2]], from: usize, row: [u64; 2])
     rows[pos] = row;
 }
 
-// Of the places left and left + 1 the one with the lesser key.
-fn lesser_child(rows: &[[u64; 2]], left: usize) -> usize
-    requires { ⌜ left + 1 < length (now rows) ⌝ }
-    ensures { λ r. ⌜ (r ≡ lesser (now (rows .entry)) left (left + 1)) × (left ≤ r) × (r ≤ left + 1) ⌝ }
-{
-    let right = left + 1;
-    if rows[right][0] < rows[left][0] {
-        right
-    } else {
-        left
-    }
-}
-
-// That child's key, from the two that were compared.
-fn lesser_key(rows: &[[u64; 2]], left: usize) -> u64
-    requires { ⌜ left + 1 < length (now rows) ⌝ }
-    ensures { λ r. ⌜ r ≡ keyAt (now (rows .entry)) (lesser (now (rows .entry)) left (left + 1)) ⌝ }
-{
-    let other = left + 1;
-    if rows[other][0] < rows[left][0] {
-        rows[other][0]
-    } else {
-        rows[left][0]
-    }
-}
-
 // The end of the sinking, where the row put at pos has at most one child.
 fn only_child(rows: &mut [[u64; 2]], n: usize, pos: usize, left: usize, row: [u64; 2])
     requires { ⌜ (left ≡ 2 * pos + 1) × (n ≤ left + 1) × (pos < length (now rows)) × (n ≤ length (now rows)) ⌝ }
@@ -98,22 +72,35 @@ fn only_child(rows: &mut [[u64; 2]], n: usize, pos: usize, left: usize, row: [u6
 }
 
 // The row put at the root of the first n sinks to its place: the lesser rows below it move up. While both children are
-// there, one test a level does for the two.
+// there, one comparison a level tells which of them has the lesser key, and one whether the row rests.
 fn heapify(rows: &mut [[u64; 2]], n: usize, row: [u64; 2])
     requires { ⌜ (0 < length (now rows)) × (n ≤ length (now rows)) ⌝ }
     ensures { λ _. ⌜ now (rows .exit) ≡ heapify (set (now (rows .entry)) 0 row) n ⌝ }
 {
     let mut pos = 0;
     let mut left = 1;
+    let key = row[0];
     while left + 1 < n {
-        let next = lesser_child(rows, left);
-        if row[0] <= lesser_key(rows, left) {
-            rows[pos] = row;
-            return;
+        let right = left + 1;
+        let a = rows[left][0];
+        let b = rows[right][0];
+        if b < a {
+            if key <= b {
+                rows[pos] = row;
+                return;
+            }
+            rows[pos] = rows[right];
+            pos = right;
+            left = 2 * right + 1;
+        } else {
+            if key <= a {
+                rows[pos] = row;
+                return;
+            }
+            rows[pos] = rows[left];
+            pos = left;
+            left = 2 * left + 1;
         }
-        rows[pos] = rows[next];
-        pos = next;
-        left = 2 * next + 1;
     }
     only_child(rows, n, pos, left, row);
 }
