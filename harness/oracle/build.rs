@@ -1,5 +1,6 @@
 //! Writes the Rust of the reference, patched, below OUT_DIR, once as `ours` (its exp, ln, powf and draws are the C
-//! functions of the port, and it keeps a trace) and once as `published` (the platform's exp, ln and powf, no trace).
+//! functions of the port, and it keeps a trace), once as `published` (the platform's exp, ln and powf, no trace), and once as
+//! `hoisted`: as published, but what stays the same along a forgetting curve is computed once.
 //! STREET_DRILL_ARCHIVE names the folder of the port's archive, STREET_DRILL_RUST the one of the reference.
 //! Each text that a patch looks for must be there as often as the patch says; else the build stops.
 use std::path::{Path, PathBuf};
@@ -105,8 +106,33 @@ fn model_v7(folder: &Path, variant: &str, probe: &Path) -> Source {
         route(&mut s, 14, 8, 18);
         s.text = format!("use crate::Elementary;\n{}", s.text);
     }
+    if variant == "hoisted" {
+        hoisted_model(&mut s, probe);
+    }
     s.text += &format!("\npub mod probe {{ include!({:?}); }}\n", probe.join("probe_model.rs"));
     s
+}
+
+/// A curve is built once a run of days, once a card's step and once a Newton solve; what the parameters decide, once a run.
+fn hoisted_model(s: &mut Source, probe: &Path) {
+    s.replace("    w: Vec<f32>,\n}", "    w: Vec<f32>,\n    constants: hoisted::Constants,\n}", 1)
+        .replace("Self { w: w.to_vec() }", "Self { w: w.to_vec(), constants: hoisted::Constants::of(w) }", 1)
+        .replace("        fsrs7_forgetting_curve_scalar(&self.w, t, stability)", "        self.curve(stability).retention(t)", 1)
+        .replace("_for_state(\n            &self.w,", "_for_state(\n            &self.constants,\n            &self.w,", 1)
+        .replace(
+            "    fsrs7_next_interval_scalar_for_state(\n        w,",
+            "    fsrs7_next_interval_scalar_for_state(\n        &hoisted::Constants::of(w),\n        w,",
+            1,
+        )
+        .replace(
+            "fn fsrs7_next_interval_scalar_for_state(\n",
+            "fn fsrs7_next_interval_scalar_for_state(\n    constants: &hoisted::Constants,\n",
+            1,
+        )
+        .before("    let min_log_t = MIN_T.ln();", "    let curve = hoisted::Curve::new(constants, state);")
+        .replace("fsrs7_forgetting_curve_and_derivative_scalar(w, t, state);", "curve.retention_and_derivative(t);", 1)
+        .replace("= fsrs7_forgetting_curve_scalar_for_state(w, interval, state);\n    if", "= curve.retention(interval);\n    if", 1);
+    s.text += &format!("\npub mod hoisted {{ include!({:?}); }}\n", probe.join("hoisted.rs"));
 }
 
 /// The run and the search without what they do not reach: callbacks' contexts, the workload estimate, other models,
@@ -139,6 +165,14 @@ fn simulation(folder: &Path, variant: &str, probe: &Path) -> Source {
         traced(&mut s);
     } else {
         head += "use crate::native::{StdRng, WeightedIndex};\n";
+    }
+    if variant == "hoisted" {
+        s.before(
+            "    for (offset, day) in days.iter_mut().enumerate() {",
+            "    if let Some(runtime) = fsrs7_runtime {\n        let curve = runtime.curve(stability);\n\
+             \x20       days.iter_mut().enumerate().for_each(|(i, day)| *day += curve.retention((start_day + i) as f32 - last_date));\n\
+             \x20       return;\n    }",
+        );
     }
     s.text = format!("{head}{}\npub mod probe {{ include!({:?}); }}\n", s.text, probe.join("probe_simulation.rs"));
     s
@@ -188,7 +222,7 @@ fn main() {
     let folder = env::var("STREET_DRILL_RUST").map_or(root.join("../shared/docs/src"), PathBuf::from);
     let out = PathBuf::from(env::var("OUT_DIR").unwrap());
     let probe = here.join("src");
-    for variant in ["ours", "published"] {
+    for variant in ["ours", "published", "hoisted"] {
         let at = out.join(variant);
         fs::create_dir_all(&at).unwrap();
         let mut list = String::new();

@@ -1,12 +1,34 @@
-//! The usual rate: 4,000 new cards, 365 days, the default configuration. Side by side, in turns, the least time of each.
+//! Runs of the default configuration, side by side in one process and in turns: the least time of each. The usual rate is
+//! 4,000 new cards over 365 days.
 use crate::cases::usual;
 use crate::lent::{Call, Lists};
 use std::time::Instant;
 
+/// Cards and days.
+const SHAPES: [(u32, u32); 7] = [(100, 100), (1000, 365), (4000, 365), (65_536, 365), (1000, 3650), (4000, 3650), (20, 36_500)];
+
+#[repr(C)]
+struct Time {
+    seconds: i64,
+    nanoseconds: i64,
+}
+
+unsafe extern "C" {
+    fn clock_gettime(clock: i32, time: *mut Time) -> i32;
+}
+
+/// What this thread has had of a processor, in ms: other work on the machine adds little to it.
+fn spent() -> f64 {
+    const THREAD_CPUTIME: i32 = 3;
+    let mut time = Time { seconds: 0, nanoseconds: 0 };
+    assert!(unsafe { clock_gettime(THREAD_CPUTIME, &mut time) } == 0);
+    time.seconds as f64 * 1e3 + time.nanoseconds as f64 / 1e6
+}
+
 fn timed(run: &mut dyn FnMut()) -> f64 {
-    let start = Instant::now();
+    let start = spent();
     run();
-    start.elapsed().as_secs_f64() * 1e3
+    spent() - start
 }
 
 /// The port's run over lists that are kept from one run to the next.
@@ -67,6 +89,25 @@ pub fn tables(rounds: u64) {
     }
 }
 
+/// The port, the published and the hoisted Rust at each shape, and the ratios of the port to both.
+fn shapes(rounds: u64) {
+    println!("bench: thread time in ms, least of some rounds: the port, the published Rust, the hoisted Rust; port to published, port to hoisted");
+    for (cards, days) in SHAPES {
+        let call = Call::exact("a shape", usual(cards, days));
+        let c = &call.case;
+        let mut times = [f64::MAX; 3];
+        let mut port = port(&call);
+        let size = cards as u64 * days as u64;
+        for _ in 0..rounds.max(rounds * 1_460_000 / size).min(20 * rounds) {
+            times[0] = times[0].min(timed(&mut port));
+            times[1] = times[1].min(timed(&mut || drop(oracle::published::simulation::probe::run(c).unwrap())));
+            times[2] = times[2].min(timed(&mut || drop(oracle::hoisted::simulation::probe::run(c).unwrap())));
+        }
+        let [a, b, h] = times;
+        println!("  {cards:>6} cards x {days:>6} days {a:>9.2} {b:>9.2} {h:>9.2} {:>6.2} {:>6.2}", a / b, a / h);
+    }
+}
+
 pub fn main(rounds: u64) {
     let call = Call::exact("the usual rate", usual(4000, 365));
     let c = &call.case;
@@ -92,4 +133,5 @@ pub fn main(rounds: u64) {
     line("the Rust with the port's exp, ln, powf, draws", times[1], times[0]);
     line("the port", times[2], times[0]);
     calls(rounds);
+    shapes(rounds);
 }

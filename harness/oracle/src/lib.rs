@@ -1,5 +1,5 @@
 //! The Rust of the reference as an oracle: `ours` calls the port's exp, ln, powf and draws, `published` the platform's
-//! functions and the draws in Rust. `build.rs` says what is patched.
+//! functions and the draws in Rust, and so does `hoisted`, which builds a curve once. `build.rs` says what is patched.
 pub mod case;
 pub mod drawn;
 pub mod native;
@@ -14,6 +14,11 @@ pub mod ours {
 #[allow(dead_code, unused, clippy::all)]
 pub mod published {
     include!(concat!(env!("OUT_DIR"), "/published.rs"));
+}
+
+#[allow(dead_code, unused, clippy::all)]
+pub mod hoisted {
+    include!(concat!(env!("OUT_DIR"), "/hoisted.rs"));
 }
 
 unsafe extern "C" {
