@@ -118,15 +118,16 @@ fn hoisted_model(s: &mut Source, probe: &Path) {
     s.replace("    w: Vec<f32>,\n}", "    w: Vec<f32>,\n    constants: hoisted::Constants,\n}", 1)
         .replace("Self { w: w.to_vec() }", "Self { w: w.to_vec(), constants: hoisted::Constants::of(w) }", 1)
         .replace("        fsrs7_forgetting_curve_scalar(&self.w, t, stability)", "        self.curve(stability).retention(t)", 1)
-        .replace("_for_state(\n            &self.w,", "_for_state(\n            &self.constants,\n            &self.w,", 1)
         .replace(
-            "    fsrs7_next_interval_scalar_for_state(\n        w,",
-            "    fsrs7_next_interval_scalar_for_state(\n        &hoisted::Constants::of(w),\n        w,",
+            "        fsrs7_next_interval_scalar_for_state(\n            &self.w,",
+            "        next_interval_by(\n            &self.constants,\n            &self.w,",
             1,
         )
         .replace(
-            "fn fsrs7_next_interval_scalar_for_state(\n",
-            "fn fsrs7_next_interval_scalar_for_state(\n    constants: &hoisted::Constants,\n",
+            "pub(crate) fn fsrs7_next_interval_scalar_for_state(\n",
+            "pub(crate) fn fsrs7_next_interval_scalar_for_state(w: &[f32], state: MemoryState, desired_retention: f32) -> f32 {\n\
+             \x20   next_interval_by(&hoisted::Constants::of(w), w, state, desired_retention)\n}\n\n\
+             fn next_interval_by(\n    constants: &hoisted::Constants,\n",
             1,
         )
         .before("    let min_log_t = MIN_T.ln();", "    let curve = hoisted::Curve::new(constants, state);")

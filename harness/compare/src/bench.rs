@@ -91,7 +91,9 @@ pub fn tables(rounds: u64) {
 
 /// The port, the published and the hoisted Rust at each shape, and the ratios of the port to both.
 fn shapes(rounds: u64) {
-    println!("bench: thread time in ms, least of some rounds: the port, the published Rust, the hoisted Rust; port to published, port to hoisted");
+    println!(
+        "bench: thread time in ms, least of some rounds: the port, the published Rust, the hoisted Rust; port to published, port to hoisted"
+    );
     for (cards, days) in SHAPES {
         let call = Call::exact("a shape", usual(cards, days));
         let c = &call.case;
