@@ -130,7 +130,7 @@ pub record ExactSum (x y z : Float) (a d c i j k : ℕ) : Type 0 where
   pub lower : i + j ≤ k + 149
   pub digits : a * d + c * 2 ^ (k + 149 - (i + j)) < 2 ^ 53
 
-module _ (x y z : Float) (a d c i j k : ℕ) (t : ExactSum x y z a d c i j k) where
+module _ {x y z : Float} {a d c i j k : ℕ} (t : ExactSum x y z a d c i j k) where
   abbrev S : Float
   S = add binary64 (mul binary64 x y) z
 
