@@ -82,7 +82,10 @@ module _ (f : Format) where
 
   pub normal : (b : ℕ) → 0 < exponent f b → hid f ≤ significand f b
   unfolding significand exponent
-  normal b h = subst (λ (z : Bool). hid f ≤ cond z (b % hid f) (hid f + b % hid f)) (sym (ne-eqb (b / hid f % suc (ones f)) 0 (λ (e : b / hid f % suc (ones f) ≡ 0). omega arith))) (go (hid f) (b % hid f))
+  normal b h =
+      subst (λ (z : Bool). hid f ≤ cond z (b % hid f) (hid f + b % hid f))
+      (sym (ne-eqb (b / hid f % suc (ones f)) 0 (λ (e : b / hid f % suc (ones f) ≡ 0). omega arith)))
+      (go (hid f) (b % hid f))
     where
       go : (x y : ℕ) → x ≤ x + y
       go x y = omega arith

@@ -1,7 +1,8 @@
 -- A retention from 10^-6 to 1 is squeezed without an error in `f64`: times `inner` it has at most 48 digits, and with
 -- `edge` at most 52. Assumes nothing.
---     finite-there r                it is finite
---     squeezed-sum r                r * inner + edge is exact, as a law of float32 asks
+--     least                         10^-6
+--     finite-there r                such an r is finite
+--     squeezed-sum r                r * inner + edge is exact, as float32's laws ask
 use mathlib.Core.Path.{refl}
 use mathlib.Core.Bool.{Bool, true, false}
 use Prim.Native.Nat.{ℕ, _+_, _-_, _*_, _^_, _≤_, _<_}
@@ -18,7 +19,10 @@ use Rattle.float32.specs.Numbers.{1ᶠ}
 use Rattle.float32.proofs.Decode.{decode, significand-lt, normal}
 use Rattle.float32.proofs.Normal.{pow-lt-back}
 use Rattle.float32.proofs.Exact.{ExactSum}
-use Rattle.model.specs.Constants.{inner, edge, exactFrom}
+use Rattle.model.specs.Constants.{inner, edge}
+
+abbrev pub least : Float
+least = round binary32 false 1 1000000
 
 -- ---- the constants, in units of the smallest `f32`
 inner-value : HasValue inner false (16776880 * 2 ^ 125) (2 ^ 149)
@@ -29,16 +33,16 @@ edge-value : HasValue edge false (10995116 * 2 ^ 109) (2 ^ 149)
 unfolding round
 edge-value = (refl, refl)
 
-from-value : HasValue exactFrom false (8796093 * 2 ^ 106) (2 ^ 149)
+least-value : HasValue least false (8796093 * 2 ^ 106) (2 ^ 149)
 unfolding round
-from-value = (refl, refl)
+least-value = (refl, refl)
 
 one-value : HasValue 1ᶠ false (2 ^ 149) (2 ^ 149)
 unfolding ofBits ofFields
 one-value = (refl, refl)
 
-from-positive : T (positive exactFrom)
-from-positive = positive-of-value exactFrom (8796093 * 2 ^ 106) (2 ^ 149) from-value (lit< tt)
+least-positive : T (positive least)
+least-positive = positive-of-value least (8796093 * 2 ^ 106) (2 ^ 149) least-value (lit< tt)
 
 one-positive : T (positive 1ᶠ)
 one-positive = positive-of-value 1ᶠ (2 ^ 149) (2 ^ 149) one-value (lit< tt)
@@ -56,9 +60,9 @@ clear (inf t) s a c p v = v
 clear (fin true m e) s a c p v = absurd p
 clear (fin false m e) s a c p v = (refl, v .1)
 
-module _ (r : Float) (F : T (fits binary32 r)) (low : T (le exactFrom r)) (high : T (le r 1ᶠ)) where
+module _ (r : Float) (F : T (fits binary32 r)) (low : T (le least r)) (high : T (le r 1ᶠ)) where
   r-positive : T (positive r)
-  r-positive = between exactFrom r 1ᶠ from-positive one-positive low high
+  r-positive = between least r 1ᶠ least-positive one-positive low high
 
   pub finite-there : T (isFinite r)
   finite-there = positive-is-finite r r-positive
@@ -73,30 +77,39 @@ module _ (r : Float) (F : T (fits binary32 r)) (low : T (le exactFrom r)) (high 
   q-lt = significand-lt binary32 (toBits binary32 r)
 
   r-value : HasValue r false (q * 2 ^ i) (2 ^ 149)
-  r-value = clear r (leb (2 ^ 31) (toBits binary32 r)) (q * 2 ^ i) (2 ^ 149) r-positive (decode binary32 r F finite-there .0)
+  r-value =
+      clear r (leb (2 ^ 31) (toBits binary32 r)) (q * 2 ^ i) (2 ^ 149) r-positive (decode binary32 r F finite-there .0)
 
   at-least : 2 ^ 129 ≤ q * 2 ^ i
-  at-least =
-      le-of-mul-le-mul-right {k = 2 ^ 149}
-      (le-trans (lit≤ tt) (values-of-le exactFrom r (8796093 * 2 ^ 106) (2 ^ 149) (q * 2 ^ i) (2 ^ 149) from-positive r-positive from-value r-value low))
-      (pow-pos 149)
+  at-least = le-of-mul-le-mul-right {k = 2 ^ 149} (le-trans (lit≤ tt) go) (pow-pos 149)
+    where
+      go : 8796093 * 2 ^ 106 * 2 ^ 149 ≤ q * 2 ^ i * 2 ^ 149
+      go = values-of-le least r _ _ _ _ least-positive r-positive least-value r-value low
 
   at-most : q * 2 ^ i ≤ 2 ^ 149
-  at-most =
-      le-of-mul-le-mul-right {k = 2 ^ 149} (values-of-le r 1ᶠ (q * 2 ^ i) (2 ^ 149) (2 ^ 149) (2 ^ 149) r-positive one-positive r-value one-value high) (pow-pos 149)
+  at-most = le-of-mul-le-mul-right {k = 2 ^ 149} go (pow-pos 149)
+    where
+      go : q * 2 ^ i * 2 ^ 149 ≤ 2 ^ 149 * 2 ^ 149
+      go = values-of-le r 1ᶠ _ _ _ _ r-positive one-positive r-value one-value high
 
   i-low : 106 ≤ i
-  i-low = let h : 129 < 24 + i = pow-lt-back 129 (24 + i) (lt-of-le-of-lt at-least (shl-lt 24 i q-lt)) in omega arith
+  i-low = go (pow-lt-back 129 (24 + i) (lt-of-le-of-lt at-least (shl-lt 24 i q-lt)))
+    where
+      go : 129 < 24 + i → 106 ≤ i
+      go h = omega arith
 
   i-high : i ≤ 126
-  i-high =
-      let n : 2 ^ 23 ≤ q = normal binary32 (toBits binary32 r) (omega (arith, i-low)) in
-      let g : 2 ^ (23 + i) ≤ 2 ^ 149 = le-trans (le-of-eq (pow-add 2 23 i)) (le-trans (mul-le-mul-right (2 ^ i) n) at-most) in
-      let h : 23 + i < 150 = pow-lt-back (23 + i) 150 (lt-of-le-of-lt g (lit< tt)) in
-      omega arith
+  i-high = go (pow-lt-back (23 + i) 150 (lt-of-le-of-lt (le-trans (le-of-eq (pow-add 2 23 i)) most) (lit< tt)))
+    where
+      most : 2 ^ 23 * 2 ^ i ≤ 2 ^ 149
+      most = le-trans (mul-le-mul-right (2 ^ i) (normal binary32 (toBits binary32 r) (omega (arith, i-low)))) at-most
+
+      go : 23 + i < 150 → i ≤ 126
+      go h = omega arith
 
   few-digits : q * 16776880 + 10995116 * 2 ^ (109 + 149 - (i + 125)) < 2 ^ 53
-  few-digits = go q (2 ^ (109 + 149 - (i + 125))) q-lt (pow-mono {i = 109 + 149 - (i + 125)} {j = 27} (omega (arith, i-low)))
+  few-digits =
+      go q (2 ^ (109 + 149 - (i + 125))) q-lt (pow-mono {i = 109 + 149 - (i + 125)} {j = 27} (omega (arith, i-low)))
     where
       go : (n p : ℕ) → n < 2 ^ 24 → p ≤ 2 ^ 27 → n * 16776880 + 10995116 * p < 2 ^ 53
       go n p g h = omega arith

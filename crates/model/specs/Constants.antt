@@ -4,7 +4,7 @@
 --     minT                                      the shortest time
 --     initShare, currentShare, againShift       difficulty: mean reversion, and the change at rating 1
 --     growthShift                               stability
---     decayMin, decayMax, powerShift, factorMost, inner, edge, exactFrom, weightMin     the curve
+--     decayMin, decayMax, powerShift, factorMost, inner, edge, weightMin        the curve
 --     slopeMost, stepMost, tolerance            the solver
 --     half, two, three, five, nine, ten, eleven
 use mathlib.Core.Bool.{false}
@@ -82,10 +82,6 @@ inner = 1ᶠ -ᶠ round binary32 false 2 100000
 
 abbrev pub edge : Float
 edge = round binary32 false 1 100000
-
--- 1e-6, from which on the fused operation is exact in `f64`
-abbrev pub exactFrom : Float
-exactFrom = round binary32 false 1 1000000
 
 -- 1e-9
 abbrev pub weightMin : Float

@@ -14,7 +14,6 @@ ghost use lib.Ieee as Ieee;
 ghost use lib.Ieee.{binary32, binary64};
 ghost use Rattle.float32.specs.Numbers.{1ᶠ};
 ghost use Rattle.float32.specs.Encoding.{significand, exponent};
-ghost use Rattle.model.specs.Constants.{exactFrom};
 ghost use Rattle.model.specs.Model as Model;
 ghost use Rattle.model.specs.Runtime as Runtime;
 
@@ -125,7 +124,7 @@ pub(crate) fn squeezed(r: f32) -> f32
 
 // The same from 10^-6 to 1: there the sum is exact in `f64`, and only its rounding to an `f32` is left.
 fn squeezed_exact(r: f32) -> f32
-    requires { ⌜ Ieee.le exactFrom r ≡ true ⌝ ∗ ⌜ Ieee.le r 1ᶠ ≡ true ⌝ }
+    requires { ⌜ Ieee.le (Ieee.round binary32 false 1 1000000) r ≡ true ⌝ ∗ ⌜ Ieee.le r 1ᶠ ≡ true ⌝ }
     ensures { λ x. ⌜ x ≡ Model.squeezed r ⌝ }
 {
     let inner: f32 = 0.99998;

@@ -7,9 +7,8 @@ use Rattle.float32.specs.Numbers.{1ᶠ}
 use Rattle.float32.proofs.Cmp.{yes}
 use Rattle.float32.proofs.Widened.{widens}
 use Rattle.float32.proofs.Exact.{exact-number, exact-low, exact-high, exact-is}
-use Rattle.model.specs.Constants.{exactFrom}
 use Rattle.model.specs.Model.{squeezed}
-use Rattle.model.proofs.Exact.{finite-there, squeezed-sum}
+use Rattle.model.proofs.Exact.{least, finite-there, squeezed-sum}
 use Rattle.model.proofs.forgetting_curve.squeezed_exact.Statement.{statement}
 use Rattle.model.proofs.forgetting_curve.squeezed_exact.Tie as tie
 
@@ -17,7 +16,7 @@ module _ (c : tie.Start) where
   held : T (fits binary32 (c .args .r))
   held = yes (c .good .0 .1)
 
-  from : T (le exactFrom (c .args .r))
+  from : T (le least (c .args .r))
   from = yes (c .pre .0)
 
   to : T (le (c .args .r) 1ᶠ)
