@@ -7,6 +7,7 @@ use native.Mathlib.Omega.{arith}
 use lib.Dec.{T, leb, eqb, eqb·suc-zero, eqb-refl, lit<}
 use lib.Pow.{field}
 use lib.Ieee.{Float, nan, inf, fin, Format, binary32, binary64, prec, low, hid, ones, top, odd, fits, isNan, ofFields, ofBits, toBits}
+use borrow.Author.Tests.{ne-eqb}
 use lib.Ieee.Bits.{is-true, ofBits-toBits}
 use lib.Ieee.Exact.{HasValue, odd-sign}
 use Rattle.float32.specs.Float32.{isFinite}
@@ -78,6 +79,16 @@ module _ (f : Format) where
   pub significand-lt : (b : ℕ) → significand f b < 2 ^ prec f
   unfolding significand
   significand-lt b = lead-lt (b / hid f % suc (ones f)) (b % hid f) (mod-lt b (hid-pos f))
+
+  pub normal : (b : ℕ) → 0 < exponent f b → hid f ≤ significand f b
+  unfolding significand exponent
+  normal b h =
+      subst (λ (z : Bool). hid f ≤ cond z (b % hid f) (hid f + b % hid f))
+      (sym (ne-eqb (b / hid f % suc (ones f)) 0 (λ (e : b / hid f % suc (ones f) ≡ 0). omega arith)))
+      (go (hid f) (b % hid f))
+    where
+      go : (x y : ℕ) → x ≤ x + y
+      go x y = omega arith
 
   ofBits-is : (b : ℕ) → ofBits f b ≡ ofFields f (leb (top f) b) (b % top f / hid f) (b % hid f)
   unfolding ofBits

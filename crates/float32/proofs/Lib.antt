@@ -18,4 +18,5 @@ pub mod Product
 pub mod Twice
 pub mod Widened
 pub mod Once
+pub mod Exact
 pub mod Cut

@@ -172,7 +172,7 @@ module _ (n v O p : ℕ) (P : 0 < p) (o : O % 2 ≡ 1) (lo : (O - 1) * v < n) (h
   closest-odd = first ∙ ap (λ (z : Ordering). nearest q z) same ∙ sym second
 
 -- ---- how many digits `round` drops, from where the fraction n / den lies among the powers of two
-size-gt : (n j : ℕ) → 2 ^ j ≤ n → j < size n
+pub size-gt : (n j : ℕ) → 2 ^ j ≤ n → j < size n
 size-gt n j h = lt-of-not-le (λ (g : size n ≤ j). not-le-of-lt (lt-of-lt-of-le (size-lt n) (pow-mono g)) h)
 
 pub drop-is : (p n den k : ℕ) → 0 < p → 0 < den → n < 2 ^ (p + k) * den → (0 < k → 2 ^ (p + k - 1) * den ≤ n) → size (n / den) - p ≡ k

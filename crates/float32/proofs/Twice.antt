@@ -124,7 +124,7 @@ module _ (q k r j : ℕ) (lo : 2 ^ 52 < q) (hi : q < 2 ^ 53) (r-le : r ≤ 2 ^ 5
   same-digits = eq-of-mul-eq-mul-right (2 ^ k) (pow-pos k) q r (e ∙ ap (λ (z : ℕ). r * 2 ^ z) (sym same-place))
 
 -- ---- one float has one value
-one-value : (x : Float) (s t : Bool) (a b c : ℕ) → HasValue x s a c → HasValue x t b c → (s ≡ t) × (a ≡ b)
+pub one-value : (x : Float) (s t : Bool) (a b c : ℕ) → HasValue x s a c → HasValue x t b c → (s ≡ t) × (a ≡ b)
 one-value nan s t a b c p q = absurd p
 one-value (inf u) s t a b c p q = absurd p
 one-value (fin u m e) s t a b c p q = (sym (p .0) ∙ q .0, eq-of-mul-eq-mul-right (down e) (down-pos e) a b (sym (p .1) ∙ q .1))

@@ -1,19 +1,24 @@
 -- x * y + z of three `f32`, in `f64`: the product is exact, so the sum is the exact value rounded once, to an `f64`. Assumes nothing.
 use mathlib.Core.Path.{_≡_, refl, sym, ap, _∙_, subst}
-use mathlib.Core.Bool.{Bool, true, false, not, cond}
+use mathlib.Core.Bool.{Bool, true, false, not, cond, _&&_}
 use Prim.Native.Nat.{ℕ, zero, suc, _+_, _-_, _*_, _/_, _%_, _^_, _≤_, _<_}
 use native.Mathlib.Nat.{lt-of-lt-of-le, mul-assoc, mul-comm, mul-right-comm, mul-one, mul-pos}
 use native.Mathlib.Omega.{arith}
 use lib.Dec.{T, ltb, eqb, lit≤}
 use lib.Pow.{pow-add, pow-pos, pow-mono, shl-lt, field}
 use borrow.Author.Tests.{ne-eqb}
-use lib.Ieee.{Float, nan, inf, fin, Format, binary64, up, down, prec, emax, low, odd, units, unlike, isNan, round, sum, add, mul, ofFields, ofBits}
-use lib.Ieee.Fits.{down-pos, round-is}
+use lib.Ieee.{Float, nan, inf, fin, Format, binary32, binary64, up, down, prec, emax, low, odd, units, fits, unlike, isNan, round, sum, add, mul, ofFields, ofBits}
+use lib.Ieee.Fits.{and-i, down-pos, fits-widens, round-is}
 use lib.Ieee.Exact.{HasValue, round-exact}
 use lib.Ieee.Scale.{round-same}
 use Rattle.float32.specs.Float32.{isFinite}
+use Rattle.float32.proofs.Decode.{finite-no-nan}
 use Rattle.float32.proofs.Sums.{test, Order, less, same, more, order, sum-like, sum-over, sum-under, sum-level, sum-same}
 use Rattle.float32.proofs.Product.{left, product-lt}
+
+-- ---- a finite `f32` is an `f64`
+pub widens : (x : Float) → T (fits binary32 x) → T (isFinite x) → T (fits binary64 x && not (isNan x))
+widens x f p = and-i (fits binary64 x) (not (isNan x)) (fits-widens x f) (finite-no-nan x p)
 
 -- ---- a sum is one fraction, rounded, whatever the format
 pub fraction : (s : Bool) (a : ℕ) (t : Bool) (b c : ℕ) → (v : Bool) × (num : ℕ) × ((f : Format) → sum f s a t b c ≡ round f v num c)

@@ -8,6 +8,12 @@ use float32::max;
 use float32::min;
 use float32::mul_add;
 ghost use mathlib.Core.Path.{_≡_};
+ghost use mathlib.Core.Bool.{true, false};
+ghost use Prim.Native.Nat.{_*_, _/_, _^_, _≤_};
+ghost use lib.Ieee as Ieee;
+ghost use lib.Ieee.{binary32, binary64};
+ghost use Rattle.float32.specs.Numbers.{1ᶠ};
+ghost use Rattle.float32.specs.Encoding.{significand, exponent};
 ghost use Rattle.model.specs.Model as Model;
 ghost use Rattle.model.specs.Runtime as Runtime;
 
@@ -104,10 +110,35 @@ pub(crate) fn base(factor: f32, t: f32, s: f32) -> f32
     1.0 + factor * (t / s)
 }
 
+// A retention kept off 0 and 1, rounded once.
 pub(crate) fn squeezed(r: f32) -> f32
     ensures { λ x. ⌜ x ≡ Model.squeezed r ⌝ }
 {
+    if r >= 0.000001 {
+        if r <= 1.0 {
+            return squeezed_exact(r);
+        }
+    }
     mul_add(r, 0.99998, 0.00001)
+}
+
+// The same from 10^-6 to 1: there the sum is exact in `f64`, and only its rounding to an `f32` is left.
+fn squeezed_exact(r: f32) -> f32
+    requires { ⌜ Ieee.le (Ieee.round binary32 false 1 1000000) r ≡ true ⌝ ∗ ⌜ Ieee.le r 1ᶠ ≡ true ⌝ }
+    ensures { λ x. ⌜ x ≡ Model.squeezed r ⌝ }
+{
+    let inner: f32 = 0.99998;
+    let edge: f32 = 0.00001;
+    nearest_f32(f64::to_bits((r as f64) * (inner as f64) + (edge as f64)))
+}
+
+// The `f32` nearest to the `f64` of this pattern, and of two the even one. The exponents are 896 apart, and a carry
+// out of the digits goes into the exponent.
+fn nearest_f32(b: u64) -> f32
+    requires { ⌜ 897 ≤ b / 2 ^ 52 ⌝ ∗ ⌜ b / 2 ^ 52 ≤ 1149 ⌝ }
+    ensures { λ x. ⌜ x ≡ Ieee.round binary32 false (significand binary64 b * 2 ^ exponent binary64 b) (2 ^ 1074) ⌝ }
+{
+    f32::from_bits(((b + 268435455 + b / 536870912 % 2) / 536870912 - 7516192768) as u32)
 }
 
 impl Curve {

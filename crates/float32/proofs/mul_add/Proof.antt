@@ -1,14 +1,13 @@
 -- `float32::mul_add` meets its contract: `proofs/Once.antt` has the quick path. Assumes nothing.
 use mathlib.Core.Path.{sym, _∙_}
-use mathlib.Core.Bool.{not, _&&_}
 use borrow.Author.Needs.{needs}
 use lib.Dec.{T}
-use lib.Ieee.{Float, binary32, binary64, toBits, fits, isNan}
-use lib.Ieee.Fits.{and-i, fits-widens}
+use lib.Ieee.{Float, binary32, toBits}
 use Rattle.float32.specs.Float32.{isFinite}
 use Rattle.float32.proofs.Cmp.{yes}
-use Rattle.float32.proofs.Decode.{Decoded, decode, finite-no-nan}
+use Rattle.float32.proofs.Decode.{Decoded, decode}
 use Rattle.float32.proofs.Twice.{away}
+use Rattle.float32.proofs.Widened.{widens}
 use Rattle.float32.proofs.Once.{sum-no-nan, quick-is}
 use Rattle.float32.proofs.mul_add.Statement.{statement}
 use Rattle.float32.proofs.mul_add.Tie as tie
@@ -49,9 +48,6 @@ is-finite-requires-2 c κs = search needs
 
 is-finite-requires-3 : tie.Need-is-finite-requires-3
 is-finite-requires-3 c κs = search needs
-
-widens : (v : Float) → T (fits binary32 v) → T (isFinite v) → T (fits binary64 v && not (isNan v))
-widens v f p = and-i (fits binary64 v) (not (isNan v)) (fits-widens v f) (finite-no-nan v p)
 
 float-to-float-b : tie.Need-float-to-float-b
 float-to-float-b c = let t = c .before in widens (x t) (yes (t .before .before .before .before .before .before .good .0 .1)) (x-finite (t .before .before .before .before))
