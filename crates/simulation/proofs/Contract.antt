@@ -2,7 +2,10 @@
 -- has the result of `simulated`; where it ends Ok, demand 3 holds of it.
 use mathlib.Core.Path.{_≡_, refl, sym, ap, _∙_, subst}
 use mathlib.Core.Option.{some}
+use mathlib.Core.Bool.{Bool}
 use lib.Ieee.{Float}
+use Rattle.float32.specs.Numbers.{0ᶠ}
+use Rattle.float32.specs.Float32.{isFinite}
 use Rattle.draws.specs.Draws.{splitMix}
 use Rattle.model.specs.Runtime as Runtime
 use Rattle.events.specs.Scalars.{Scalars, kept}
@@ -15,7 +18,7 @@ use Rattle.simulation.specs.declared.Answer.{Answer}
 use Rattle.simulation.specs.declared.Answer.the-variants as answer
 use Rattle.simulation.specs.State.{State, Lent, listsOf, withDraws}
 use Rattle.simulation.specs.Rules.{rulesOf}
-use Rattle.simulation.specs.Entry.{Inputs, inputs, listsOk, checked}
+use Rattle.simulation.specs.Entry.{Inputs, inputs, listsOk, checkedWith, checked}
 use Rattle.simulation.specs.Simulate.{progress, rulesFor, resultFrom, simulatedBy, simulated, IsResult}
 use Rattle.simulation.specs.Steps.{InnerContract}
 use Rattle.simulation.specs.Demands.{startOf, RunContract}
@@ -29,12 +32,18 @@ not-finished : (r : Refusal) (p q : Progress) → answer.Refused r p ≡ answer.
 not-finished r p q e = not-one cc
 
 module _ (i : Inputs) (s : State Float) where
-  -- the entry's tests look neither at the seed nor at the draws
-  pub same-check : {c : Check}
-      → c ≡ checked (inputs (i .config) (i .parameters) (i .retention) 0 (i .existing) (i .existing-counts))
-      (withDraws 0 s) → c ≡ checked i s
-  unfolding checked listsOk
-  same-check e = e
+  -- the entry's tests look neither at the retention's value, nor at the seed, nor at the draws
+  pub same-tests : (ok : Bool) {c : Check}
+      → c ≡ checkedWith ok (inputs (i .config) (i .parameters) 0ᶠ 0 (i .existing) (i .existing-counts)) (withDraws 0 s)
+      → c ≡ checkedWith ok i s
+  unfolding checkedWith listsOk
+  same-tests ok e = e
+
+  -- those of a run
+  pub same-check : (ok : Bool) {c : Check} → ok ≡ isFinite (i .retention)
+      → c ≡ checkedWith ok (inputs (i .config) (i .parameters) 0ᶠ 0 (i .existing) (i .existing-counts)) (withDraws 0 s)
+      → c ≡ checked i s
+  same-check ok f e = same-tests ok e ∙ ap (λ (b : Bool). checkedWith b i s) f
 
   pub refused-is : (r : Refusal) → checked i s ≡ check.Failed r
       → RunContract i s (answer.Refused r (progress 0 0 (i .seed))) (listsOf s)
