@@ -1,6 +1,6 @@
 -- A search that is under way as ten floats and three counts. Definitions only.
 --   stateFloats, stepperCounts   the ends a and b, x, v and w, their means, deltax and rat; rounds done, begun, rounds
---   stepperOf                    and back (`stepper-back`, proofs/Stepper)
+--   stepperOf                    and back (`stepper-back`, proofs/Telling)
 --   Kept t floats counts         the floats and counts are those of a stepper
 --   asked, numberOf              the retention to try, and the verdict, as numbers
 use Prim.Native.Nat.{ℕ}
