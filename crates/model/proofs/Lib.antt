@@ -3,3 +3,5 @@ pub mod Laws
 pub mod Runtime
 pub mod Steps
 pub mod Doubling
+pub mod Fractions
+pub mod Rounding

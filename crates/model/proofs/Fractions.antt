@@ -1,0 +1,133 @@
+-- Fractions that are within so many roundings of each other. A rounding of an f32 is a factor of at most 1 + 2^-24, up
+-- or down. Assumes nothing.
+use mathlib.Core.Path.{_≡_, refl, sym, ap, _∙_, subst}
+use mathlib.Core.Bool.{Bool, true, false, not}
+use Prim.Native.Nat.{ℕ, zero, suc, _+_, _-_, _*_, _^_, _≤_, _<_}
+use native.Mathlib.Nat.{le-refl, le-trans, le-of-eq, mul-pos, mul-le-mul, mul-le-mul-right, mul-le-mul-left, le-of-mul-le-mul-right, pow-zero, pow-le-pow-left}
+use native.Mathlib.Omega.{arith}
+use lib.Dec.{lit<, lit≤}
+use lib.Pow.{pow-add}
+
+pub record Fraction : Type 0 where
+  pub top : ℕ
+  pub bottom : ℕ
+  pub positive : 0 < bottom
+
+infixl 6 _⊕_
+infixl 7 _⊗_
+infix 4 _⊑_
+abbrev pub _⊕_ : Fraction → Fraction → Fraction
+x ⊕ y =
+    record {
+      top = x .top * y .bottom + y .top * x .bottom;
+      bottom = x .bottom * y .bottom;
+      positive = mul-pos (x .positive) (y .positive);
+    }
+
+abbrev pub _⊗_ : Fraction → Fraction → Fraction
+x ⊗ y =
+    record { top = x .top * y .top; bottom = x .bottom * y .bottom; positive = mul-pos (x .positive) (y .positive) }
+
+-- x / y, for a y above 0
+abbrev pub quotient : Fraction → (y : Fraction) → 0 < y .top → Fraction
+quotient x y h =
+    record { top = x .top * y .bottom; bottom = y .top * x .bottom; positive = mul-pos h (x .positive) }
+
+-- x ≤ y
+abbrev pub _⊑_ : Fraction → Fraction → Type 0
+x ⊑ y = x .top * y .bottom ≤ y .top * x .bottom
+
+-- x ≤ y (1 + 2^-24)^k
+pub record AtMost (k : ℕ) (x y : Fraction) : Type 0 where
+  pub holds : x .top * y .bottom * (2 ^ 24) ^ k ≤ y .top * x .bottom * (2 ^ 24 + 1) ^ k
+
+-- ---- none, more, and one after the other
+pub at-most-le : {x y : Fraction} → (k : ℕ) → x ⊑ y → AtMost k x y
+at-most-le {x} {y} k h = record { holds = mul-le-mul h (pow-le-pow-left (lit≤ tt) k) }
+
+trans : (a b c d e f p q r s : ℕ) → 0 < d → a * d * p ≤ c * b * q → c * f * r ≤ e * d * s
+    → a * f * (p * r) ≤ e * b * (q * s)
+trans a b c d e f p q r s D h k =
+    le-of-mul-le-mul-right {k = d} (omega (arith, mul-le-mul-right (f * r) h, mul-le-mul-right (b * q) k)) D
+
+pub at-most-trans : {j k : ℕ} {x y z : Fraction} → AtMost j x y → AtMost k y z → AtMost (j + k) x z
+at-most-trans {j} {k} {x} {y} {z} h g = record {
+  holds =
+      rw (pow-add (2 ^ 24) j k, pow-add (2 ^ 24 + 1) j k)
+      (trans (x .top) (x .bottom) (y .top) (y .bottom) (z .top) (z .bottom) ((2 ^ 24) ^ j) ((2 ^ 24 + 1) ^ j)
+      ((2 ^ 24) ^ k) ((2 ^ 24 + 1) ^ k) (y .positive) (h .holds) (g .holds));
+}
+
+-- ---- sums, products, inverses
+sums : (a b c d e f g h p q : ℕ) → a * d * p ≤ c * b * q → e * h * p ≤ g * f * q
+    → (a * f + e * b) * (d * h) * p ≤ (c * h + g * d) * (b * f) * q
+sums a b c d e f g h p q u v = omega (arith, mul-le-mul-right (f * h) u, mul-le-mul-right (b * d) v)
+
+pub at-most-add : {k : ℕ} {x y z w : Fraction} → AtMost k x y → AtMost k z w → AtMost k (x ⊕ z) (y ⊕ w)
+at-most-add {k} {x} {y} {z} {w} h g = record {
+  holds =
+      sums (x .top) (x .bottom) (y .top) (y .bottom) (z .top) (z .bottom) (w .top) (w .bottom) ((2 ^ 24) ^ k)
+      ((2 ^ 24 + 1) ^ k) (h .holds) (g .holds);
+}
+
+products : (a b c d e f g h p q r s : ℕ) → a * d * p ≤ c * b * q → e * h * r ≤ g * f * s
+    → a * e * (d * h) * (p * r) ≤ c * g * (b * f) * (q * s)
+products a b c d e f g h p q r s u v = omega (arith, mul-le-mul u v)
+
+pub at-most-mul : {j k : ℕ} {x y z w : Fraction} → AtMost j x y → AtMost k z w → AtMost (j + k) (x ⊗ z) (y ⊗ w)
+at-most-mul {j} {k} {x} {y} {z} {w} h g = record {
+  holds =
+      rw (pow-add (2 ^ 24) j k, pow-add (2 ^ 24 + 1) j k)
+      (products (x .top) (x .bottom) (y .top) (y .bottom) (z .top) (z .bottom) (w .top) (w .bottom) ((2 ^ 24) ^ j)
+      ((2 ^ 24 + 1) ^ j) ((2 ^ 24) ^ k) ((2 ^ 24 + 1) ^ k) (h .holds) (g .holds));
+}
+
+quotients : (a b c d e f g h p q r s : ℕ) → a * d * p ≤ c * b * q → g * f * r ≤ e * h * s
+    → a * f * (g * d) * (p * r) ≤ c * h * (e * b) * (q * s)
+quotients a b c d e f g h p q r s u w = omega (arith, mul-le-mul u w)
+
+pub at-most-quotient : {j k : ℕ} {x y z w : Fraction} (Z : 0 < z .top) (W : 0 < w .top) → AtMost j x y → AtMost k w z
+    → AtMost (j + k) (quotient x z Z) (quotient y w W)
+at-most-quotient {j} {k} {x} {y} {z} {w} Z W h g = record {
+  holds =
+      rw (pow-add (2 ^ 24) j k, pow-add (2 ^ 24 + 1) j k)
+      (quotients (x .top) (x .bottom) (y .top) (y .bottom) (z .top) (z .bottom) (w .top) (w .bottom) ((2 ^ 24) ^ j)
+      ((2 ^ 24 + 1) ^ j) ((2 ^ 24) ^ k) ((2 ^ 24 + 1) ^ k) (h .holds) (g .holds));
+}
+
+-- ---- a number that is added on both sides makes the factor smaller
+raised : (x y b d h w p q : ℕ) → p ≤ q → x * d * p ≤ y * b * q
+    → (h * x + w * b) * (d * h) * p ≤ (h * y + w * d) * (b * h) * q
+raised x y b d h w p q P u = omega (arith, mul-le-mul-left (h * h) u, mul-le-mul-left (w * b * d * h) P)
+
+raise : (a b c d e f g h w p q : ℕ) → 0 < f → p ≤ q → g * f ≡ e * h + w
+    → (a * f + e * b) * (d * f) * p ≤ (c * f + e * d) * (b * f) * q
+    → (a * h + g * b) * (d * h) * p ≤ (c * h + g * d) * (b * h) * q
+raise a b c d e f g h w p q F P W u =
+    le-of-mul-le-mul-right {k = f}
+    (go (a * h + g * b) (c * h + g * d) (h * (a * f + e * b) + w * b) (h * (c * f + e * d) + w * d) (left a b) (left c d)
+    (raised (a * f + e * b) (c * f + e * d) b d h w p q P (le-of-mul-le-mul-right {k = f} (omega (arith, u)) F)))
+    F
+  where
+    left : (x y : ℕ) → (x * h + g * y) * f ≡ h * (x * f + e * y) + w * y
+    left x y = omega (arith, ap (λ (z : ℕ). z * y) W)
+
+    go : (x y z v : ℕ) → x * f ≡ z → y * f ≡ v → z * (d * h) * p ≤ v * (b * h) * q
+        → x * (d * h) * p * f ≤ y * (b * h) * q * f
+    go x y z v i j k = omega (arith, ap (λ (n : ℕ). n * (d * h * p)) i, ap (λ (n : ℕ). n * (b * h * q)) j, k)
+
+pub at-most-raise : {k : ℕ} (x y z w : Fraction) → z ⊑ w → AtMost k (x ⊕ z) (y ⊕ z) → AtMost k (x ⊕ w) (y ⊕ w)
+at-most-raise {k} x y z w l h = record {
+  holds =
+      raise (x .top) (x .bottom) (y .top) (y .bottom) (z .top) (z .bottom) (w .top) (w .bottom)
+      (w .top * z .bottom - z .top * w .bottom) ((2 ^ 24) ^ k) ((2 ^ 24 + 1) ^ k) (z .positive)
+      (pow-le-pow-left (lit≤ tt) k) (go (w .top * z .bottom) (z .top * w .bottom) l) (h .holds);
+}
+  where
+    go : (u v : ℕ) → v ≤ u → u ≡ v + (u - v)
+    go u v g = omega arith
+
+-- ---- up to here upward; downward is the same with x and y exchanged
+abbrev pub Toward : Bool → ℕ → Fraction → Fraction → Type 0
+Toward false k x y = AtMost k x y
+Toward true k x y = AtMost k y x
