@@ -2,3 +2,4 @@ pub mod Common
 pub mod Cubics
 pub mod Points
 pub mod Number
+pub mod Laws

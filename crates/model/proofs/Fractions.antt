@@ -3,7 +3,7 @@
 use mathlib.Core.Path.{_≡_, refl, sym, ap, _∙_, subst}
 use mathlib.Core.Bool.{Bool, true, false, not}
 use Prim.Native.Nat.{ℕ, zero, suc, _+_, _-_, _*_, _^_, _≤_, _<_}
-use native.Mathlib.Nat.{le-refl, le-trans, le-of-eq, mul-pos, mul-le-mul, mul-le-mul-right, mul-le-mul-left, le-of-mul-le-mul-right, pow-zero, pow-le-pow-left}
+use native.Mathlib.Nat.{le-refl, le-trans, le-of-eq, add-comm, mul-pos, mul-le-mul, mul-le-mul-right, mul-le-mul-left, le-of-mul-le-mul-right, pow-zero, pow-le-pow-left}
 use native.Mathlib.Omega.{arith}
 use lib.Dec.{lit<, lit≤}
 use lib.Pow.{pow-add}
@@ -127,7 +127,49 @@ at-most-raise {k} x y z w l h = record {
     go : (u v : ℕ) → v ≤ u → u ≡ v + (u - v)
     go u v g = omega arith
 
--- ---- up to here upward; downward is the same with x and y exchanged
-abbrev pub Toward : Bool → ℕ → Fraction → Fraction → Type 0
-Toward false k x y = AtMost k x y
-Toward true k x y = AtMost k y x
+-- ---- one side or the other: but for k roundings x is at most y, or y is at most x
+abbrev pub Side : Bool → ℕ → Fraction → Fraction → Type 0
+Side false k x y = AtMost k x y
+Side true k x y = AtMost k y x
+
+pub record Toward (s : Bool) (k : ℕ) (x y : Fraction) : Type 0 where
+  pub side : Side s k x y
+
+swapped : (j k : ℕ) {x y : Fraction} → AtMost (k + j) x y → AtMost (j + k) x y
+swapped j k {x} {y} h = subst (λ (i : ℕ). AtMost i x y) (add-comm k j) h
+
+pub toward-trans : {s : Bool} {j k : ℕ} {x y z : Fraction} → Toward s j x y → Toward s k y z → Toward s (j + k) x z
+toward-trans {s = false} h g = record { side = at-most-trans (h .side) (g .side) }
+toward-trans {s = true} {j} {k} h g = record { side = swapped j k (at-most-trans (g .side) (h .side)) }
+
+pub toward-add : {s : Bool} {k : ℕ} {x y z w : Fraction} → Toward s k x y → Toward s k z w
+    → Toward s k (x ⊕ z) (y ⊕ w)
+toward-add {s = false} h g = record { side = at-most-add (h .side) (g .side) }
+toward-add {s = true} h g = record { side = at-most-add (h .side) (g .side) }
+
+pub toward-mul : {s : Bool} {j k : ℕ} {x y z w : Fraction} → Toward s j x y → Toward s k z w
+    → Toward s (j + k) (x ⊗ z) (y ⊗ w)
+toward-mul {s = false} h g = record { side = at-most-mul (h .side) (g .side) }
+toward-mul {s = true} h g = record { side = at-most-mul (h .side) (g .side) }
+
+pub toward-quotient : {s : Bool} {j k : ℕ} {x y z w : Fraction} (Z : 0 < z .top) (W : 0 < w .top) → Toward s j x y
+    → Toward s k w z → Toward s (j + k) (quotient x z Z) (quotient y w W)
+toward-quotient {s = false} Z W h g = record { side = at-most-quotient Z W (h .side) (g .side) }
+toward-quotient {s = true} Z W h g = record { side = at-most-quotient W Z (h .side) (g .side) }
+
+pub toward-raise : {s : Bool} {k : ℕ} (x y z w : Fraction) → z ⊑ w → Toward s k (x ⊕ z) (y ⊕ z)
+    → Toward s k (x ⊕ w) (y ⊕ w)
+toward-raise {s = false} x y z w l h = record { side = at-most-raise x y z w l (h .side) }
+toward-raise {s = true} x y z w l h = record { side = at-most-raise y x z w l (h .side) }
+
+pub toward-swap : {s : Bool} {k : ℕ} {x y : Fraction} → ((t : Bool) → Toward t k x y) → Toward s k y x
+toward-swap {s = false} f = record { side = f true .side }
+toward-swap {s = true} f = record { side = f false .side }
+
+-- equal fractions
+pub toward-same : (s : Bool) (k : ℕ) (x y : Fraction) → x .top * y .bottom ≡ y .top * x .bottom → Toward s k x y
+toward-same false k x y h = record { side = at-most-le k (le-of-eq h) }
+toward-same true k x y h = record { side = at-most-le k (le-of-eq (sym h)) }
+
+pub toward-refl : (s : Bool) (k : ℕ) (x : Fraction) → Toward s k x x
+toward-refl s k x = toward-same s k x x refl

@@ -5,3 +5,5 @@ pub mod Steps
 pub mod Doubling
 pub mod Fractions
 pub mod Rounding
+pub mod Powers
+pub mod Patterns

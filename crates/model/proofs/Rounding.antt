@@ -16,6 +16,7 @@ use lib.Ieee.Nearest.{closest, nearest-ge}
 use lib.Ieee.Order.{drop, kept}
 use lib.Ieee.Positive.{num, den, den-pos}
 use lib.Ieee.Scale.{grid, overflow, round-val}
+use Rattle.float32.specs.Float32 as Float32
 use Rattle.float32.specs.Ops.{_+ᶠ_, _*ᶠ_, _/ᶠ_}
 use Rattle.float32.proofs.Sticky.{Cmp, cmp}
 use Rattle.float32.proofs.Sums.{sum-like}
@@ -134,7 +135,7 @@ pub record Rounded (x : Fraction) (r : Float) : Type 0 where
   pub any : (b : Bool) → Toward b 1 (val r ⊕ smallest) (x ⊕ smallest)
   pub normal : smallest ⊑ x → (b : Bool) → Toward b 1 (val r) x
 
-own : (r : Float) (u c : ℕ) → HasValue r false u c → Clear r
+pub own : (r : Float) (u c : ℕ) → HasValue r false u c → Clear r
 own nan u c h = h
 own (inf s) u c h = h
 own (fin s m e) u c h = (h .0, refl)
@@ -205,14 +206,18 @@ module _ (x : Fraction) (small : x ⊑ largest) where
 
   any : (b : Bool) → Toward b 1 (val r ⊕ smallest) (x ⊕ smallest)
   any false = record {
-    holds =
-        value-up (num r) (den r) (q * P) (2 ^ 149) c a (2 ^ 126) (2 ^ 24) (2 ^ 24 + 1) (pow-pos 149) is
-        (grown a c P q (2 ^ 149) (2 ^ 126) refl (kept-half n c C) either);
+    side = record {
+      holds =
+          value-up (num r) (den r) (q * P) (2 ^ 149) c a (2 ^ 126) (2 ^ 24) (2 ^ 24 + 1) (pow-pos 149) is
+          (grown a c P q (2 ^ 149) (2 ^ 126) refl (kept-half n c C) either);
+    };
   }
   any true = record {
-    holds =
-        value-down (num r) (den r) (q * P) (2 ^ 149) c a (2 ^ 126) (2 ^ 24) (2 ^ 24 + 1) (pow-pos 149) is
-        (shrunk a c P q (2 ^ 149) (2 ^ 126) refl (kept-half n c C) either-kept);
+    side = record {
+      holds =
+          value-down (num r) (den r) (q * P) (2 ^ 149) c a (2 ^ 126) (2 ^ 24) (2 ^ 24 + 1) (pow-pos 149) is
+          (shrunk a c P q (2 ^ 149) (2 ^ 126) refl (kept-half n c C) either-kept);
+    };
   }
 
   module _ (l : smallest ⊑ x) where
@@ -221,10 +226,12 @@ module _ (x : Fraction) (small : x ⊑ largest) where
 
     normal : (b : Bool) → Toward b 1 (val r) x
     normal false = record {
-      holds = normal-up (num r) (den r) q P (2 ^ 149) c a (pow-pos 149) is (kept-half n c C) all;
+      side = record { holds = normal-up (num r) (den r) q P (2 ^ 149) c a (pow-pos 149) is (kept-half n c C) all };
     }
     normal true = record {
-      holds = normal-down (num r) (den r) q P (2 ^ 149) c a (pow-pos 149) is (kept-half n c C) (kept-ge n c C all);
+      side = record {
+        holds = normal-down (num r) (den r) q P (2 ^ 149) c a (pow-pos 149) is (kept-half n c C) (kept-ge n c C all);
+      };
     }
 
   pub rounded : Rounded x r
@@ -269,3 +276,21 @@ quotient-rounded (fin false m e) (fin false l d) p o Y h =
   where
     no : (i j : ℕ) → 0 < i * j → i ≡ 0 → ⊥
     no i j k z = omega (arith, k, ap (λ (t : ℕ). t * j) z)
+
+pub fused-rounded : (x y z : Float) → Clear x → Clear y → Clear z → (val x ⊗ val y ⊕ val z) ⊑ largest
+    → Rounded (val x ⊗ val y ⊕ val z) (Float32.mulAdd x y z)
+unfolding Float32.mulAdd
+fused-rounded nan y z p o i h = absurd p
+fused-rounded (inf s) y z p o i h = absurd p
+fused-rounded (fin true m e) y z p o i h = absurd (true≢false (p .0))
+fused-rounded (fin false m e) nan z p o i h = absurd o
+fused-rounded (fin false m e) (inf t) z p o i h = absurd o
+fused-rounded (fin false m e) (fin true l d) z p o i h = absurd (true≢false (o .0))
+fused-rounded (fin false m e) (fin false l d) nan p o i h = absurd i
+fused-rounded (fin false m e) (fin false l d) (inf t) p o i h = absurd i
+fused-rounded (fin false m e) (fin false l d) (fin true j g) p o i h = absurd (true≢false (i .0))
+fused-rounded (fin false m e) (fin false l d) (fin false j g) p o i h =
+    subst (Rounded (val (fin false m e) ⊗ val (fin false l d) ⊕ val (fin false j g)))
+    (sym (sum-like binary32 (m * up e * (l * up d) * down g) (j * up g * (down e * down d)) (down e * down d * down g)
+    false false refl))
+    (rounded (val (fin false m e) ⊗ val (fin false l d) ⊕ val (fin false j g)) h)
