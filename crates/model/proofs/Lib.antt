@@ -7,3 +7,4 @@ pub mod Fractions
 pub mod Rounding
 pub mod Powers
 pub mod Patterns
+pub mod Base

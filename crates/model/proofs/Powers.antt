@@ -7,7 +7,7 @@ use Prim.Native.Nat.{ℕ, zero, suc, _+_, _-_, _*_, _%_, _^_, _≤_, _<_}
 use native.Mathlib.Nat.{le-trans, le-of-eq, mul-pos, mul-le-mul, mul-le-mul-right, mul-le-mul-left, le-of-mul-le-mul-right, one-le-pow, pow-le-pow-left, add-sub-of-le}
 use native.Mathlib.Omega.{arith}
 use lib.Dec.{T, lit<, lit≤}
-use lib.Pow.{pow-pos, pow-add}
+use lib.Pow.{pow-pos, pow-add, pow-mono}
 use Rattle.series.proofs.Cuts.{mul-pow}
 use Rattle.series.proofs.Two.{root, one-pow}
 use lib.Ieee.{Float, binary32, fits, toBits}
@@ -105,10 +105,10 @@ abbrev pub Bound : Bool → ℕ → ℕ → ℕ → ℕ → Fraction → Type 0
 Bound false a b n m x = RatioGe true a b n m (x .top) (x .bottom)
 Bound true a b n m x = RatioLe true a b n m (x .top) (x .bottom)
 
--- p is within k roundings of it, and at most 2
+-- p is within k roundings of it, and at most 3
 pub record IsPower (k a b n m : ℕ) (p : Float) : Type 0 where
   pub clear : Clear p
-  pub most : num p ≤ 2 * den p
+  pub most : num p ≤ 3 * den p
   pub bracket : Bool → Fraction
   pub bound : (s : Bool) → Bound s a b n m (bracket s)
   pub near : (s : Bool) → Toward s k (val p) (bracket s)
@@ -136,10 +136,10 @@ same-down w h p q = omega arith
 same-up : (w h p q : ℕ) → w * q * h * p ≤ w * (h * p) * q
 same-up w h p q = omega arith
 
-at-most-two : (u J m e h : ℕ) → m * h ≡ u * e → 2 ^ 23 * J ≤ u + 2 * J → u - 2 * J ≤ h → m * h ≤ 2 * e * h
-at-most-two u J m e h i g k = go (omega arith)
+at-most-three : (u J m e h : ℕ) → m * h ≡ u * e → 2 ^ 23 * J ≤ u + 2 * J → (u - 2 * J) * 1 ≤ 2 * h → m * h ≤ 3 * e * h
+at-most-three u J m e h i g k = go (omega arith)
   where
-    go : u ≤ 2 * h → m * h ≤ 2 * e * h
+    go : u ≤ 3 * h → m * h ≤ 3 * e * h
     go l = omega (arith, i, mul-le-mul-left e l)
 
 -- the range of powf's bound, with h = 2^126 and g = 2^127
@@ -156,14 +156,16 @@ reaches a b n m h small H l =
     go : (x y z w : ℕ) → x ≤ z * y → z ≤ w → 1 * x ≤ y * w
     go x y z w i j = omega (arith, i, mul-le-mul-right y j)
 
-passes : (a b n m g : ℕ) → 0 < g → b ≤ a → RatioLe true a b n m g 1
-passes a b n m g G l =
-    rw (one-pow m) (go (a ^ n) (b ^ n) (g ^ m) (pow-le-pow-left l n) (one-le-pow m g G))
+passes : (a b n m g : ℕ) → n ≤ m → 2 ≤ g → b ≤ 2 * a → RatioLe true a b n m g 1
+passes a b n m g small G l =
+    rw (one-pow m)
+    (go (a ^ n) (b ^ n) (2 ^ n) (g ^ m) (rw (mul-pow 2 a n) at (pow-le-pow-left l n))
+    (le-trans (pow-mono {i = n} {j = m} small) (pow-le-pow-left G m)))
   where
-    go : (x y z : ℕ) → y ≤ x → 1 ≤ z → y * 1 ≤ z * x
-    go x y z i j = omega (arith, i, mul-le-mul-right x j)
+    go : (x y z w : ℕ) → y ≤ z * x → z ≤ w → y * 1 ≤ w * x
+    go x y z w i j = omega (arith, i, mul-le-mul-right x j)
 
-module _ (x y : Float) (fx : T (fits binary32 x)) (fy : T (fits binary32 y)) (cx : Clear x) (ge : den x ≤ num x)
+module _ (x y : Float) (fx : T (fits binary32 x)) (fy : T (fits binary32 y)) (cx : Clear x) (ge : den x ≤ 2 * num x)
     (le : num x ≤ 2 ^ 126 * den x) (d : Decay y) where
   abbrev a : ℕ
   a = num x
@@ -181,7 +183,10 @@ module _ (x y : Float) (fx : T (fits binary32 x)) (fy : T (fits binary32 y)) (cx
   sign = sign-is y true n m (d .number)
 
   positive : 0 < a
-  positive = le-trans (den-pos x) ge
+  positive = go a (le-trans (den-pos x) ge)
+    where
+      go : (z : ℕ) → 0 < 2 * z → 0 < z
+      go z h = omega arith
 
   finite : Finite x y
   finite = record {
@@ -209,7 +214,7 @@ module _ (x y : Float) (fx : T (fits binary32 x)) (fy : T (fits binary32 y)) (cx
   within : Within (PowGe x y) (PowLe x y) 2 (powOf x y)
   within =
       powf-bound x y fx fy .near finite (ge-pow 1 (2 ^ 126) (reaches a b n m (2 ^ 126) (d .most) (pow-pos 126) le))
-      (le-pow (2 ^ 127) 1 (passes a b n m (2 ^ 127) (pow-pos 127) ge))
+      (le-pow (2 ^ 127) 1 (passes a b n m (2 ^ 127) (d .most) (lit≤ tt) ge))
 
   abbrev u : ℕ
   u = within .near .units
@@ -246,15 +251,13 @@ module _ (x y : Float) (fx : T (fits binary32 x)) (fy : T (fits binary32 y)) (cx
   is : num p * 2 ^ 149 ≡ u * den p
   is = fraction-is p false u (2 ^ 149) (within .near .value)
 
-  -- the power is at most 1
-  most-one : u - 2 * J ≤ 2 ^ 149
-  most-one = go (u - 2 * J) (2 ^ 149) (meet n m a b (u - 2 * J) (2 ^ 149) 1 1 (den-pos y) positive low-is (passes a b n m 1 (pow-pos 0) ge))
-    where
-      go : (w z : ℕ) → w * 1 ≤ 1 * z → w ≤ z
-      go w z h = omega arith
+  -- the power is at most 2
+  most-two : (u - 2 * J) * 1 ≤ 2 * 2 ^ 149
+  most-two =
+      meet n m a b (u - 2 * J) (2 ^ 149) 2 1 (den-pos y) positive low-is (passes a b n m 2 (d .most) (lit≤ tt) ge)
 
-  two : num p ≤ 2 * den p
-  two = le-of-mul-le-mul-right {k = 2 ^ 149} (at-most-two u J (num p) (den p) (2 ^ 149) is size most-one) (pow-pos 149)
+  three : num p ≤ 3 * den p
+  three = le-of-mul-le-mul-right {k = 2 ^ 149} (at-most-three u J (num p) (den p) (2 ^ 149) is size most-two) (pow-pos 149)
 
   abbrev steps-around : Bool → Fraction
   steps-around false = record { top = u - 2 * J; bottom = 2 ^ 149; positive = pow-pos 149 }
@@ -299,7 +302,7 @@ module _ (x y : Float) (fx : T (fits binary32 x)) (fy : T (fits binary32 y)) (cx
     pub power-of-exact : IsPower (5 + k) (z .top) (z .bottom) n m p
     power-of-exact = record {
       clear = own p u (2 ^ 149) (within .near .value);
-      most = two;
+      most = three;
       bracket = around;
       bound = bounds;
       near = nears;

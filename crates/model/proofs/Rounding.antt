@@ -294,3 +294,16 @@ fused-rounded (fin false m e) (fin false l d) (fin false j g) p o i h =
     (sym (sum-like binary32 (m * up e * (l * up d) * down g) (j * up g * (down e * down d)) (down e * down d * down g)
     false false refl))
     (rounded (val (fin false m e) ⊗ val (fin false l d) ⊕ val (fin false j g)) h)
+
+-- what is at most k is at most 2 k when rounded
+doubled : (m e a c h k : ℕ) → 0 < c → 0 < h → 0 < k → a * 1 ≤ k * c
+    → (m * h + 1 * e) * (c * h) * 2 ^ 24 ≤ (a * h + 1 * c) * (e * h) * (2 ^ 24 + 1) → m ≤ 2 * k * e
+doubled m e a c h k C H K l g =
+    let s : (m * h + e) * 2 ^ 24 ≤ (k * h + 1) * e * (2 ^ 24 + 1) =
+    le-of-mul-le-mul-right {k = c * h} (omega (arith, g, mul-le-mul-left (h * e * h) l)) (mul-pos C H) in
+    le-of-mul-le-mul-right {k = h} (omega (arith, s, mul-le-mul-left e (mul-pos K H))) H
+
+pub rounded-most : (x : Fraction) (r : Float) (k : ℕ) → Rounded x r → 0 < k → x .top * 1 ≤ k * x .bottom
+    → num r ≤ 2 * k * den r
+rounded-most x r k i K l =
+    doubled (num r) (den r) (x .top) (x .bottom) (2 ^ 126) k (x .positive) (pow-pos 126) K l (i .any false .side .holds)

@@ -22,7 +22,7 @@ use Rattle.model.specs.Model.{time}
 
 -- ---- a power
 abbrev pub baseBottom : Float → Float → Float → ℕ
-baseBottom factor t s = den factor * (den t * num s)
+baseBottom factor t s = den factor * (num s * den t)
 
 abbrev pub baseTop : Float → Float → Float → ℕ
 baseTop factor t s = baseBottom factor t s + num factor * (num t * den s)
@@ -44,32 +44,36 @@ part2 c = num (c .weight2) * den (c .weight1)
 abbrev pub parts : Curve → ℕ
 parts c = part1 c + part2 c
 
--- 0.99998 m + 0.00001 with m the weighted mean of p1 / q and p2 / q
-abbrev pub squeezedTop : Curve → ℕ → ℕ → ℕ → ℕ
-squeezedTop c p1 p2 q = 99998 * (part1 c * p1 + part2 c * p2) + parts c * q
+-- 0.99998 m + 0.00001 as a fraction, with m the weighted mean of p1 / q1 and p2 / q2
+abbrev pub squeezedTop : Curve → ℕ → ℕ → ℕ → ℕ → ℕ
+squeezedTop c p1 q1 p2 q2 = 99998 * (part1 c * (p1 * q2) + part2 c * (p2 * q1)) + parts c * (q1 * q2)
 
-abbrev pub squeezedBottom : Curve → ℕ → ℕ
-squeezedBottom c q = 100000 * (parts c * q)
+abbrev pub squeezedBottom : Curve → ℕ → ℕ → ℕ
+squeezedBottom c q1 q2 = 100000 * (parts c * (q1 * q2))
 
 -- a / b is at most that of two fractions that the powers reach
 pub record RetentionGe (c : Curve) (t : Float) (a b : ℕ) : Type 0 where
   pub p1 : ℕ
+  pub q1 : ℕ
   pub p2 : ℕ
-  pub q : ℕ
-  pub some : 0 < q
-  pub first : BasePowGe (c .factor1) t (c .fast) (c .decay1) p1 q
-  pub second : BasePowGe (c .rate2) t (c .stability) (c .decay2) p2 q
-  pub least : a * squeezedBottom c q ≤ squeezedTop c p1 p2 q * b
+  pub q2 : ℕ
+  pub some1 : 0 < q1
+  pub some2 : 0 < q2
+  pub first : BasePowGe (c .factor1) t (c .fast) (c .decay1) p1 q1
+  pub second : BasePowGe (c .rate2) t (c .stability) (c .decay2) p2 q2
+  pub least : a * squeezedBottom c q1 q2 ≤ squeezedTop c p1 q1 p2 q2 * b
 
 -- a / b is at least that of two fractions that the powers do not pass
 pub record RetentionLe (c : Curve) (t : Float) (a b : ℕ) : Type 0 where
   pub p1 : ℕ
+  pub q1 : ℕ
   pub p2 : ℕ
-  pub q : ℕ
-  pub some : 0 < q
-  pub first : BasePowLe (c .factor1) t (c .fast) (c .decay1) p1 q
-  pub second : BasePowLe (c .rate2) t (c .stability) (c .decay2) p2 q
-  pub most : squeezedTop c p1 p2 q * b ≤ a * squeezedBottom c q
+  pub q2 : ℕ
+  pub some1 : 0 < q1
+  pub some2 : 0 < q2
+  pub first : BasePowLe (c .factor1) t (c .fast) (c .decay1) p1 q1
+  pub second : BasePowLe (c .rate2) t (c .stability) (c .decay2) p2 q2
+  pub most : squeezedTop c p1 q1 p2 q2 * b ≤ a * squeezedBottom c q1 q2
 
 -- ---- where the bound is claimed
 -- x is finite, not below 0, and at most k; at least 1 / k
@@ -86,14 +90,14 @@ pub record Decay (x : Float) : Type 0 where
   pub number : HasValue x true (num x) (den x)
   pub most : num x ≤ den x
 
--- times of up to 2^25 days, stabilities of at least 2^-14 (S_MIN is 0.0001), factors of up to 2^87 (e^60 is below), and
--- weights from 0 whose sum is from 2^-100 to 2^100
+-- times of up to 20,000,000 days, stabilities of at least 1 / 10001 (S_MIN is 0.0001), factors of up to 12 * 10^25 (e^60
+-- is below), and weights from 0 whose sum is from 2^-100 to 2^100
 pub record InRange (c : Curve) (t : Float) : Type 0 where
-  pub days : UpTo (2 ^ 25) (time t)
-  pub fast : FromOne/ (2 ^ 14) (c .fast)
-  pub stability : FromOne/ (2 ^ 14) (c .stability)
-  pub factor1 : UpTo (2 ^ 87) (c .factor1)
-  pub rate2 : UpTo (2 ^ 87) (c .rate2)
+  pub days : UpTo 20000000 (time t)
+  pub fast : FromOne/ 10001 (c .fast)
+  pub stability : FromOne/ 10001 (c .stability)
+  pub factor1 : UpTo (12 * 10 ^ 25) (c .factor1)
+  pub rate2 : UpTo (12 * 10 ^ 25) (c .rate2)
   pub decay1 : Decay (c .decay1)
   pub decay2 : Decay (c .decay2)
   pub weight1 : HasValue (c .weight1) false (num (c .weight1)) (den (c .weight1))
