@@ -3,7 +3,7 @@
 use mathlib.Core.Path.{_≡_, refl, sym, ap, _∙_, subst}
 use mathlib.Core.Bool.{Bool, true, false, not}
 use Prim.Native.Nat.{ℕ, zero, suc, _+_, _-_, _*_, _^_, _≤_, _<_}
-use native.Mathlib.Nat.{le-refl, le-trans, le-of-eq, add-comm, mul-pos, mul-le-mul, mul-le-mul-right, mul-le-mul-left, le-of-mul-le-mul-right, pow-zero, pow-le-pow-left}
+use native.Mathlib.Nat.{le-refl, le-trans, le-of-eq, add-comm, add-zero, zero-add, mul-pos, mul-le-mul, mul-le-mul-right, mul-le-mul-left, le-of-mul-le-mul-right, pow-zero, pow-le-pow-left}
 use native.Mathlib.Omega.{arith}
 use lib.Dec.{lit<, lit≤}
 use lib.Pow.{pow-add}
@@ -171,5 +171,27 @@ pub toward-same : (s : Bool) (k : ℕ) (x y : Fraction) → x .top * y .bottom �
 toward-same false k x y h = record { side = at-most-le k (le-of-eq h) }
 toward-same true k x y h = record { side = at-most-le k (le-of-eq (sym h)) }
 
+pub toward-exact : {s : Bool} {k : ℕ} (x y z w : Fraction) → x .top * y .bottom ≡ y .top * x .bottom
+    → z .top * w .bottom ≡ w .top * z .bottom → Toward s k y z → Toward s k x w
+toward-exact {s} {k} x y z w h g i =
+    subst (λ (j : ℕ). Toward s j x w) (add-zero k)
+    (toward-trans {j = k} {k = 0}
+    (subst (λ (j : ℕ). Toward s j x z) (zero-add k) (toward-trans {j = 0} {k = k} (toward-same s 0 x y h) i))
+    (toward-same s 0 z w g))
+
 pub toward-refl : (s : Bool) (k : ℕ) (x : Fraction) → Toward s k x x
 toward-refl s k x = toward-same s k x x refl
+
+-- ---- sums with room for what is lost below the normal numbers
+-- (x + z) + (y + z) = (x + y) + (z + z)
+rearranged : (a b c d e f : ℕ)
+    → ((a * d + c * b) * (f * f) + (e * f + e * f) * (b * d)) * (b * f * (d * f))
+    ≡ ((a * f + e * b) * (d * f) + (c * f + e * d) * (b * f)) * (b * d * (f * f))
+rearranged a b c d e f = omega arith
+
+pub toward-rooms : {s : Bool} {k : ℕ} (x x′ y y′ z : Fraction) → Toward s k (x ⊕ z) (x′ ⊕ z) → Toward s k (y ⊕ z) (y′ ⊕ z)
+    → Toward s k (x ⊕ y ⊕ (z ⊕ z)) (x′ ⊕ y′ ⊕ (z ⊕ z))
+toward-rooms {s} {k} x x′ y y′ z h g =
+    toward-exact (x ⊕ y ⊕ (z ⊕ z)) ((x ⊕ z) ⊕ (y ⊕ z)) ((x′ ⊕ z) ⊕ (y′ ⊕ z)) (x′ ⊕ y′ ⊕ (z ⊕ z))
+    (rearranged (x .top) (x .bottom) (y .top) (y .bottom) (z .top) (z .bottom))
+    (sym (rearranged (x′ .top) (x′ .bottom) (y′ .top) (y′ .bottom) (z .top) (z .bottom))) (toward-add h g)

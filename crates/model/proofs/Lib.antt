@@ -8,3 +8,5 @@ pub mod Rounding
 pub mod Powers
 pub mod Patterns
 pub mod Base
+pub mod Mean
+pub mod Retention
