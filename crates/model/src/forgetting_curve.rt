@@ -9,6 +9,7 @@ use float32::min;
 use float32::mul_add;
 ghost use mathlib.Core.Path.{_≡_};
 ghost use Rattle.model.specs.Model as Model;
+ghost use Rattle.model.specs.Accuracy.{InRange, IsRetention};
 ghost use Rattle.model.specs.Runtime as Runtime;
 
 pub struct MemoryState {
@@ -120,7 +121,8 @@ impl Curve {
 
     // The chance of recall after t days.
     pub fn retention(self, t: f32) -> f32
-        ensures { λ r. ⌜ r ≡ Model.retention self t ⌝ }
+        ensures value { λ r. ⌜ r ≡ Model.retention self t ⌝ }
+        ensures bound { λ r. ⌜ (InRange self t → IsRetention self t r) ⌝ }
     {
         squeezed(self.weighted(max(t, 0.0)) / self.total)
     }
