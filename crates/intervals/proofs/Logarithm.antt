@@ -4,33 +4,34 @@ use mathlib.Core.Path.{_≡_, refl, sym, ap, _∙_, subst}
 use mathlib.Core.Logic.{_⊎_, inl, inr}
 use mathlib.Core.Bool.{Bool, true, false, cond, _&&_, true≢false}
 use Prim.Native.Nat.{ℕ, zero, suc, _+_, _-_, _*_, _/_, _%_, _^_, _≤_, _<_, min, zero-le}
-use native.Mathlib.Nat.{le-trans, le-of-eq, le-of-lt, lt-of-lt-of-le, zero-mul, mul-comm, mul-one, mul-pos, mul-le-mul, mul-le-mul-right, mul-le-mul-left, mul-lt-mul-of-pos-right, le-of-mul-le-mul-right, mul-div-cancel, div-mul-le-self, div-add-mod', mod-lt}
+use native.Mathlib.Nat.{le-trans, le-of-eq, le-of-lt, lt-of-lt-of-le, zero-mul, mul-comm, mul-one, mul-pos, mul-le-mul}
+use native.Mathlib.Nat.{mul-le-mul-right, mul-le-mul-left, mul-lt-mul-of-pos-right, le-of-mul-le-mul-right}
+use native.Mathlib.Nat.{mul-div-cancel, div-mul-le-self, div-add-mod', mod-lt}
 use native.Mathlib.Omega.{arith}
 use borrow.Author.Tests.{le-ltb, ne-eqb}
 use lib.Dec.{T, ltb, leb, eqb, lit<, lit≤, ltb→lt}
-use lib.IntN.{ℤ, pos, negsuc, negℤ}
+use lib.IntN.{ℤ, pos, negℤ}
 use lib.Pow.{pow-pos, pow-add}
 use lib.Ieee as Ieee
-use lib.Ieee.{Float, nan, inf, fin, binary32, up, down, neg, lt, le, eq, div, fits, isNan, toSigned}
+use lib.Ieee.{Float, nan, inf, fin, binary32, up, down, neg, lt, div, fits, isNan, toSigned}
 use lib.Ieee.Exact.{HasValue, round-exact}
 use lib.Ieee.Fits.{down-pos, and-r, cond-fits, round-fits}
 use lib.Ieee.Positive.{num, den, den-pos}
 use Rattle.float32.specs.Float32.{round, clamp, max}
 use Rattle.float32.specs.Ops.{_/ᶠ_}
-use Rattle.float32.proofs.Cmp.{le-pos}
-use Rattle.float32.proofs.Casts.{not-zero}
-use Rattle.float32.proofs.Limits.{max-ge}
 use Rattle.float32.proofs.Whole.{neg-round}
-use Rattle.series.specs.Exp.{ExpGe, ExpLe, Step, sum, scale}
+use Rattle.series.specs.Exp.{ExpGe, Step, sum, scale}
 use Rattle.series.proofs.Cuts.{lt-or-ge, le-weaken, le-below, ge-above, order}
 use Rattle.elementary.specs.Ln.{lnOf}
 use Rattle.elementary.specs.Accuracy.{LnGe, LnLe, WithinLn}
 use Rattle.elementary.proofs.Laws.{ln-bound}
 use Rattle.elementary.proofs.Common.{fraction-is}
 use Rattle.model.specs.Constants.{sMin}
-use Rattle.model.proofs.Fractions.{Fraction, Toward, _⊕_, quotient, toward-trans, toward-add, toward-quotient, toward-same, toward-exact, toward-refl}
-use Rattle.model.proofs.Rounding.{Clear, val, own, Rounded, rounded, smallest, largest}
+use Rattle.model.proofs.Fractions.{Fraction, Toward, _⊕_, quotient, toward-trans, toward-add, toward-quotient}
+use Rattle.model.proofs.Fractions.{toward-same, toward-exact, toward-refl}
+use Rattle.model.proofs.Rounding.{Clear, val, Rounded, rounded, smallest}
 use Rattle.model.proofs.Patterns.{clear-bits, bits-pos}
+use Rattle.model.proofs.Ranges.{stability-in-range}
 use Rattle.intervals.specs.Bucket.{pattern, bucketIndex, stabilityBucket, logStep, lowest, highest}
 use Rattle.intervals.specs.Accuracy.{signed, IsLnBucket}
 
@@ -182,69 +183,23 @@ held-most nan t = lit≤ tt
 held-most (inf s) t = lit≤ tt
 held-most (fin s zero e) t = le-trans (le-of-eq (zero-mul (up e))) zero-le
 held-most (fin s (suc m) e) t = le-of-lt (ltb→lt (suc m * up e) (2 ^ 128 * down e)
-    (and-r (eqb (suc m % 2) 1 && ltb (suc m) (2 ^ 24) && leb (down e) (2 ^ 149)) (ltb (suc m * up e) (2 ^ 128 * down e)) t))
-
--- y ≤ x, with y above 0 and x not infinite
-from-least : (y x : Float) → Clear y → 0 < num y → T (le y x) → (x ≡ inf false → ⊥)
-    → Clear x × (num y * den x ≤ num x * den y)
-unfolding le lt eq
-from-least nan x h P t f = absurd h
-from-least (inf s) x h P t f = absurd h
-from-least (fin true m e) x h P t f = absurd (true≢false (h .0))
-from-least (fin false m e) nan h P t f = absurd t
-from-least (fin false m e) (inf true) h P t f = absurd t
-from-least (fin false m e) (inf false) h P t f = absurd (f refl)
-from-least (fin false m e) (fin true l d) h P t f =
-    absurd (not-zero (m * up e * down d) (eqb (m * up e * down d) (l * up d * down e)) (mul-pos P (down-pos d)) t)
-from-least (fin false m e) (fin false l d) h P t f = ((refl, refl), le-pos m e l d (unfold le lt eq in t))
-
-sMin-clear : Clear sMin
-unfolding Ieee.round
-sMin-clear = (refl, refl)
-
-sMin-pos : 0 < num sMin
-unfolding Ieee.round
-sMin-pos = lit< tt
-
-sMin-least : den sMin ≤ num sMin * 10001
-unfolding Ieee.round
-sMin-least = lit≤ tt
-
-sMin-number : isNan sMin ≡ false
-unfolding Ieee.round isNan
-sMin-number = refl
+    (and-r (eqb (suc m % 2) 1 && ltb (suc m) (2 ^ 24) && leb (down e) (2 ^ 149))
+    (ltb (suc m * up e) (2 ^ 128 * down e)) t))
 
 sMin-held : T (fits binary32 sMin)
 sMin-held = round-fits binary32 false 1 10000
 
-module _ (s : Float) (fs : T (fits binary32 s)) (f : s ≡ inf false → ⊥) where
-  abbrev x : Float
-  x = max s sMin
-
-  x-held : T (fits binary32 x)
-  unfolding max
-  x-held = cond-fits binary32 (isNan s) sMin (cond (lt s sMin) sMin s) sMin-held (cond-fits binary32 (lt s sMin) sMin s sMin-held fs)
-
-  x-finite : x ≡ inf false → ⊥
-  unfolding max Ieee.round
-  x-finite = go (isNan s) (lt s sMin)
-    where
-      go : (a b : Bool) → cond a sMin (cond b sMin s) ≡ inf false → ⊥
-      go true b e = subst Clear e sMin-clear
-      go false true e = subst Clear e sMin-clear
-      go false false e = f e
-
-  positive : Positive x
-  positive =
-      let w = from-least sMin x sMin-clear sMin-pos (max-ge s sMin sMin-number) x-finite in
-      record {
-        clear = w .0;
-        least = go (num x) (den x) (num sMin) (den sMin) sMin-pos (w .1) sMin-least;
-        held = x-held;
-      }
-    where
-      go : (n d a b : ℕ) → 0 < a → a * d ≤ n * b → b ≤ a * 10001 → d ≤ n * 10001
-      go n d a b A h k = le-of-mul-le-mul-right {k = a} (omega (arith, h, mul-le-mul-left n k)) A
+positive : (s : Float) → T (fits binary32 s) → (s ≡ inf false → ⊥) → Positive (max s sMin)
+unfolding max
+positive s fs f =
+    let w = stability-in-range s f in
+    record {
+      clear = w .number;
+      least = w .least;
+      held =
+          cond-fits binary32 (isNan s) sMin (cond (lt s sMin) sMin s) sMin-held
+          (cond-fits binary32 (lt s sMin) sMin s sMin-held fs);
+    }
 
 steps-small : (j h : ℕ) → 2 ^ 23 * j * 1 ≤ 89 * h → 90000 * j ≤ h
 steps-small j h l = omega (arith, l)
@@ -274,7 +229,8 @@ few : (a b n z h : ℕ) → 0 < b → 0 < h → 2 * b * n ≤ 2 * a + b → 90 *
     → n < 89004
 few a b n z h B H l k m =
     let i : a ≤ 89002 * b = le-of-mul-le-mul-right {k = h} (omega (arith, k, mul-le-mul-left b m)) H in
-    let j : n ≤ 89003 = le-of-mul-le-mul-right {k = 2 * b} (omega (arith, l, i)) (mul-pos (lit< {m = 0} {n = 2} tt) B) in
+    let j : n ≤ 89003 =
+    le-of-mul-le-mul-right {k = 2 * b} (omega (arith, l, i)) (mul-pos (lit< {m = 0} {n = 2} tt) B) in
     omega arith
 
 ln-below : (s : Bool) (x : Float) (p q a b : ℕ) → 0 < q → 0 < b → p * b ≤ a * q → LnGe s x a b → LnGe s x p q
@@ -322,11 +278,13 @@ module _ (x : Float) (p : Positive x) where
   ln-most : (s : Bool) (a : ℕ) → LnGe s x a (2 ^ 149) → a * 1 ≤ 89 * 2 ^ 149
   ln-most false a h =
       order a (2 ^ 149) 89 1 (2 ^ 128) 1 (pow-pos 149) (lit< tt) (pow-pos 128) (lit< tt)
-      (le-weaken a (2 ^ 149) (num x) (den x) (2 ^ 128) 1 (den-pos x) (le-trans (le-of-eq (mul-one (num x))) (held-most x (p .held))) h)
+      (le-weaken a (2 ^ 149) (num x) (den x) (2 ^ 128) 1 (den-pos x)
+      (le-trans (le-of-eq (mul-one (num x))) (held-most x (p .held))) h)
       top
   ln-most true a h =
       order a (2 ^ 149) 89 1 (2 ^ 128) 1 (pow-pos 149) (lit< tt) (pow-pos 128) (lit< tt)
-      (le-weaken a (2 ^ 149) (den x) (num x) (2 ^ 128) 1 num-pos (go (num x) (den x) (2 ^ 128) (p .least) (lit≤ tt)) h) top
+      (le-weaken a (2 ^ 149) (den x) (num x) (2 ^ 128) 1 num-pos (go (num x) (den x) (2 ^ 128) (p .least) (lit≤ tt)) h)
+      top
     where
       go : (n d h : ℕ) → d ≤ n * 10001 → 10001 ≤ h → d * 1 ≤ h * n
       go n d h i j = omega (arith, i, mul-le-mul-left n j)

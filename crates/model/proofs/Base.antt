@@ -1,8 +1,11 @@
 -- 1 + factor t / s, as f32 operations compute it, is within three roundings of its exact value. Assumes nothing.
-use mathlib.Core.Path.{_≡_, refl, sym, ap, _∙_, subst}
+--     exact f t s             the exact value
+--     base-near f t s         the bound
+--     base-fits, base-clear, base-least, base-most        a float from 1/2 to 2^126
+use mathlib.Core.Path.{_≡_, refl, sym}
 use mathlib.Core.Bool.{Bool, true, false}
-use Prim.Native.Nat.{ℕ, zero, suc, _+_, _-_, _*_, _^_, _≤_, _<_}
-use native.Mathlib.Nat.{le-trans, le-of-eq, mul-pos, mul-le-mul, mul-le-mul-right, mul-le-mul-left, le-of-mul-le-mul-right}
+use Prim.Native.Nat.{ℕ, _+_, _-_, _*_, _^_, _≤_, _<_}
+use native.Mathlib.Nat.{le-trans, mul-pos, mul-le-mul, mul-le-mul-right, mul-le-mul-left, le-of-mul-le-mul-right}
 use native.Mathlib.Omega.{arith}
 use lib.Dec.{T, lit<, lit≤}
 use lib.Pow.{pow-pos}
@@ -12,9 +15,11 @@ use lib.Ieee.Positive.{num, den, den-pos}
 use Rattle.float32.specs.Ops.{_+ᶠ_, _*ᶠ_, _/ᶠ_}
 use Rattle.float32.specs.Numbers.{1ᶠ}
 use Rattle.model.specs.Model.{base}
-use Rattle.model.specs.Accuracy.{UpTo, FromOne/, baseTop, baseBottom}
-use Rattle.model.proofs.Fractions.{Fraction, AtMost, Toward, _⊕_, _⊗_, quotient, _⊑_, toward-trans, toward-add, toward-mul, toward-raise, toward-same, toward-refl}
-use Rattle.model.proofs.Rounding.{Clear, val, Rounded, smallest, largest, sum-rounded, product-rounded, quotient-rounded, rounded-most}
+use Rattle.model.specs.Accuracy.{Days, Stability, Factor, baseTop, baseBottom}
+use Rattle.model.proofs.Fractions.{Fraction, Toward, _⊕_, _⊗_, quotient, _⊑_, toward-trans, toward-mul}
+use Rattle.model.proofs.Fractions.{toward-raise, toward-same, toward-refl}
+use Rattle.model.proofs.Rounding.{Clear, val, Rounded, smallest, sum-rounded, product-rounded, quotient-rounded}
+use Rattle.model.proofs.Rounding.{rounded-most}
 
 abbrev one : Fraction
 one = record { top = 1; bottom = 1; positive = pow-pos 0 }
@@ -24,10 +29,11 @@ unfolding ofBits ofFields
 one-clear = (refl, refl)
 
 -- f (x + z) = f x + f z
-spread : (a b c d e f : ℕ) → (a * c * (b * f) + a * e * (b * d)) * (b * (d * f)) ≡ a * (c * f + e * d) * (b * d * (b * f))
+spread : (a b c d e f : ℕ)
+    → (a * c * (b * f) + a * e * (b * d)) * (b * (d * f)) ≡ a * (c * f + e * d) * (b * d * (b * f))
 spread a b c d e f = omega arith
 
-module _ (f t s : Float) (F : UpTo (12 * 10 ^ 25) f) (D : UpTo 20000000 t) (S : FromOne/ 10001 s) where
+module _ (f t s : Float) (F : Factor f) (D : Days t) (S : Stability s) where
   pub some : 0 < num s
   some = go (num s) (le-trans (den-pos s) (S .least))
     where
@@ -67,7 +73,8 @@ module _ (f t s : Float) (F : UpTo (12 * 10 ^ 25) f) (D : UpTo 20000000 t) (S : 
 
   rounded2 : Rounded exact2 (f *ᶠ x)
   rounded2 =
-      product-rounded f x (F .number) (rounded1 .clear) (le-trans exact2-most (mul-le-mul-right (exact2 .bottom) (lit≤ tt)))
+      product-rounded f x (F .number) (rounded1 .clear)
+      (le-trans exact2-most (mul-le-mul-right (exact2 .bottom) (lit≤ tt)))
 
   abbrev y : Float
   y = f *ᶠ x
@@ -78,7 +85,9 @@ module _ (f t s : Float) (F : UpTo (12 * 10 ^ 25) f) (D : UpTo 20000000 t) (S : 
   -- 1 + f (t / s)
   rounded3 : Rounded (val 1ᶠ ⊕ val y) (1ᶠ +ᶠ y)
   unfolding ofBits ofFields
-  rounded3 = sum-rounded 1ᶠ y one-clear (rounded2 .clear) (go (num y) (den y) (2 * (12 * 10 ^ 25 * 400040000000)) (2 ^ 127) (den-pos y) y-most (lit≤ tt))
+  rounded3 =
+      sum-rounded 1ᶠ y one-clear (rounded2 .clear)
+      (go (num y) (den y) (2 * (12 * 10 ^ 25 * 400040000000)) (2 ^ 127) (den-pos y) y-most (lit≤ tt))
     where
       go : (n d g h : ℕ) → 0 < d → n ≤ g * d → g + 1 ≤ h → (1 * d + n * 1) * 1 ≤ h * (1 * d)
       go n d g h P i j = omega (arith, i, mul-le-mul-right d j)
@@ -99,7 +108,8 @@ module _ (f t s : Float) (F : UpTo (12 * 10 ^ 25) f) (D : UpTo 20000000 t) (S : 
       toward-raise (val f ⊗ val x) (val f ⊗ exact1) (val f ⊗ tiny) one tiny-most
       (toward-trans (toward-same b 0 (val f ⊗ val x ⊕ val f ⊗ tiny) (val f ⊗ (val x ⊕ tiny))
       (spread (num f) (den f) (num x) (den x) 1 (12 * 10 ^ 25)))
-      (toward-trans (toward-mul (toward-refl b 0 (val f)) (toward-raise (val x) exact1 smallest tiny (lit≤ tt) (rounded1 .any b)))
+      (toward-trans
+      (toward-mul (toward-refl b 0 (val f)) (toward-raise (val x) exact1 smallest tiny (lit≤ tt) (rounded1 .any b)))
       (toward-same b 0 (val f ⊗ (exact1 ⊕ tiny)) (val f ⊗ exact1 ⊕ val f ⊗ tiny)
       (sym (spread (num f) (den f) (exact1 .top) (exact1 .bottom) 1 (12 * 10 ^ 25))))))
 

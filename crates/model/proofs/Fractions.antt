@@ -1,11 +1,21 @@
--- Fractions that are within so many roundings of each other. A rounding of an f32 is a factor of at most 1 + 2^-24, up
--- or down. Assumes nothing.
-use mathlib.Core.Path.{_≡_, refl, sym, ap, _∙_, subst}
-use mathlib.Core.Bool.{Bool, true, false, not}
-use Prim.Native.Nat.{ℕ, zero, suc, _+_, _-_, _*_, _^_, _≤_, _<_}
-use native.Mathlib.Nat.{le-refl, le-trans, le-of-eq, add-comm, add-zero, zero-add, mul-pos, mul-le-mul, mul-le-mul-right, mul-le-mul-left, le-of-mul-le-mul-right, pow-zero, pow-le-pow-left}
+-- Fractions, and how many roundings apart two of them are: a rounding to an f32 is a factor of at most 1 + 2^-24, up or
+-- down, so k of them are one of at most (1 + 2^-24)^k. Sums, products and quotients keep such factors. Assumes nothing.
+--     x ⊕ y, x ⊗ y, quotient x y, x ⊑ y   sum, product, quotient, order
+--     AtMost k x y            x ≤ y (1 + 2^-24)^k
+--     Toward s k x y          the same, or y ≤ x (1 + 2^-24)^k where s is set
+--     toward-same, toward-refl            equal fractions
+--     toward-trans, toward-exact          one after the other, and between equal fractions
+--     toward-swap             the other way round
+--     toward-add, toward-mul, toward-quotient     of sums, products, quotients
+--     toward-raise            a larger number added on both sides
+--     toward-rooms            two sums with the same number, added
+use mathlib.Core.Path.{_≡_, refl, sym, ap, subst}
+use mathlib.Core.Bool.{Bool, true, false}
+use Prim.Native.Nat.{ℕ, _+_, _-_, _*_, _^_, _≤_, _<_}
+use native.Mathlib.Nat.{le-of-eq, add-comm, add-zero, zero-add, mul-pos, mul-le-mul, mul-le-mul-right, mul-le-mul-left}
+use native.Mathlib.Nat.{le-of-mul-le-mul-right, pow-le-pow-left}
 use native.Mathlib.Omega.{arith}
-use lib.Dec.{lit<, lit≤}
+use lib.Dec.{lit≤}
 use lib.Pow.{pow-add}
 
 pub record Fraction : Type 0 where
@@ -105,7 +115,8 @@ raise : (a b c d e f g h w p q : ℕ) → 0 < f → p ≤ q → g * f ≡ e * h 
     → (a * h + g * b) * (d * h) * p ≤ (c * h + g * d) * (b * h) * q
 raise a b c d e f g h w p q F P W u =
     le-of-mul-le-mul-right {k = f}
-    (go (a * h + g * b) (c * h + g * d) (h * (a * f + e * b) + w * b) (h * (c * f + e * d) + w * d) (left a b) (left c d)
+    (go (a * h + g * b) (c * h + g * d) (h * (a * f + e * b) + w * b) (h * (c * f + e * d) + w * d) (left a b)
+    (left c d)
     (raised (a * f + e * b) (c * f + e * d) b d h w p q P (le-of-mul-le-mul-right {k = f} (omega (arith, u)) F)))
     F
   where
@@ -189,8 +200,8 @@ rearranged : (a b c d e f : ℕ)
     ≡ ((a * f + e * b) * (d * f) + (c * f + e * d) * (b * f)) * (b * d * (f * f))
 rearranged a b c d e f = omega arith
 
-pub toward-rooms : {s : Bool} {k : ℕ} (x x′ y y′ z : Fraction) → Toward s k (x ⊕ z) (x′ ⊕ z) → Toward s k (y ⊕ z) (y′ ⊕ z)
-    → Toward s k (x ⊕ y ⊕ (z ⊕ z)) (x′ ⊕ y′ ⊕ (z ⊕ z))
+pub toward-rooms : {s : Bool} {k : ℕ} (x x′ y y′ z : Fraction) → Toward s k (x ⊕ z) (x′ ⊕ z)
+    → Toward s k (y ⊕ z) (y′ ⊕ z) → Toward s k (x ⊕ y ⊕ (z ⊕ z)) (x′ ⊕ y′ ⊕ (z ⊕ z))
 toward-rooms {s} {k} x x′ y y′ z h g =
     toward-exact (x ⊕ y ⊕ (z ⊕ z)) ((x ⊕ z) ⊕ (y ⊕ z)) ((x′ ⊕ z) ⊕ (y′ ⊕ z)) (x′ ⊕ y′ ⊕ (z ⊕ z))
     (rearranged (x .top) (x .bottom) (y .top) (y .bottom) (z .top) (z .bottom))

@@ -10,3 +10,4 @@ pub mod Patterns
 pub mod Base
 pub mod Mean
 pub mod Retention
+pub mod Ranges

@@ -1,23 +1,31 @@
 -- The weighted mean of two powers, squeezed, as f32 operations compute it: within so many roundings of the exact one.
--- Assumes nothing.
-use mathlib.Core.Path.{_≡_, refl, sym, ap, _∙_, subst}
+-- What is lost below the normal numbers is lost in the 0.00001 that the squeeze adds: 0.99998 m + 0.00001 is
+-- 0.99998 (m + 1 / 99998), and each sum has its part of the 1 / 99998 added on both sides. Assumes nothing.
+--     Terms w1 w2 p1 p2 total     what is asked of the weights, the powers and the sum of the weights
+--     sum, sum-pos            the exact sum of the weights
+--     ratio, exactInner       1 / 99998 and 0.99998
+--     squeezed-clear, squeezed-near       the result is a number from 0; the bound, from that of the powers
+use mathlib.Core.Path.{_≡_, refl, sym, subst}
 use mathlib.Core.Bool.{Bool, true, false}
 use Prim.Native.Nat.{ℕ, zero, suc, _+_, _-_, _*_, _^_, _≤_, _<_}
-use native.Mathlib.Nat.{add-zero, zero-add, zero-mul, mul-one, one-mul, le-trans, le-of-eq, mul-pos, mul-le-mul, mul-le-mul-right, mul-le-mul-left, le-of-mul-le-mul-right}
+use native.Mathlib.Nat.{add-zero, zero-add, zero-mul, mul-one, one-mul, le-trans, le-of-eq, mul-pos, mul-le-mul}
+use native.Mathlib.Nat.{mul-le-mul-right, mul-le-mul-left, le-of-mul-le-mul-right}
 use native.Mathlib.Omega.{arith}
-use lib.Dec.{T, lit<, lit≤}
-use lib.Pow.{pow-pos}
-use lib.Ieee.{Float, binary32, ofBits, ofFields, round, sub}
+use lib.Dec.{lit<, lit≤}
+use lib.Ieee.{Float, ofBits, ofFields, round, sub}
 use lib.Ieee.Positive.{num, den, den-pos}
 use Rattle.float32.specs.Ops.{_+ᶠ_, _*ᶠ_, _/ᶠ_}
 use Rattle.model.specs.Constants.{inner, edge}
 use Rattle.model.specs.Model.{squeezed}
-use Rattle.model.proofs.Fractions.{Fraction, AtMost, Toward, _⊕_, _⊗_, quotient, _⊑_, toward-trans, toward-add, toward-mul, toward-quotient, toward-raise, toward-rooms, toward-exact, toward-swap, toward-same, toward-refl}
-use Rattle.model.proofs.Rounding.{Clear, val, Rounded, smallest, largest, sum-rounded, product-rounded, quotient-rounded, fused-rounded, rounded-most}
+use Rattle.model.proofs.Fractions.{Fraction, Toward, _⊕_, _⊗_, quotient, _⊑_, toward-trans, toward-add}
+use Rattle.model.proofs.Fractions.{toward-mul, toward-quotient, toward-raise, toward-rooms, toward-exact}
+use Rattle.model.proofs.Fractions.{toward-swap, toward-same, toward-refl}
+use Rattle.model.proofs.Rounding.{Clear, val, Rounded, smallest, sum-rounded, product-rounded, quotient-rounded}
+use Rattle.model.proofs.Rounding.{fused-rounded, rounded-most}
 
 -- 1 / 99998, and half of it
-abbrev pub share : Fraction
-share = record { top = 1; bottom = 99998; positive = lit< tt }
+abbrev pub ratio : Fraction
+ratio = record { top = 1; bottom = 99998; positive = lit< tt }
 
 abbrev half : Fraction
 half = record { top = 1; bottom = 199996; positive = lit< tt }
@@ -30,15 +38,17 @@ divided a b c d = omega arith
 
 pub toward-divided : {s : Bool} {k : ℕ} (x y t : Fraction) (P : 0 < t .top)
     → Toward s k (x ⊕ (t ⊗ half ⊕ t ⊗ half)) (y ⊕ (t ⊗ half ⊕ t ⊗ half))
-    → Toward s k (quotient x t P ⊕ share) (quotient y t P ⊕ share)
+    → Toward s k (quotient x t P ⊕ ratio) (quotient y t P ⊕ ratio)
 toward-divided {s} {k} x y t P h =
-    toward-exact (quotient x t P ⊕ share) (quotient (x ⊕ (t ⊗ half ⊕ t ⊗ half)) t P)
-    (quotient (y ⊕ (t ⊗ half ⊕ t ⊗ half)) t P) (quotient y t P ⊕ share)
+    toward-exact (quotient x t P ⊕ ratio) (quotient (x ⊕ (t ⊗ half ⊕ t ⊗ half)) t P)
+    (quotient (y ⊕ (t ⊗ half ⊕ t ⊗ half)) t P) (quotient y t P ⊕ ratio)
     (divided (x .top) (x .bottom) (t .top) (t .bottom)) (sym (divided (y .top) (y .bottom) (t .top) (t .bottom)))
     (over h)
   where
     over : {z w : Fraction} → Toward s k z w → Toward s k (quotient z t P) (quotient w t P)
-    over {z} {w} i = subst (λ (j : ℕ). Toward s j (quotient z t P) (quotient w t P)) (add-zero k) (toward-quotient P P i (toward-refl s 0 t))
+    over {z} {w} i =
+        subst (λ (j : ℕ). Toward s j (quotient z t P) (quotient w t P)) (add-zero k)
+        (toward-quotient P P i (toward-refl s 0 t))
 
 -- w ≤ 2^100 where a sum with it is; three times that, and the sum of two such
 part-most : (a b c d g : ℕ) → 0 < d → a * d + c * b ≤ g * (b * d) → a ≤ g * b
@@ -68,11 +78,11 @@ products-most a b c d e f g h i j =
 
 -- ---- the numbers of the squeeze
 -- 0.99998 and 0.00001
-abbrev pub kappa : Fraction
-kappa = record { top = 99998; bottom = 100000; positive = lit< tt }
+abbrev pub exactInner : Fraction
+exactInner = record { top = 99998; bottom = 100000; positive = lit< tt }
 
-abbrev hundredth : Fraction
-hundredth = record { top = 1; bottom = 100000; positive = lit< tt }
+abbrev exactEdge : Fraction
+exactEdge = record { top = 1; bottom = 100000; positive = lit< tt }
 
 inner-clear : Clear inner
 unfolding ofBits ofFields round sub
@@ -94,12 +104,12 @@ edge-least : den edge ≤ num edge * 2 ^ 126
 unfolding round
 edge-least = lit≤ tt
 
-inner-near : (b : Bool) → Toward b 1 (val inner) kappa
+inner-near : (b : Bool) → Toward b 1 (val inner) exactInner
 unfolding ofBits ofFields round sub
 inner-near false = record { side = record { holds = lit≤ tt } }
 inner-near true = record { side = record { holds = lit≤ tt } }
 
-edge-near : (b : Bool) → Toward b 1 (val edge) hundredth
+edge-near : (b : Bool) → Toward b 1 (val edge) exactEdge
 unfolding round
 edge-near false = record { side = record { holds = lit≤ tt } }
 edge-near true = record { side = record { holds = lit≤ tt } }
@@ -171,7 +181,8 @@ module _ {w1 w2 p1 p2 total : Float} (g : Terms w1 w2 p1 p2 total) where
 
   total-near : (b : Bool) → Toward b 1 (val total) sum
   total-near b =
-      total-rounded .normal (le-trans (le-of-eq (one-mul (sum .bottom))) (le-trans (g .sum-least) (mul-le-mul-left (sum .top) (lit≤ tt)))) b
+      total-rounded .normal
+      (le-trans (le-of-eq (one-mul (sum .bottom))) (le-trans (g .sum-least) (mul-le-mul-left (sum .top) (lit≤ tt)))) b
 
   total-pos : 0 < num total
   total-pos = go (num total) (den total) (sum .top) (sum .bottom) (den-pos total) sum-pos (total-near true .side .holds)
@@ -183,7 +194,7 @@ module _ {w1 w2 p1 p2 total : Float} (g : Terms w1 w2 p1 p2 total) where
           none z c Z h = omega arith
       go (suc n) d a c D A h = omega arith
 
-  -- ---- the weighted powers, with the room of a half share of the sum
+  -- ---- the weighted powers, with the room of a half ratio of the sum
   abbrev room : Fraction
   room = sum ⊗ half
 
@@ -225,8 +236,11 @@ module _ {w1 w2 p1 p2 total : Float} (g : Terms w1 w2 p1 p2 total) where
   y-rounded : Rounded (val a1 ⊕ val a2) y
   y-rounded =
       sum-rounded a1 a2 (term1 .clear) (term2 .clear)
-      (le-trans (both (num a1) (den a1) (num a2) (den a2) (2 * (3 * 2 ^ 100)) (term-most w1 p1 (g .weight1) (g .power1) w1-most (g .power1-most))
-      (term-most w2 p2 (g .weight2) (g .power2) w2-most (g .power2-most))) (mul-le-mul-right (den a1 * den a2) (lit≤ tt)))
+      (le-trans
+      (both (num a1) (den a1) (num a2) (den a2) (2 * (3 * 2 ^ 100))
+      (term-most w1 p1 (g .weight1) (g .power1) w1-most (g .power1-most))
+      (term-most w2 p2 (g .weight2) (g .power2) w2-most (g .power2-most)))
+      (mul-le-mul-right (den a1 * den a2) (lit≤ tt)))
 
   -- y is near the sum of weighted fractions q1, q2, if the powers are near these
   module _ (b : Bool) (k : ℕ) (q1 q2 : Fraction) (N1 : Toward b k (val p1) q1) (N2 : Toward b k (val p2) q2) where
@@ -245,12 +259,12 @@ module _ {w1 w2 p1 p2 total : Float} (g : Terms w1 w2 p1 p2 total) where
         (toward-rooms (val a1) (val w1 ⊗ q1) (val a2) (val w2 ⊗ q2) room near1 near2)
 
     -- over the sum as it is rounded
-    mean-near : Toward b (1 + (1 + (1 + k))) (quotient (val y) (val total) total-pos ⊕ share)
-        (quotient products sum sum-pos ⊕ share)
+    mean-near : Toward b (1 + (1 + (1 + k))) (quotient (val y) (val total) total-pos ⊕ ratio)
+        (quotient products sum sum-pos ⊕ ratio)
     mean-near =
         toward-trans
         (toward-add (toward-quotient total-pos sum-pos (toward-refl b 0 (val y)) (toward-swap total-near))
-        (toward-refl b 1 share))
+        (toward-refl b 1 ratio))
         (toward-divided (val y) products sum sum-pos y-near)
 
   -- ---- the mean
@@ -264,7 +278,8 @@ module _ {w1 w2 p1 p2 total : Float} (g : Terms w1 w2 p1 p2 total) where
   mean-most =
       seven (mean .top) (mean .bottom) (products-of .top * sum .bottom) (sum .top * products-of .bottom) ((2 ^ 24) ^ 3)
       ((2 ^ 24 + 1) ^ 3) (mul-pos sum-pos (products-of .positive)) (lit< tt) (lit≤ tt)
-      (products-most (num w1) (den w1) (num w2) (den w2) (num p1) (den p1) (num p2) (den p2) (g .power1-most) (g .power2-most))
+      (products-most (num w1) (den w1) (num w2) (den w2) (num p1) (den p1) (num p2) (den p2) (g .power1-most)
+      (g .power2-most))
       (mean-near false 0 (val p1) (val p2) (toward-refl false 0 (val p1)) (toward-refl false 0 (val p2)) .side .holds)
 
   abbrev q : Float
@@ -279,9 +294,9 @@ module _ {w1 w2 p1 p2 total : Float} (g : Terms w1 w2 p1 p2 total) where
   q-most = rounded-most mean q 7 q-rounded (lit< tt) mean-most
 
   q-near : (b : Bool) (k : ℕ) (q1 q2 : Fraction) → Toward b k (val p1) q1 → Toward b k (val p2) q2
-      → Toward b (1 + (1 + (1 + (1 + k)))) (val q ⊕ share) (quotient (val w1 ⊗ q1 ⊕ val w2 ⊗ q2) sum sum-pos ⊕ share)
+      → Toward b (1 + (1 + (1 + (1 + k)))) (val q ⊕ ratio) (quotient (val w1 ⊗ q1 ⊕ val w2 ⊗ q2) sum sum-pos ⊕ ratio)
   q-near b k q1 q2 N1 N2 =
-      toward-trans (toward-raise (val q) mean smallest share (lit≤ tt) (q-rounded .any b)) (mean-near b k q1 q2 N1 N2)
+      toward-trans (toward-raise (val q) mean smallest ratio (lit≤ tt) (q-rounded .any b)) (mean-near b k q1 q2 N1 N2)
 
   -- ---- squeezed
   r-rounded : Rounded (val q ⊗ val inner ⊕ val edge) (squeezed q)
@@ -296,10 +311,12 @@ module _ {w1 w2 p1 p2 total : Float} (g : Terms w1 w2 p1 p2 total) where
 
   pub squeezed-near : (b : Bool) (k : ℕ) (q1 q2 : Fraction) → Toward b k (val p1) q1 → Toward b k (val p2) q2
       → Toward b (1 + (1 + (0 + (0 + (1 + (1 + (1 + (1 + k)))))))) (val (squeezed q))
-      (kappa ⊗ (quotient (val w1 ⊗ q1 ⊕ val w2 ⊗ q2) sum sum-pos ⊕ share))
+      (exactInner ⊗ (quotient (val w1 ⊗ q1 ⊕ val w2 ⊗ q2) sum sum-pos ⊕ ratio))
   squeezed-near b k q1 q2 N1 N2 =
       toward-trans
-      (r-rounded .normal (normal-sum (num q * num inner) (den q * den inner) (num edge) (den edge) (2 ^ 126) edge-least) b)
+      (r-rounded .normal
+      (normal-sum (num q * num inner) (den q * den inner) (num edge) (den edge) (2 ^ 126) edge-least) b)
       (toward-trans (toward-add (toward-mul (toward-refl b 0 (val q)) (inner-near b)) (edge-near b))
-      (toward-trans (toward-same b 0 (val q ⊗ kappa ⊕ hundredth) (kappa ⊗ (val q ⊕ share)) (squeezes (num q) (den q)))
-      (toward-mul (toward-refl b 0 kappa) (q-near b k q1 q2 N1 N2))))
+      (toward-trans
+      (toward-same b 0 (val q ⊗ exactInner ⊕ exactEdge) (exactInner ⊗ (val q ⊕ ratio)) (squeezes (num q) (den q)))
+      (toward-mul (toward-refl b 0 exactInner) (q-near b k q1 q2 N1 N2))))

@@ -1,15 +1,16 @@
--- What the bit pattern of a finite float is not. Assumes nothing.
+-- The bit pattern of a finite float. Assumes nothing.
+--     finite-bits x           below the infinity's, but for the sign
+--     clear-bits x, bits-pos x    with a clear sign below the infinity's, and above 0 where x is not 0
 use mathlib.Core.Path.{_≡_, refl, sym, ap, _∙_, subst}
 use mathlib.Core.Logic.{_⊎_, inl, inr}
 use mathlib.Core.Bool.{Bool, true, false, not, true≢false}
 use Prim.Native.Nat.{ℕ, zero, suc, _-_, _/_, _%_, _^_, _≤_, _<_}
 use native.Mathlib.Omega.{arith}
 use lib.Dec.{T}
-use lib.IntN.{pos}
 use lib.Ieee.{Float, nan, inf, fin, binary32, isNan, fits, ofBits, toBits}
 use lib.Ieee.Bits.{ofBits-toBits, toBits-lt}
 use lib.Ieee.Exact.{HasValue}
-use lib.Ieee.Positive.{num, den}
+use lib.Ieee.Positive.{num}
 use Rattle.series.proofs.Cuts.{lt-or-ge}
 use Rattle.series.proofs.Value.{units, value-neg}
 use Rattle.elementary.proofs.Common.{bits-of-number, infinity-is, minus-infinity-is, zero-is}

@@ -1,21 +1,23 @@
--- x^y for y from -1 to 0, computed by powf from a base that is itself rounded: within so many roundings of the exact power
--- of the exact base. Assumes nothing.
-use mathlib.Core.Path.{_≡_, refl, sym, ap, _∙_, subst}
+-- x^y for y from -1 to 0, computed by powf from a base that is itself rounded: within so many roundings of the exact
+-- power of the exact base. Assumes nothing.
+--     IsPower k a b n m p     p is within k roundings of (a / b)^(- n / m)
+--     power-of-exact x y k z  powf's x^y is, with five roundings more than x is off the exact base z
+use mathlib.Core.Path.{_≡_, sym, ap, _∙_, subst}
 use mathlib.Core.Logic.{_⊎_, inl, inr}
 use mathlib.Core.Bool.{Bool, true, false}
-use Prim.Native.Nat.{ℕ, zero, suc, _+_, _-_, _*_, _%_, _^_, _≤_, _<_}
-use native.Mathlib.Nat.{le-trans, le-of-eq, mul-pos, mul-le-mul, mul-le-mul-right, mul-le-mul-left, le-of-mul-le-mul-right, one-le-pow, pow-le-pow-left, add-sub-of-le}
+use Prim.Native.Nat.{ℕ, _+_, _-_, _*_, _^_, _≤_, _<_}
+use native.Mathlib.Nat.{le-trans, mul-pos, mul-le-mul-right, mul-le-mul-left, le-of-mul-le-mul-right, one-le-pow}
+use native.Mathlib.Nat.{pow-le-pow-left, add-sub-of-le}
 use native.Mathlib.Omega.{arith}
 use lib.Dec.{T, lit<, lit≤}
 use lib.Pow.{pow-pos, pow-add, pow-mono}
 use Rattle.series.proofs.Cuts.{mul-pow}
 use Rattle.series.proofs.Two.{root, one-pow}
-use lib.Ieee.{Float, binary32, fits, toBits}
-use lib.Ieee.Exact.{HasValue}
+use lib.Ieee.{Float, binary32, fits}
 use lib.Ieee.Positive.{num, den, den-pos}
-use Rattle.series.specs.Exp.{Near, Within}
+use Rattle.series.specs.Exp.{Within}
 use Rattle.elementary.specs.Pow.{powOf}
-use Rattle.elementary.specs.Accuracy.{signOf, RatioGe, RatioLe, PowGe, PowLe, Finite, IsPow}
+use Rattle.elementary.specs.Accuracy.{signOf, RatioGe, RatioLe, PowGe, PowLe, Finite}
 use Rattle.elementary.proofs.Common.{sign-is, fraction-is}
 use Rattle.elementary.proofs.Laws.{powf-bound}
 use Rattle.model.specs.Accuracy.{Decay}
@@ -257,7 +259,8 @@ module _ (x y : Float) (fx : T (fits binary32 x)) (fy : T (fits binary32 y)) (cx
       meet n m a b (u - 2 * J) (2 ^ 149) 2 1 (den-pos y) positive low-is (passes a b n m 2 (d .most) (lit≤ tt) ge)
 
   three : num p ≤ 3 * den p
-  three = le-of-mul-le-mul-right {k = 2 ^ 149} (at-most-three u J (num p) (den p) (2 ^ 149) is size most-two) (pow-pos 149)
+  three =
+      le-of-mul-le-mul-right {k = 2 ^ 149} (at-most-three u J (num p) (den p) (2 ^ 149) is size most-two) (pow-pos 149)
 
   abbrev steps-around : Bool → Fraction
   steps-around false = record { top = u - 2 * J; bottom = 2 ^ 149; positive = pow-pos 149 }
@@ -310,11 +313,11 @@ module _ (x y : Float) (fx : T (fits binary32 x)) (fy : T (fits binary32 y)) (cx
       where
         bounds : (s : Bool) → Bound s (z .top) (z .bottom) n m (around s)
         bounds false =
-            ge-base n m (d .most) upper lower lower-pos lower-le (z .top) (z .bottom) a b (u - 2 * J) (2 ^ 149) (den-pos x)
-            (near false .side .holds) low-is
+            ge-base n m (d .most) upper lower lower-pos lower-le (z .top) (z .bottom) a b (u - 2 * J) (2 ^ 149)
+            (den-pos x) (near false .side .holds) low-is
         bounds true =
-            le-base n m (d .most) upper lower lower-pos lower-le (z .top) (z .bottom) a b (u + 2 * J) (2 ^ 149) (den-pos x)
-            (near true .side .holds) high-is
+            le-base n m (d .most) upper lower lower-pos lower-le (z .top) (z .bottom) a b (u + 2 * J) (2 ^ 149)
+            (den-pos x) (near true .side .holds) high-is
 
         down : (s : Bool) → Toward s k (steps-around s) (around s)
         down false = record { side = record { holds = same-down (u - 2 * J) (2 ^ 149) lower upper } }

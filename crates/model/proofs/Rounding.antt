@@ -1,12 +1,21 @@
--- What an f32 operation on finite floats from 0 up does to their exact values: it rounds, by a factor of at most 1 + 2^-24
--- up or down. Below 2^-126 the factor is larger, but not that of the sum with 2^-126. Assumes nothing.
+-- What an f32 operation on finite floats from 0 up does to their exact values: it rounds, by a factor of at most
+-- 1 + 2^-24 up or down. Below 2^-126 the factor can be larger, but not once 2^-126 is added on both sides. Assumes
+-- nothing.
+--     Clear x, val x          x is finite with a clear sign; its value
+--     smallest, largest       2^-126 and 2^127
+--     Rounded x r             r is x, rounded
+--     rounded x               the kit's `round` does that, up to 2^127
+--     sum-rounded x y, product-rounded x y, quotient-rounded x y, fused-rounded x y z     and so do the operations
+--     rounded-most x r k      what is at most k is at most 2 k when rounded
 use mathlib.Core.Path.{_≡_, refl, sym, ap, _∙_, subst}
 use mathlib.Core.Logic.{_⊎_, inl, inr}
 use mathlib.Core.Bool.{Bool, true, false, true≢false}
-use Prim.Native.Nat.{ℕ, zero, suc, _+_, _-_, _*_, _/_, _%_, _^_, _≤_, _<_, compare, Ordering, Ordering·lt, Ordering·eq, Ordering·gt}
-use native.Mathlib.Nat.{le-trans, le-of-eq, le-of-lt, lt-of-lt-of-le, lt-of-le-of-lt, mul-one, mul-assoc, mul-comm, mul-pos, mul-le-mul-right, mul-le-mul-left, le-of-mul-le-mul-right, mod-lt, div-add-mod', le-div-iff-mul-le}
+use Prim.Native.Nat.{ℕ, zero, suc, _+_, _-_, _*_, _/_, _%_, _^_, _≤_, _<_, compare, Ordering, Ordering·lt, Ordering·eq}
+use Prim.Native.Nat.{Ordering·gt}
+use native.Mathlib.Nat.{le-trans, le-of-eq, mul-one, mul-assoc, mul-comm, mul-pos, mul-le-mul-right, mul-le-mul-left}
+use native.Mathlib.Nat.{le-of-mul-le-mul-right, mod-lt, div-add-mod', le-div-iff-mul-le}
 use native.Mathlib.Omega.{arith}
-use lib.Dec.{T, lit<, lit≤}
+use lib.Dec.{lit<}
 use lib.Pow.{pow-pos, pow-add}
 use borrow.Author.Tests.{ne-eqb}
 use lib.Ieee.{Float, nan, inf, fin, binary32, up, down, size, nearest, round, add, mul, div}
@@ -15,12 +24,12 @@ use lib.Ieee.Exact.{HasValue}
 use lib.Ieee.Nearest.{closest, nearest-ge}
 use lib.Ieee.Order.{drop, kept}
 use lib.Ieee.Positive.{num, den, den-pos}
-use lib.Ieee.Scale.{grid, overflow, round-val}
+use lib.Ieee.Scale.{round-val}
 use Rattle.float32.specs.Float32 as Float32
 use Rattle.float32.specs.Ops.{_+ᶠ_, _*ᶠ_, _/ᶠ_}
 use Rattle.float32.proofs.Sticky.{Cmp, cmp}
 use Rattle.float32.proofs.Sums.{sum-like}
-use Rattle.model.proofs.Fractions.{Fraction, AtMost, Toward, _⊕_, _⊗_, quotient, _⊑_}
+use Rattle.model.proofs.Fractions.{Fraction, Toward, _⊕_, _⊗_, quotient, _⊑_}
 
 -- ---- the nearest whole number is within a half
 pub record Half (q u n : ℕ) : Type 0 where
@@ -70,7 +79,8 @@ module _ (n c : ℕ) (C : 0 < c) where
 
   kept-ge : 2 ^ 23 * (c * 2 ^ k) ≤ n → 2 ^ 23 ≤ v
   kept-ge h =
-      le-trans (le-div-iff-mul-le unit-pos .1 h) (nearest-ge (n / (c * 2 ^ k)) (compare (n % (c * 2 ^ k) * 2) (c * 2 ^ k)))
+      le-trans (le-div-iff-mul-le unit-pos .1 h)
+      (nearest-ge (n / (c * 2 ^ k)) (compare (n % (c * 2 ^ k) * 2) (c * 2 ^ k)))
 
 -- ---- the same in a fraction a / c of 1, with U = 2^149, h = 2^126 and P = 2^k
 grown : (a c P v U h : ℕ) → U ≡ 2 ^ 23 * h → Half v (c * P) (a * U) → (P ≡ 1) ⊎ (2 ^ 23 * (c * P) ≤ a * U)

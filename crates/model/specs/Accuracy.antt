@@ -1,16 +1,17 @@
 -- HOW NEAR A CURVE'S RETENTION IS TO ITS EXACT VALUE. Definitions only. Assumes nothing.
 --
--- The exact retention of a curve after t days is 0.99998 (w1 B1^d1 + w2 B2^d2) / (w1 + w2) + 0.00001, where B1 is
--- 1 + factor1 t / fast, B2 is 1 + rate2 t / stability, and d1, d2 are the decays: real numbers, of the curve's f32 as they
--- are. What B^d is, is said by whole-number powers (`RatioGe`, `RatioLe` of elementary/specs/Accuracy), so that a number
--- is known by the fractions that it is at least, and those that it is at most.
+-- The exact retention of a curve after t days is the real number 0.99998 (w1 B1^d1 + w2 B2^d2) / (w1 + w2) + 0.00001,
+-- where B1 is 1 + factor1 t / fast, B2 is 1 + rate2 t / stability, and w1, w2, d1, d2 are the weights and the decays,
+-- all of them the curve's f32 as they are. What B^d is, is said by whole-number powers (`RatioGe`, `RatioLe` of
+-- elementary/specs/Accuracy): a real number is known by the fractions that it is at least, and those that it is at
+-- most.
 --     baseTop, baseBottom factor t s      1 + factor t / s as a fraction
 --     BasePowGe, BasePowLe factor t s d p q       p / q ≤ B^d, B^d ≤ p / q
 --     RetentionGe, RetentionLe c t a b    a / b ≤ the exact retention, and it is ≤ a / b
 --     InRange c t                         where the bound is claimed
 --     IsRetention c t r                   r is within a millionth of the exact retention
 use mathlib.Core.Path.{_≡_}
-use mathlib.Core.Bool.{Bool, true, false}
+use mathlib.Core.Bool.{true, false}
 use Prim.Native.Nat.{ℕ, _+_, _*_, _^_, _≤_, _<_}
 use lib.Ieee.{Float}
 use lib.Ieee.Exact.{HasValue}
@@ -76,12 +77,12 @@ pub record RetentionLe (c : Curve) (t : Float) (a b : ℕ) : Type 0 where
   pub most : squeezedTop c p1 q1 p2 q2 * b ≤ a * squeezedBottom c q1 q2
 
 -- ---- where the bound is claimed
--- x is finite, not below 0, and at most k; at least 1 / k
+-- x is finite, not below 0, and at most k, or at least 1 / k
 pub record UpTo (k : ℕ) (x : Float) : Type 0 where
   pub number : HasValue x false (num x) (den x)
   pub most : num x ≤ k * den x
 
-pub record FromOne/ (k : ℕ) (x : Float) : Type 0 where
+pub record DownTo (k : ℕ) (x : Float) : Type 0 where
   pub number : HasValue x false (num x) (den x)
   pub least : den x ≤ num x * k
 
@@ -90,14 +91,25 @@ pub record Decay (x : Float) : Type 0 where
   pub number : HasValue x true (num x) (den x)
   pub most : num x ≤ den x
 
--- times of up to 20,000,000 days, stabilities of at least 1 / 10001 (S_MIN is 0.0001), factors of up to 12 * 10^25 (e^60
--- is below), and weights from 0 whose sum is from 2^-100 to 2^100
+-- a time of up to 20,000,000 days
+abbrev pub Days : Float → Type 0
+Days t = UpTo 20000000 t
+
+-- a stability of at least 1 / 10001: S_MIN is 0.0001
+abbrev pub Stability : Float → Type 0
+Stability s = DownTo 10001 s
+
+-- a factor of up to 12 * 10^25: e^60 is below
+abbrev pub Factor : Float → Type 0
+Factor f = UpTo (12 * 10 ^ 25) f
+
+-- the sum of the weights is from 2^-100 to 2^100, and the curve's total is that sum, rounded
 pub record InRange (c : Curve) (t : Float) : Type 0 where
-  pub days : UpTo 20000000 (time t)
-  pub fast : FromOne/ 10001 (c .fast)
-  pub stability : FromOne/ 10001 (c .stability)
-  pub factor1 : UpTo (12 * 10 ^ 25) (c .factor1)
-  pub rate2 : UpTo (12 * 10 ^ 25) (c .rate2)
+  pub days : Days (time t)
+  pub fast : Stability (c .fast)
+  pub stability : Stability (c .stability)
+  pub factor1 : Factor (c .factor1)
+  pub rate2 : Factor (c .rate2)
   pub decay1 : Decay (c .decay1)
   pub decay2 : Decay (c .decay2)
   pub weight1 : HasValue (c .weight1) false (num (c .weight1)) (den (c .weight1))
