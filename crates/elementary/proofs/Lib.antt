@@ -3,3 +3,4 @@ pub mod Cubics
 pub mod Filled
 pub mod Points
 pub mod Number
+pub mod Laws

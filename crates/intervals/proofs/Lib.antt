@@ -7,3 +7,4 @@ pub mod Laws
 pub mod Count
 pub mod Schedule
 pub mod Patterns
+pub mod Logarithm

@@ -9,7 +9,12 @@ ghost use mathlib.Core.List.{[], _∷_};
 ghost use Prim.Native.Nat.{_<_, min};
 ghost use lib.ListN.{length, set, replicate};
 ghost use Rattle.intervals.specs.Table.{table, mixOf, homeOf, nextOf, sameKey, LookupContract, enterIn};
+ghost use mathlib.Core.Bool.{false};
+ghost use lib.Ieee.{inf};
+ghost use Rattle.float32.specs.Float32.{max};
+ghost use Rattle.model.specs.Constants.{sMin};
 ghost use Rattle.intervals.specs.Bucket.{pattern, bucketIndex, stabilityBucket, retentionBucket};
+ghost use Rattle.intervals.specs.Accuracy.{IsLnBucket};
 ghost use Rattle.intervals.specs.Schedule.{isBelow, isNoLess, certifiesOne, certifiesRange, allFinite, certifies, slotOf, isFull, intervalOf, entered};
 ghost use Rattle.float32.specs.Numbers.{0ᶠ};
 ghost use Rattle.model.specs.Model as Model;
@@ -60,7 +65,8 @@ pub fn bucket_index(value: f32, step: f32) -> u32
 
 // The bucket of a stability's logarithm.
 pub fn stability_bucket(stability: f32) -> u32
-    ensures { λ r. ⌜ r ≡ stabilityBucket stability ⌝ }
+    ensures value { λ r. ⌜ r ≡ stabilityBucket stability ⌝ }
+    ensures bound { λ r. ⌜ ((stability ≡ inf false → ⊥) → IsLnBucket (max stability sMin) r) ⌝ }
 {
     bucket_index(
         elementary::ln_f32(float32::max(stability, Fsrs7Runtime::S_MIN)),

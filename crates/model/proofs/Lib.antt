@@ -5,3 +5,11 @@ pub mod Laws
 pub mod Runtime
 pub mod Steps
 pub mod Doubling
+pub mod Fractions
+pub mod Rounding
+pub mod Powers
+pub mod Patterns
+pub mod Base
+pub mod Mean
+pub mod Retention
+pub mod Ranges

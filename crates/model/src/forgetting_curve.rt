@@ -15,6 +15,7 @@ ghost use lib.Ieee.{binary32, binary64};
 ghost use Rattle.float32.specs.Numbers.{1ᶠ};
 ghost use Rattle.float32.specs.Encoding.{significand, exponent};
 ghost use Rattle.model.specs.Model as Model;
+ghost use Rattle.model.specs.Accuracy.{InRange, IsRetention};
 ghost use Rattle.model.specs.Runtime as Runtime;
 
 pub struct MemoryState {
@@ -151,7 +152,8 @@ impl Curve {
 
     // The chance of recall after t days.
     pub fn retention(self, t: f32) -> f32
-        ensures { λ r. ⌜ r ≡ Model.retention self t ⌝ }
+        ensures value { λ r. ⌜ r ≡ Model.retention self t ⌝ }
+        ensures bound { λ r. ⌜ (InRange self t → IsRetention self t r) ⌝ }
     {
         squeezed(self.weighted(max(t, 0.0)) / self.total)
     }

@@ -15,7 +15,7 @@ below-requires c κs = search needs
 
 returns : tie.Need-returns
 unfolding certifiesOne ofBits ofFields round
-returns c = rw (c .below .ensures, c .before .retention .ensures, c .before .before .min .ensures)
+returns c = rw (c .below .ensures, c .before .retention .ensures .0, c .before .before .min .ensures)
 
 pub certifies-one-spec : {M : Type 1} → statement M
 certifies-one-spec = tie.close (tie.spec min-requires retention-requires below-requires returns)

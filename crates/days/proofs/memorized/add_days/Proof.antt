@@ -47,7 +47,7 @@ loop-again c =
     let start = at-loop .before .before in (
       range-turn (λ t. retention (start .args .curve) t) (start .args .last) _ _ _ _ _ _ _ _
           (at-loop .loop .inv .0) (at-loop-test .loop-test .taken) (at-from-u32 .from-u32 .ensures)
-          (at-retention .retention .ensures) (at-add-memorized .add-memorized .ensures),
+          (at-retention .retention .ensures .0) (at-add-memorized .add-memorized .ensures),
       omega arith,
     )
 

@@ -17,7 +17,7 @@ returns : tie.Need-returns
 unfolding chanceOn eventOf
 returns c = rw (
   c .event-at .ensures,
-  c .before .retention .ensures,
+  c .before .retention .ensures .0,
   c .before .before .before .from-u32 .ensures,
   c .before .before .before .before .pre,
 )

@@ -40,7 +40,7 @@ unfolding ofBits ofFields round
 loop-again c =
     let at-loop = c .before .before .before .before in
     let start = at-loop .before in
-    rw (c .before .choose .ensures, c .choose2 .ensures, c .before .before .retention .ensures)
+    rw (c .before .choose .ensures, c .choose2 .ensures, c .before .before .retention .ensures .0)
     (sym
     (halved-on (retention (start .args .self)) (start .args .desired) (at-loop .loop .left) (at-loop .loop .low) (at-loop .loop .high)
     (omega arith))

@@ -17,7 +17,7 @@ returns : tie.Need-returns
 unfolding nearEnough ofBits ofFields round
 returns c =
     rw (
-      ← c .before .before .before .retention .ensures,
+      ← c .before .before .before .retention .ensures .0,
       ← c .before .before .is-finite .ensures,
       c .before .if1 .taken,
       ← c .abs .ensures,
@@ -25,7 +25,7 @@ returns c =
 
 returns-2 : tie.Need-returns-2
 unfolding nearEnough
-returns-2 c = rw (← c .before .before .retention .ensures, ← c .before .is-finite .ensures, c .if1 .left)
+returns-2 c = rw (← c .before .before .retention .ensures .0, ← c .before .is-finite .ensures, c .if1 .left)
 
 pub near-enough-spec : {M : Type 1} → statement M
 near-enough-spec =

@@ -8,10 +8,10 @@ retention-requires c κs = search needs
 
 returns : tie.Need-returns
 unfolding ofBits ofFields round
-returns c = rw (← c .before .retention .ensures, c .if1 .taken)
+returns c = rw (← c .before .retention .ensures .0, c .if1 .taken)
 
 returns-2 : tie.Need-returns-2
-returns-2 c = rw (← c .before .retention .ensures, c .if1 .left)
+returns-2 c = rw (← c .before .retention .ensures .0, c .if1 .left)
 
 pub stays-above-spec : {M : Type 1} → statement M
 stays-above-spec = tie.close (tie.spec retention-requires returns returns-2)

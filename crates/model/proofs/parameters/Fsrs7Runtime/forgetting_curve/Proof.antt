@@ -9,7 +9,7 @@ retention-requires : tie.Need-retention-requires
 retention-requires c κs = search needs
 
 returns : tie.Need-returns
-returns c = rw (c .retention .ensures, c .before .curve .ensures)
+returns c = rw (c .retention .ensures .0, c .before .curve .ensures)
 
 pub forgetting-curve-spec : {M : Type 1} → statement M
 forgetting-curve-spec = tie.close (tie.spec curve-requires retention-requires returns)

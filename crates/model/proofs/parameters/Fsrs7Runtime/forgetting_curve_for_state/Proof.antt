@@ -9,7 +9,7 @@ retention-requires : tie.Need-retention-requires
 retention-requires c κs = search needs
 
 returns : tie.Need-returns
-returns c = rw (c .retention .ensures, c .before .curve-for-state .ensures)
+returns c = rw (c .retention .ensures .0, c .before .curve-for-state .ensures)
 
 pub forgetting-curve-for-state-spec : {M : Type 1} → statement M
 forgetting-curve-for-state-spec =
