@@ -90,7 +90,8 @@ run-refusal : (w : DrawRule) (i : Inputs) (s : State Float) → checked i s ≡ 
 run-refusal w i s e r p z =
     let R = rulesWith w (i .config) (plain (i .parameters)) in
     let fit = suits w i s (accepted i s e) in
-    let by = stops-iff w (i .config) (plain (i .parameters)) (endOf R i s) (end-sound R (fit .slots) i s) (stop.Refused r) in
+    let by = stops-iff w (i .config) (plain (i .parameters)) (endOf R i s) (end-sound R (fit .slots) i s)
+    (stop.Refused r) in
     seven-or-eight R (endOf R i s) r (by .0 (told-stop R i s fit e (stop.Refused r) p z))
     (λ c q. no-due-refusal w i s e c p (z ∙ ap (λ (y : Refusal). some (answer.Refused y p)) q))
 

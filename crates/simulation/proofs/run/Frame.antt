@@ -276,7 +276,8 @@ beyond-same R i fit s e =
 own-length : {A : Type 0} (own l : List A) (n : ℕ) → length own ≡ n → n ≤ length l → length (own ++ drop n l) ≡ length l
 own-length own l n e h = omega (arith, length-append own (drop n l), length-drop n l, e, h)
 
-own-lengths : {C : Type 0} (n span : ℕ) (x s : State C) → Exact n span x → n ≤ length (s .cards) → n ≤ length (s .counts)
+own-lengths : {C : Type 0} (n span : ℕ) (x s : State C) → Exact n span x → n ≤ length (s .cards) → n ≤ length (s
+    .counts)
     → n ≤ length (s .queue .rows) → span ≤ length (s .days) → span ≤ length (s .costs) → span ≤ length (s .memorized)
     → dueDays span ≤ length (s .due) → length (x .table .keys) ≡ length (s .table .keys)
     → length (x .table .intervals) ≡ length (s .table .intervals)
@@ -310,7 +311,12 @@ lengths-same {C = C} R i fit s e =
     omega (arith, cards-are R i s e, cards-here R i fit s s e e, new-few (i .config) kept kept-in) in
     subst (λ (z : State C). SameLengths (listsOf s) (listsOf z)) (sym (front .whole))
     (own-lengths n (R .span) own s (front .exact) (omega (arith, few, ok .cards-long))
-    (omega (arith, few, ok .counts-long)) (omega (arith, few, ok .queue-long)) (omega (arith, fit .span-is, ok .days-long))
+    (omega (arith, few, ok .counts-long)) (omega (arith, few, ok .queue-long)) (omega (
+      arith,
+      fit .span-is,
+      ok
+          .days-long,
+    ))
     (omega (arith, fit .span-is, ok .costs-long)) (omega (arith, fit .span-is, ok .memorized-long))
     (subst (λ (z : ℕ). dueDays z ≤ length (s .due)) (fit .span-is) (ok .due-long))
     (ap (λ (z : Table). length (z .keys)) (sym same) ∙ table .0)

@@ -24,7 +24,8 @@ simulate-inner-requires c κs =
     let at-enum-told = c .before .before .before .before .before .before .before .before .before in
     let at-check-entry = at-enum-told .before .before in
     let at-is-finite = at-check-entry .before in
-    let start = at-is-finite .before .before .before .before .before .before .before .before .before .before .before .before .before .before .before in
+    let start = at-is-finite .before .before .before .before .before .before .before .before .before .before .before
+    .before .before .before .before in
     let a = start .args in
     let i = inputs (a .config) (a .parameters .now) (a .retention) (a .seed) (a .existing .now)
     (a .existing-counts .now) in
@@ -65,7 +66,8 @@ returns c =
     let at-entry = c .before in
     let at-check-entry = at-entry .before .before in
     let at-is-finite = at-check-entry .before in
-    let start = at-is-finite .before .before .before .before .before .before .before .before .before .before .before .before .before .before .before in
+    let start = at-is-finite .before .before .before .before .before .before .before .before .before .before .before
+    .before .before .before .before in
     let a = start .args in
     let i = inputs (a .config) (a .parameters .now) (a .retention) (a .seed) (a .existing .now)
     (a .existing-counts .now) in
@@ -103,11 +105,14 @@ same-length-18 c = search needs
 
 returns-2 : tie.Need-returns-2
 returns-2 c =
-    let at-simulate-inner = c .before .before .before .before .before .before .before .before .before .before .before .before .before in
-    let at-enum-told = at-simulate-inner .before .before .before .before .before .before .before .before .before .before in
+    let at-simulate-inner = c .before .before .before .before .before .before .before .before .before .before .before
+    .before .before in
+    let at-enum-told = at-simulate-inner .before .before .before .before .before .before .before .before .before
+    .before in
     let at-check-entry = at-enum-told .before .before in
     let at-is-finite = at-check-entry .before in
-    let start = at-is-finite .before .before .before .before .before .before .before .before .before .before .before .before .before .before .before in
+    let start = at-is-finite .before .before .before .before .before .before .before .before .before .before .before
+    .before .before .before .before in
     let a = start .args in
     let i = inputs (a .config) (a .parameters .now) (a .retention) (a .seed) (a .existing .now)
     (a .existing-counts .now) in

@@ -142,4 +142,5 @@ returns-9 c =
 
 pub lists-ok-spec : {M : Type 1} → statement M
 lists-ok-spec = tie.close
-    (tie.spec cast-deck cast-span returns returns-2 returns-3 returns-4 returns-5 returns-6 returns-7 returns-8 due-days-requires returns-9)
+    (tie.spec cast-deck cast-span returns returns-2 returns-3 returns-4 returns-5 returns-6 returns-7 returns-8
+    due-days-requires returns-9)

@@ -13,12 +13,17 @@ use Rattle.simulation.proofs.run.run_turns.Tie as tie
 use borrow.Author.Needs.{needs}
 
 abbrev Inv-loop : tie.InvT-loop
-Inv-loop cards₀ counts₀ rows₀ days₀ costs₀ memorized₀ due₀ keys₀ intervals₀ config m len seed bound n₀ draws₀ turns₀ cards counts rows days costs memorized due keys intervals n draws turns = Going (rulesOf config (kept m)) (state (lent cards₀ counts₀ rows₀ days₀ costs₀ memorized₀ due₀ keys₀ intervals₀) len seed) bound (state (lent cards counts rows days costs memorized due keys intervals) n draws) turns
+Inv-loop cards₀ counts₀ rows₀ days₀ costs₀ memorized₀ due₀ keys₀ intervals₀ config m len seed bound n₀ draws₀ turns₀
+    cards counts rows days costs memorized due keys intervals n draws turns =
+    Going (rulesOf config (kept m))
+    (state (lent cards₀ counts₀ rows₀ days₀ costs₀ memorized₀ due₀ keys₀ intervals₀) len seed) bound
+    (state (lent cards counts rows days costs memorized due keys intervals) n draws) turns
     × SameLengths (lent cards₀ counts₀ rows₀ days₀ costs₀ memorized₀ due₀ keys₀ intervals₀)
     (lent cards counts rows days costs memorized due keys intervals)
 
 abbrev μ-loop : tie.MeasureT-loop
-μ-loop cards₀ counts₀ rows₀ days₀ costs₀ memorized₀ due₀ keys₀ intervals₀ config m len seed bound n₀ draws₀ turns₀ cards counts rows days costs memorized due keys intervals n draws turns = bound - turns
+μ-loop cards₀ counts₀ rows₀ days₀ costs₀ memorized₀ due₀ keys₀ intervals₀ config m len seed bound n₀ draws₀ turns₀
+    cards counts rows days costs memorized due keys intervals n draws turns = bound - turns
 
 loop-holds : tie.Need-loop-holds Inv-loop μ-loop
 loop-holds c =
@@ -51,62 +56,72 @@ stop-in-requires c κs = tt
 
 same-length : tie.Need-same-length Inv-loop μ-loop
 same-length c =
-    let at-turn = c .before .before .before .before .before .before .before .before .before .before .before .before .before .before .before .before in
+    let at-turn = c .before .before .before .before .before .before .before .before .before .before .before .before
+    .before .before .before .before in
     let at-loop = at-turn .before .before .before .before .before .before .before .before .before .before .before in
     at-turn .turn .kept .0 ∙ at-loop .loop .inv .1 .cards
 
 same-length-2 : tie.Need-same-length-2 Inv-loop μ-loop
 same-length-2 c =
-    let at-turn = c .before .before .before .before .before .before .before .before .before .before .before .before .before .before .before .before in
+    let at-turn = c .before .before .before .before .before .before .before .before .before .before .before .before
+    .before .before .before .before in
     let at-loop = at-turn .before .before .before .before .before .before .before .before .before .before .before in
     at-turn .turn .kept .1 .0 ∙ at-loop .loop .inv .1 .counts
 
 same-length-3 : tie.Need-same-length-3 Inv-loop μ-loop
 same-length-3 c =
-    let at-turn = c .before .before .before .before .before .before .before .before .before .before .before .before .before .before .before .before in
+    let at-turn = c .before .before .before .before .before .before .before .before .before .before .before .before
+    .before .before .before .before in
     let at-loop = at-turn .before .before .before .before .before .before .before .before .before .before .before in
     at-turn .turn .kept .1 .1 .0 ∙ at-loop .loop .inv .1 .rows
 
 same-length-4 : tie.Need-same-length-4 Inv-loop μ-loop
 same-length-4 c =
-    let at-turn = c .before .before .before .before .before .before .before .before .before .before .before .before .before .before .before .before in
+    let at-turn = c .before .before .before .before .before .before .before .before .before .before .before .before
+    .before .before .before .before in
     let at-loop = at-turn .before .before .before .before .before .before .before .before .before .before .before in
     at-turn .turn .kept .1 .1 .1 .0 ∙ at-loop .loop .inv .1 .days
 
 same-length-5 : tie.Need-same-length-5 Inv-loop μ-loop
 same-length-5 c =
-    let at-turn = c .before .before .before .before .before .before .before .before .before .before .before .before .before .before .before .before in
+    let at-turn = c .before .before .before .before .before .before .before .before .before .before .before .before
+    .before .before .before .before in
     let at-loop = at-turn .before .before .before .before .before .before .before .before .before .before .before in
     at-turn .turn .kept .1 .1 .1 .1 .0 ∙ at-loop .loop .inv .1 .costs
 
 same-length-6 : tie.Need-same-length-6 Inv-loop μ-loop
 same-length-6 c =
-    let at-turn = c .before .before .before .before .before .before .before .before .before .before .before .before .before .before .before .before in
+    let at-turn = c .before .before .before .before .before .before .before .before .before .before .before .before
+    .before .before .before .before in
     let at-loop = at-turn .before .before .before .before .before .before .before .before .before .before .before in
     at-turn .turn .kept .1 .1 .1 .1 .1 .0 ∙ at-loop .loop .inv .1 .memorized
 
 same-length-7 : tie.Need-same-length-7 Inv-loop μ-loop
 same-length-7 c =
-    let at-turn = c .before .before .before .before .before .before .before .before .before .before .before .before .before .before .before .before in
+    let at-turn = c .before .before .before .before .before .before .before .before .before .before .before .before
+    .before .before .before .before in
     let at-loop = at-turn .before .before .before .before .before .before .before .before .before .before .before in
     at-turn .turn .kept .1 .1 .1 .1 .1 .1 .0 ∙ at-loop .loop .inv .1 .due
 
 same-length-8 : tie.Need-same-length-8 Inv-loop μ-loop
 same-length-8 c =
-    let at-turn = c .before .before .before .before .before .before .before .before .before .before .before .before .before .before .before .before in
+    let at-turn = c .before .before .before .before .before .before .before .before .before .before .before .before
+    .before .before .before .before in
     let at-loop = at-turn .before .before .before .before .before .before .before .before .before .before .before in
     at-turn .turn .kept .1 .1 .1 .1 .1 .1 .1 .0 ∙ at-loop .loop .inv .1 .keys
 
 same-length-9 : tie.Need-same-length-9 Inv-loop μ-loop
 same-length-9 c =
-    let at-turn = c .before .before .before .before .before .before .before .before .before .before .before .before .before .before .before .before in
+    let at-turn = c .before .before .before .before .before .before .before .before .before .before .before .before
+    .before .before .before .before in
     let at-loop = at-turn .before .before .before .before .before .before .before .before .before .before .before in
     at-turn .turn .kept .1 .1 .1 .1 .1 .1 .1 .1 .0 ∙ at-loop .loop .inv .1 .intervals
 
 returns : tie.Need-returns Inv-loop μ-loop
 returns c =
     let at-match = c .before .before in
-    let at-turn = at-match .before .before .before .before .before .before .before .before .before .before .before .before .before .before in
+    let at-turn = at-match .before .before .before .before .before .before .before .before .before .before .before
+    .before .before .before in
     let at-loop-test = at-turn .before .before .before .before .before .before .before .before .before .before in
     let at-loop = at-loop-test .before in
     let start = at-loop .before .before .before .before .before in
@@ -119,7 +134,9 @@ returns c =
 
 add-turns : tie.Need-add-turns Inv-loop μ-loop
 add-turns c =
-    let at-loop-test = c .before .before .before .before .before .before .before .before .before .before .before .before .before .before .before .before .before .before .before .before .before .before .before .before .before .before in
+    let at-loop-test = c .before .before .before .before .before .before .before .before .before .before .before
+    .before .before .before .before .before .before .before .before .before .before .before .before .before
+    .before .before in
     let start = at-loop-test .before .before .before .before .before .before in
     omega (arith, start .fits .bound, at-loop-test .loop-test .taken)
 
@@ -129,7 +146,8 @@ loop-less c = omega arith
 loop-again : tie.Need-loop-again Inv-loop μ-loop
 loop-again c =
     let at-o = c .before in
-    let at-turn = at-o .before .before .before .before .before .before .before .before .before .before .before .before .before .before .before in
+    let at-turn = at-o .before .before .before .before .before .before .before .before .before .before .before .before
+    .before .before .before in
     let at-loop-test = at-turn .before .before .before .before .before .before .before .before .before .before in
     let at-loop = at-loop-test .before in
     let start = at-loop .before .before .before .before .before in (

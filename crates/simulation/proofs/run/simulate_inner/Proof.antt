@@ -13,7 +13,8 @@ use Rattle.simulation.proofs.run.simulate_inner.Tie as tie
 
 set-up-requires : tie.Need-set-up-requires
 set-up-requires c κs =
-    let start = c .before .before .before .before .before .before .before .before .before .before .before .before .before in
+    let start = c .before .before .before .before .before .before .before .before .before .before .before .before
+    .before in
     let a = start .args in
     let ok = accepted
     (inputs (a .config) (a .parameters .now) (a .retention) (a .seed) (a .existing .now) (a .existing-counts .now))
@@ -27,8 +28,10 @@ new-requires c κs = search needs
 
 bound-of-requires : tie.Need-bound-of-requires
 bound-of-requires c κs =
-    let at-set-up = c .before .before .before .before .before .before .before .before .before .before .before .before .before in
-    let start = at-set-up .before .before .before .before .before .before .before .before .before .before .before .before .before .before in
+    let at-set-up = c .before .before .before .before .before .before .before .before .before .before .before .before
+    .before in
+    let start = at-set-up .before .before .before .before .before .before .before .before .before .before .before
+    .before .before .before in
     let a = start .args in
     few-cards (rulesOf (a .config) (kept (c .new .result)))
     (inputs (a .config) (a .parameters .now) (a .retention) (a .seed) (a .existing .now) (a .existing-counts .now))
@@ -44,44 +47,65 @@ answer-of-requires c κs = search needs
 
 same-length : tie.Need-same-length
 same-length c =
-    let at-run-turns = c .before .before .before .before .before .before .before .before .before .before .before .before .before .before in
-    let at-set-up = at-run-turns .before .before .before .before .before .before .before .before .before .before .before .before .before .before .before .before .before .before .before .before .before .before .before .before in
+    let at-run-turns = c .before .before .before .before .before .before .before .before .before .before .before
+    .before .before .before in
+    let at-set-up = at-run-turns .before .before .before .before .before .before .before .before .before .before
+    .before .before .before .before .before .before .before .before .before .before .before .before .before
+    .before in
     at-run-turns .run-turns .kept .0 ∙ at-set-up .set-up .kept .0
 
 same-length-2 : tie.Need-same-length-2
 same-length-2 c =
-    let at-run-turns = c .before .before .before .before .before .before .before .before .before .before .before .before .before .before in
-    let at-set-up = at-run-turns .before .before .before .before .before .before .before .before .before .before .before .before .before .before .before .before .before .before .before .before .before .before .before .before in
+    let at-run-turns = c .before .before .before .before .before .before .before .before .before .before .before
+    .before .before .before in
+    let at-set-up = at-run-turns .before .before .before .before .before .before .before .before .before .before
+    .before .before .before .before .before .before .before .before .before .before .before .before .before
+    .before in
     at-run-turns .run-turns .kept .1 .0 ∙ at-set-up .set-up .kept .1 .0
 
 same-length-3 : tie.Need-same-length-3
 same-length-3 c =
-    let at-run-turns = c .before .before .before .before .before .before .before .before .before .before .before .before .before .before in
-    let at-set-up = at-run-turns .before .before .before .before .before .before .before .before .before .before .before .before .before .before .before .before .before .before .before .before .before .before .before .before in
+    let at-run-turns = c .before .before .before .before .before .before .before .before .before .before .before
+    .before .before .before in
+    let at-set-up = at-run-turns .before .before .before .before .before .before .before .before .before .before
+    .before .before .before .before .before .before .before .before .before .before .before .before .before
+    .before in
     at-run-turns .run-turns .kept .1 .1 .0 ∙ at-set-up .set-up .kept .1 .1 .0
 
 same-length-4 : tie.Need-same-length-4
 same-length-4 c =
-    let at-run-turns = c .before .before .before .before .before .before .before .before .before .before .before .before .before .before in
-    let at-set-up = at-run-turns .before .before .before .before .before .before .before .before .before .before .before .before .before .before .before .before .before .before .before .before .before .before .before .before in
+    let at-run-turns = c .before .before .before .before .before .before .before .before .before .before .before
+    .before .before .before in
+    let at-set-up = at-run-turns .before .before .before .before .before .before .before .before .before .before
+    .before .before .before .before .before .before .before .before .before .before .before .before .before
+    .before in
     at-run-turns .run-turns .kept .1 .1 .1 .0 ∙ at-set-up .set-up .kept .1 .1 .1 .0
 
 same-length-5 : tie.Need-same-length-5
 same-length-5 c =
-    let at-run-turns = c .before .before .before .before .before .before .before .before .before .before .before .before .before .before in
-    let at-set-up = at-run-turns .before .before .before .before .before .before .before .before .before .before .before .before .before .before .before .before .before .before .before .before .before .before .before .before in
+    let at-run-turns = c .before .before .before .before .before .before .before .before .before .before .before
+    .before .before .before in
+    let at-set-up = at-run-turns .before .before .before .before .before .before .before .before .before .before
+    .before .before .before .before .before .before .before .before .before .before .before .before .before
+    .before in
     at-run-turns .run-turns .kept .1 .1 .1 .1 .0 ∙ at-set-up .set-up .kept .1 .1 .1 .1 .0
 
 same-length-6 : tie.Need-same-length-6
 same-length-6 c =
-    let at-run-turns = c .before .before .before .before .before .before .before .before .before .before .before .before .before .before in
-    let at-set-up = at-run-turns .before .before .before .before .before .before .before .before .before .before .before .before .before .before .before .before .before .before .before .before .before .before .before .before in
+    let at-run-turns = c .before .before .before .before .before .before .before .before .before .before .before
+    .before .before .before in
+    let at-set-up = at-run-turns .before .before .before .before .before .before .before .before .before .before
+    .before .before .before .before .before .before .before .before .before .before .before .before .before
+    .before in
     at-run-turns .run-turns .kept .1 .1 .1 .1 .1 .0 ∙ at-set-up .set-up .kept .1 .1 .1 .1 .1 .0
 
 same-length-7 : tie.Need-same-length-7
 same-length-7 c =
-    let at-run-turns = c .before .before .before .before .before .before .before .before .before .before .before .before .before .before in
-    let at-set-up = at-run-turns .before .before .before .before .before .before .before .before .before .before .before .before .before .before .before .before .before .before .before .before .before .before .before .before in
+    let at-run-turns = c .before .before .before .before .before .before .before .before .before .before .before
+    .before .before .before in
+    let at-set-up = at-run-turns .before .before .before .before .before .before .before .before .before .before
+    .before .before .before .before .before .before .before .before .before .before .before .before .before
+    .before in
     at-run-turns .run-turns .kept .1 .1 .1 .1 .1 .1 .0 ∙ at-set-up .set-up .kept .1 .1 .1 .1 .1 .1 .0
 
 same-length-8 : tie.Need-same-length-8
@@ -92,11 +116,14 @@ same-length-9 c = search needs
 
 returns : tie.Need-returns
 returns c =
-    let at-run-turns = c .before .before .before .before .before .before .before .before .before .before .before .before .before .before in
+    let at-run-turns = c .before .before .before .before .before .before .before .before .before .before .before
+    .before .before .before in
     let at-bound-of = at-run-turns .before .before .before .before .before .before .before .before .before .before in
     let at-new = at-bound-of .before in
-    let at-set-up = at-new .before .before .before .before .before .before .before .before .before .before .before .before .before in
-    let start = at-set-up .before .before .before .before .before .before .before .before .before .before .before .before .before .before in
+    let at-set-up = at-new .before .before .before .before .before .before .before .before .before .before .before
+    .before .before in
+    let start = at-set-up .before .before .before .before .before .before .before .before .before .before .before
+    .before .before .before in
     let a = start .args in
     rw (c .answer-of .ensures, ← at-new .new .ensures)
     (inner-is (rulesOf (a .config) (kept (at-new .new .result)))

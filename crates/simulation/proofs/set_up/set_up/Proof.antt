@@ -59,7 +59,9 @@ same-length-6 c = search needs
 
 same-length-7 : tie.Need-same-length-7
 same-length-7 c =
-    let at-add-existing-cards = c .before .before .before .before .before .before .before .before .before .before .before .before .before .before .before .before .before .before .before .before .before .before .before .before .before .before .before .before .before in
+    let at-add-existing-cards = c .before .before .before .before .before .before .before .before .before .before
+    .before .before .before .before .before .before .before .before .before .before .before .before .before
+    .before .before .before .before .before .before in
     let at-first-due = at-add-existing-cards .before .before .before .before .before .before .before in
     at-add-existing-cards .add-existing-cards .kept .1 .1 .1 .0 ∙ at-first-due .first-due .kept .0
 

@@ -183,7 +183,8 @@ same-length-21 c = search needs
 
 returns-4 : tie.Need-returns-4
 returns-4 c =
-    let at-event-step = c .before .before .before .before .before .before .before .before .before .before .before .before .before in
+    let at-event-step = c .before .before .before .before .before .before .before .before .before .before .before
+    .before .before in
     let at-copy-of = at-event-step .before in
     let at-enum-told3 = at-copy-of .before .before .before .before .before .before .before .before .before .before in
     let at-decide = at-enum-told3 .before .before in
@@ -240,7 +241,8 @@ same-length-30 c = search needs
 
 returns-5 : tie.Need-returns-5
 returns-5 c =
-    let at-event-step2 = c .before .before .before .before .before .before .before .before .before .before .before .before .before in
+    let at-event-step2 = c .before .before .before .before .before .before .before .before .before .before .before
+    .before .before in
     let at-copy-of2 = at-event-step2 .before in
     let at-enum-told4 = at-copy-of2 .before .before .before .before .before .before .before .before .before .before in
     let at-decide = at-enum-told4 .before .before in
