@@ -11,3 +11,4 @@ pub mod Base
 pub mod Mean
 pub mod Retention
 pub mod Ranges
+pub mod Points
