@@ -1,11 +1,16 @@
 // The interval table, in two lists of its keys and intervals.
 use model::Fsrs7Runtime;
 ghost use mathlib.Core.Path.{_≡_};
+ghost use mathlib.Core.Bool.{false};
 ghost use lib.ListN.{length, replicate};
+ghost use lib.Ieee.{inf};
 ghost use Rattle.float32.specs.Numbers.{0ᶠ};
+ghost use Rattle.float32.specs.Float32.{max};
+ghost use Rattle.model.specs.Constants.{sMin};
 ghost use Rattle.model.specs.Model as Model;
 ghost use Rattle.intervals.specs.Table.{table};
 ghost use Rattle.intervals.specs.Bucket.{pattern, bucketIndex, stabilityBucket, retentionBucket};
+ghost use Rattle.intervals.specs.Accuracy.{IsLnBucket};
 ghost use Rattle.intervals.specs.Schedule.{certifies, slotOf, intervalOf, entered};
 
 #[no_mangle]
@@ -17,7 +22,8 @@ pub extern "C" fn drill_bucket_index(value: f32, step: f32) -> u32
 
 #[no_mangle]
 pub extern "C" fn drill_stability_bucket(stability: f32) -> u32
-    ensures { λ r. ⌜ r ≡ stabilityBucket stability ⌝ }
+    ensures value { λ r. ⌜ r ≡ stabilityBucket stability ⌝ }
+    ensures bound { λ r. ⌜ ((stability ≡ inf false → ⊥) → IsLnBucket (max stability sMin) r) ⌝ }
 {
     intervals::stability_bucket(stability)
 }

@@ -13,3 +13,4 @@ pub mod Base
 pub mod Mean
 pub mod Retention
 pub mod Ranges
+pub mod Points
