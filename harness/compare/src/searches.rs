@@ -147,6 +147,19 @@ fn stepped(call: &Call, rounds: u32, threads: usize) -> (Said, Trials) {
     (said, trials)
 }
 
+/// What the program `search_points` must print of a search, by the Rust.
+pub fn told(call: &Call, rounds: u32) -> String {
+    let (theirs, _) = reference(call, rounds);
+    let (said, last) = (theirs.said, theirs.last);
+    match (said.number, last) {
+        (0, Some(r)) => {
+            let (retention, mean, cost, memorized) = (said.retention, said.mean, r.costs[0], r.memorized[0]);
+            format!("found {retention:08x} {mean:08x} {} {cost:08x} {memorized:08x}\n", said.rounds)
+        }
+        (number, _) => format!("refused {number} {}\n", said.second),
+    }
+}
+
 fn cores() -> usize {
     std::thread::available_parallelism().map_or(1, usize::from)
 }
