@@ -1,5 +1,5 @@
-//! Writes every stored answer of the reference: stdin and stdout of the program `replay`, and what `points` and `run_points` print
-//! of it.
+//! Writes every stored answer of the reference: stdin and stdout of the program `replay`, and what `points`, `run_points` and
+//! `search_points` print of it.
 use crate::{stored_leaves, stored_points, stored_runs};
 use std::fmt::Write;
 
@@ -38,4 +38,5 @@ pub fn main(crates: &str) {
     let before = std::fs::read_to_string(&points).unwrap_or_else(|e| panic!("{points} cannot be read: {e}"));
     write(&points, &stored_points::points(&before));
     write(&format!("{crates}/run_points/stdout"), &stored_points::run_points());
+    write(&format!("{crates}/search_points/stdout"), &stored_points::search_points());
 }
