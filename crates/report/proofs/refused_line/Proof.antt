@@ -1,0 +1,67 @@
+-- `report::refused_line` meets its contract. At each return the tests and calls on the way say which case of the definition holds. Assumes nothing.
+use mathlib.Core.Path.{refl}
+use lib.ListN.{replicate}
+use Rattle.report.specs.Lines.{refusedLine}
+use Rattle.report.proofs.WriteLaws.{held, put-both}
+use borrow.Author.Needs.{needs}
+use native.Mathlib.Omega.{arith}
+use Rattle.report.proofs.refused_line.Statement.{statement}
+use Rattle.report.proofs.refused_line.Tie as tie
+
+slice-aggregate-put-number : tie.Need-slice-aggregate-put-number
+slice-aggregate-put-number c = search needs
+
+slice-aggregate-put-number-2 : tie.Need-slice-aggregate-put-number-2
+slice-aggregate-put-number-2 c = search needs
+
+wide-requires : tie.Need-wide-requires
+wide-requires c κs = search needs
+
+put-number-requires : tie.Need-put-number-requires
+put-number-requires c κs = search needs
+
+slice-aggregate-put-number-3 : tie.Need-slice-aggregate-put-number-3
+slice-aggregate-put-number-3 c = search needs
+
+slice-aggregate-put-number-4 : tie.Need-slice-aggregate-put-number-4
+slice-aggregate-put-number-4 c = search needs
+
+wide-requires-2 : tie.Need-wide-requires-2
+wide-requires-2 c κs = search needs
+
+put-number-requires-2 : tie.Need-put-number-requires-2
+put-number-requires-2 c κs = search needs
+
+slice-aggregate-put-text : tie.Need-slice-aggregate-put-text
+slice-aggregate-put-text c = search needs
+
+slice-aggregate-put-text-2 : tie.Need-slice-aggregate-put-text-2
+slice-aggregate-put-text-2 c = search needs
+
+put-text-requires : tie.Need-put-text-requires
+put-text-requires c κs = search needs
+
+returns : tie.Need-returns
+unfolding refusedLine
+returns c = held (record { bytes = c .before .put-text .last .0; len = c .before .put-text .result }) (replicate 256 0) (refusedLine (c .before .before .before .before .before .before .before .before .before .before .before .before .before .before .args .number) (c .before .before .before .before .before .before .before .before .before .before .before .before .before .before .args .second)) refl
+    (put-both (rw (c .before .before .before .before .before .before .before .before .before .before .before .wide .ensures) at (c .before .before .before .before .before .before .before .before .before .before .put-number .ensures .0))
+    (put-both (rw (c .before .before .before .before .before .before .wide2 .ensures) at (c .before .before .before .before .before .put-number2 .ensures .0))
+    (c .before .put-text .ensures)))
+    (omega (arith, c .before .put-text .ensures .place, c .before .before .before .before .before .before .before .before .before .before .put-number .ensures .1, c .before .before .before .before .before .put-number2 .ensures .1))
+
+pub refused-line-spec : {M : Type 1} → statement M
+refused-line-spec =
+    tie.close
+    (tie.spec
+    slice-aggregate-put-number
+    slice-aggregate-put-number-2
+    wide-requires
+    put-number-requires
+    slice-aggregate-put-number-3
+    slice-aggregate-put-number-4
+    wide-requires-2
+    put-number-requires-2
+    slice-aggregate-put-text
+    slice-aggregate-put-text-2
+    put-text-requires
+    returns)
