@@ -17,7 +17,7 @@ use Rattle.report.specs.Lines.{dayLine, placed, written}
 use Rattle.report.specs.Rows.{dayAt, dayLines, daysPlaced, daysWritten}
 use Rattle.report.proofs.WriteLaws.{sets-append, day-short}
 
-placed-to : (out line : List ℕ) (at n : ℕ) → placed out at line ≡ To n → (leb (at + length line) (length out) ≡ true) × (at + length line ≡ n)
+pub placed-to : (out line : List ℕ) (at n : ℕ) → placed out at line ≡ To n → (leb (at + length line) (length out) ≡ true) × (at + length line ≡ n)
 unfolding placed
 placed-to out line at n = go (leb (at + length line) (length out)) refl
   where
@@ -25,7 +25,7 @@ placed-to out line at n = go (leb (at + length line) (length out)) refl
     go true e q = (e, cc)
     go false e q = absurd (let k : _≡_ {A = ℕ} 0 1 = cc in omega arith)
 
-placed-full : (out line : List ℕ) (at : ℕ) → placed out at line ≡ Full → leb (at + length line) (length out) ≡ false
+pub placed-full : (out line : List ℕ) (at : ℕ) → placed out at line ≡ Full → leb (at + length line) (length out) ≡ false
 unfolding placed
 placed-full out line at = go (leb (at + length line) (length out)) refl
   where

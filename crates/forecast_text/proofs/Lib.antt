@@ -1,0 +1,3 @@
+pub mod Maps
+pub mod Texts
+pub mod Call

@@ -1,0 +1,42 @@
+use lib.Ieee.{round, ofBits, ofFields}
+use Rattle.forecast_text.specs.Settings.{defaultConfig}
+use borrow.Author.Needs.{needs}
+use Rattle.forecast_text.proofs.settings.default_config.Statement.{statement}
+use Rattle.forecast_text.proofs.settings.default_config.Tie as tie
+
+first-rating-prob-requires : tie.Need-first-rating-prob-requires
+first-rating-prob-requires c κs = search needs
+
+review-rating-prob-requires : tie.Need-review-rating-prob-requires
+review-rating-prob-requires c κs = search needs
+
+learning-step-transitions-requires : tie.Need-learning-step-transitions-requires
+learning-step-transitions-requires c κs = search needs
+
+relearning-step-transitions-requires : tie.Need-relearning-step-transitions-requires
+relearning-step-transitions-requires c κs = search needs
+
+state-rating-costs-requires : tie.Need-state-rating-costs-requires
+state-rating-costs-requires c κs = search needs
+
+returns : tie.Need-returns
+unfolding defaultConfig round ofBits ofFields
+returns c =
+    rw (
+      c .before .before .before .before .first-rating-prob .ensures,
+      c .before .before .before .review-rating-prob .ensures,
+      c .before .before .learning-step-transitions .ensures,
+      c .before .relearning-step-transitions .ensures,
+      c .state-rating-costs .ensures,
+    )
+
+pub default-config-spec : {M : Type 1} → statement M
+default-config-spec =
+    tie.close
+    (tie.spec
+    first-rating-prob-requires
+    review-rating-prob-requires
+    learning-step-transitions-requires
+    relearning-step-transitions-requires
+    state-rating-costs-requires
+    returns)
