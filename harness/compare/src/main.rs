@@ -19,6 +19,9 @@ mod stored;
 mod stored_leaves;
 mod stored_points;
 mod stored_runs;
+mod text;
+mod text_cases;
+mod texts;
 
 fn number(words: &[String], i: usize, default: u64) -> u64 {
     words.get(i).map_or(default, |w| w.parse().unwrap_or_else(|_| panic!("not a number: {w}")))
@@ -34,6 +37,8 @@ fn main() {
         ["bench", _, "port"] => bench::port_alone(number(&words, 1, 5)),
         ["bench", _, "tables"] => bench::tables(number(&words, 1, 5)),
         ["bench", ..] => bench::main(number(&words, 1, 5)),
+        ["texts", program, ..] => texts::main(program, number(&words, 2, 1000), number(&words, 3, 1)),
+        ["short", program] => texts::short(program),
         ["store", crates] => stored::main(crates),
         _ => panic!("a command of harness/run is needed"),
     }

@@ -1,0 +1,139 @@
+//! The built program `forecast` beside the second reading of its texts over the Rust's run.
+use crate::generate::Words;
+use crate::text::{WRONG, Wrong, answer, read};
+use crate::text_cases::varied;
+use std::collections::BTreeMap;
+use std::io::Write;
+use std::process::{Command, Stdio};
+
+/// What the program prints of a text. It must end by itself, whatever it is given.
+fn printed(program: &str, text: &[u8]) -> String {
+    let mut child = Command::new(program)
+        .stdin(Stdio::piped())
+        .stdout(Stdio::piped())
+        .spawn()
+        .unwrap_or_else(|e| panic!("{program} cannot be started: {e}"));
+    // A text that is too long is not read to its end, so that the pipe may close.
+    let _ = child.stdin.take().unwrap().write_all(text);
+    let output = child.wait_with_output().unwrap();
+    assert!(output.status.success(), "{program} ended with {} on {}", output.status, shown(text));
+    String::from_utf8(output.stdout).unwrap()
+}
+
+fn shown(text: &[u8]) -> String {
+    text.escape_ascii().to_string()
+}
+
+/// How an answer ends a text: the first line without its numbers, or the refusal.
+fn kind(answer: &str) -> String {
+    match answer.strip_prefix("(refused ") {
+        Some(rest) => format!("refused {}", rest.split(' ').next().unwrap()),
+        None => "forecast".into(),
+    }
+}
+
+/// Compares the program's answer to a text, and counts it.
+fn compare(program: &str, text: &[u8], ends: &mut BTreeMap<String, u64>) -> String {
+    let (ours, theirs) = (printed(program, text), answer(text, Wrong::Nothing));
+    if ours != theirs {
+        println!("DIFFERENCE in the text {}\nprogram {ours}reference {theirs}", shown(text));
+        std::process::exit(1)
+    }
+    *ends.entry(kind(&ours)).or_default() += 1;
+    ours
+}
+
+fn told(what: &str, n: u64, ends: &BTreeMap<String, u64>) {
+    let ends: Vec<String> = ends.iter().map(|(k, n)| format!("{n} {k}")).collect();
+    println!("texts: {n} {what} alike ({})", ends.join(", "));
+}
+
+/// Each wrong reading or printing must differ from what the program printed of some text.
+fn planted(all: &[(Vec<u8>, String)]) {
+    for wrong in WRONG {
+        let differs = |(text, ours): &&(Vec<u8>, String)| {
+            let same = read(text, wrong) == read(text, Wrong::Nothing) && ours.starts_with("(refused 11");
+            !same && *ours != answer(text, wrong)
+        };
+        if all.iter().find(differs).is_none() {
+            println!("texts: NOT SEEN: {wrong:?}");
+            std::process::exit(1)
+        }
+    }
+    println!("texts: {} wrong programs, each seen", WRONG.len());
+}
+
+/// Texts that show what chance seldom does.
+fn telling() -> Vec<Vec<u8>> {
+    let parameters = format!("(parameters {})\n", crate::cases::USUAL.map(|x| format!("{:08X}", x.to_bits())).join(" "));
+    let with = |rest: &str| (parameters.clone() + rest).into_bytes();
+    let mut all = vec![
+        b"(deck5)".to_vec(),
+        b"(deck 007)".to_vec(),
+        b"(deck\n5)".to_vec(),
+        b"(deck 4294967296)".to_vec(),
+        b"(seed 18446744073709551615)".to_vec(),
+        b"(seed 18446744073709551616)".to_vec(),
+        b"(deck 0)".to_vec(),
+        with("(deck 512)\n(span 2)"),
+        with("(deck 513)\n(span 2)"),
+        with("(deck 3)\n(span 730)"),
+        with("(deck 3)\n(span 731)"),
+        with("(deck 512)\n(span 730)"),
+        b"(parameters all 3F000000)\n(deck 512)\n(span 730)".to_vec(),
+        with("(deck 5)"),
+        with("(deck5)"),
+        with("(deck 5)\r\n\r\n(span 2)\r\n"),
+        with("(deck\n5)\n(span 2)"),
+        with("(deck 007)\n(span 3)\n(cost all 7f7fffff)"),
+        with("(deck 2)\n(span 2)\n(deck 2)"),
+        with("\n\n(deck 2) (span 2)"),
+        with("(deck 20)\n(span 5)\n(retention 7FC00000)"),
+        with("(deck 20)\n(span 5)\n(maxcost 7F800000)\n(cost all 7F7FFFFF)"),
+    ];
+    for len in [32_768, 32_769, 40_000] {
+        all.push([vec![b' '; len - 8], b"(deck 5)".to_vec()].concat());
+        all.push([vec![b'x'; len - 8], b"(deck 5)".to_vec()].concat());
+    }
+    all
+}
+
+/// The telling texts and n varied ones, and the wrong programs over them.
+pub fn main(program: &str, n: u64, seed: u64) {
+    let (mut words, mut ends, mut all) = (Words::new(seed ^ 0x7478), BTreeMap::new(), Vec::new());
+    let mut texts = telling();
+    for i in 0..n + texts.len() as u64 {
+        let text = texts.pop().unwrap_or_else(|| varied(&mut words));
+        let ours = compare(program, &text, &mut ends);
+        if i < 4000 {
+            all.push((text, ours));
+        }
+    }
+    told(&format!("varied (seed {seed})"), n, &ends);
+    planted(&all);
+}
+
+/// Calls f with every string of at most `len` of the bytes.
+fn each_string(bytes: &[u8], len: usize, text: &mut Vec<u8>, f: &mut dyn FnMut(&[u8])) {
+    f(text);
+    if text.len() < len {
+        for &b in bytes {
+            text.push(b);
+            each_string(bytes, len, text, f);
+            text.pop();
+        }
+    }
+}
+
+/// All strings of at most two bytes, and all of at most five of eight telling bytes.
+pub fn short(program: &str) {
+    let every: Vec<u8> = (0..=255).collect();
+    for (what, bytes, len) in [("of at most two bytes", &every[..], 2), ("of at most five of eight bytes", b"()\n\r d50", 5)] {
+        let (mut n, mut ends) = (0, BTreeMap::new());
+        each_string(bytes, len, &mut Vec::new(), &mut |text| {
+            compare(program, text, &mut ends);
+            n += 1;
+        });
+        told(what, n, &ends);
+    }
+}
