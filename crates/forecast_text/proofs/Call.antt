@@ -25,7 +25,8 @@ pub run-days : (s : Settings) (days : List (List ℕ)) (costs memorized : List F
     → RunDays (runWith days costs memorized s) r (l .days) (l .costs) (l .memorized)
 unfolding runWith inputsOf
 run-days s days costs memorized g w x r l eg ew ex k =
-    let k′ : RunContract (inputsOf s) (state (lists days costs memorized) 0 (s .seed)) r l = rw (sym eg, sym ew, sym ex) k in
+    let k′ : RunContract (inputsOf s) (state (lists days costs memorized) 0 (s .seed)) r l = rw
+    (sym eg, sym ew, sym ex) k in
     record {
       answer-is = k′ .result .answer;
       days-are = ap (λ (x : Lent Float). x .days) (k′ .result .lists);
@@ -34,7 +35,8 @@ run-days s days costs memorized g w x r l eg ew ex k =
     }
 
 -- the first n of the parameters: all, or none where their form is missing
-pub first-parameters : (b : Bool) (n : ℕ) (ws : List Float) → n ≡ cond b 34 0 → length ws ≡ 34 → take n ws ≡ cond b ws []
+pub first-parameters : (b : Bool) (n : ℕ) (ws : List Float) → n ≡ cond b 34 0 → length ws ≡ 34 → take n ws
+    ≡ cond b ws []
 first-parameters true n ws e h = rw e (take-all 34 ws (omega (arith, h)))
 first-parameters false n ws e h = rw e
 

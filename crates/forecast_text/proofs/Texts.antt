@@ -25,7 +25,8 @@ use Rattle.simulation.specs.declared.Progress.{Progress}
 use Rattle.simulation.specs.declared.Refusal.{Refusal}
 use Rattle.simulation.specs.Refusals.{numberOf, secondOf}
 use Rattle.forecast_text.specs.Settings.{mostSpan, within, defaultSettings, configOf}
-use Rattle.forecast_text.specs.Forecast.{room, Printed, RunDays, forecastRun, answerText, runText, verdictText, forecastText, printed, left}
+use Rattle.forecast_text.specs.Forecast.{room, Printed, RunDays, forecastRun, answerText, runText, verdictText}
+use Rattle.forecast_text.specs.Forecast.{forecastText, printed, left}
 
 -- bytes stored from the first place on
 sets-first : (out t : List ℕ) → length t ≤ length out → sets out 0 t ≡ t ++ drop (length t) out

@@ -42,6 +42,11 @@ lists days costs memorized =
 unfoldable pub runWith : List (List ℕ) → List Float → List Float → Settings → Result Float
 runWith days costs memorized s = simulated (inputsOf s) (state (lists days costs memorized) 0 (s .seed))
 
+-- the program's own lists of days
+abbrev pub lentLists : Settings → State Float
+lentLists s =
+    state (lists (replicate mostSpan (replicate 4 0)) (replicate mostSpan 0ᶠ) (replicate mostSpan 0ᶠ)) 0 (s .seed)
+
 unfoldable pub forecastRun : Settings → Result Float
 forecastRun = runWith (replicate mostSpan (replicate 4 0)) (replicate mostSpan 0ᶠ) (replicate mostSpan 0ᶠ)
 

@@ -1,4 +1,5 @@
--- What a text's settings are for a run: the values that missing forms take, and the inputs of the run. Definitions only.
+-- What a text's settings are for a run: the values that missing forms take, and the inputs of the run. Definitions
+-- only.
 --   defaultConfig          `SimulatorConfig::default`, from its decimals
 --   bitsOf, floatsOf       floats as W, and back
 --   defaultSettings        what missing forms take

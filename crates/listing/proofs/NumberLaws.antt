@@ -1,4 +1,4 @@
--- Words compared from the left, and digits read from the left. Assumes nothing.
+-- Words compared from the left, and digits read from the left.
 use mathlib.Core.Path.{_≡_, refl, ap}
 use Prim.Native.Nat.{ℕ, suc, _+_, _-_, _*_, _/_, _≤_, _<_}
 use native.Mathlib.Omega.{arith}
@@ -16,11 +16,13 @@ use Rattle.listing.specs.Numbers.{digit, digits, value, number, empty}
 
 -- ---- words
 
-pub same-on : (a b : List ℕ) (i : ℕ) → i < length a → i < length b → getD a i 0 ≡ getD b i 0 → same (drop i a) (drop i b) ≡ same (drop (i + 1) a) (drop (i + 1) b)
+pub same-on : (a b : List ℕ) (i : ℕ) → i < length a → i < length b → getD a i 0 ≡ getD b i 0
+    → same (drop i a) (drop i b) ≡ same (drop (i + 1) a) (drop (i + 1) b)
 unfolding same
 same-on a b i h k e = rw (drop-cons a i 0 h, drop-cons b i 0 k, eq-eqb (getD a i 0) (getD b i 0) e, add-one i)
 
-pub same-off : (a b : List ℕ) (i : ℕ) → i < length a → i < length b → (getD a i 0 ≡ getD b i 0 → ⊥) → same (drop i a) (drop i b) ≡ false
+pub same-off : (a b : List ℕ) (i : ℕ) → i < length a → i < length b → (getD a i 0 ≡ getD b i 0 → ⊥)
+    → same (drop i a) (drop i b) ≡ false
 unfolding same
 same-off a b i h k e = rw (drop-cons a i 0 h, drop-cons b i 0 k, ne-eqb (getD a i 0) (getD b i 0) e)
 
@@ -41,15 +43,18 @@ not-same (x ∷ a) (y ∷ b) h = go (eqb x y) (not-same a b (λ e. h (ap suc e))
 
 -- ---- digits
 
-pub digits-on : (base : ℕ) (w : List ℕ) (i : ℕ) → i < length w → digit (getD w i 0) < base → digits base (drop i w) ≡ digits base (drop (i + 1) w)
+pub digits-on : (base : ℕ) (w : List ℕ) (i : ℕ) → i < length w → digit (getD w i 0) < base → digits base (drop i w)
+    ≡ digits base (drop (i + 1) w)
 unfolding digits
 digits-on base w i h d = rw (drop-cons w i 0 h, lt-ltb (digit (getD w i 0)) base d, add-one i)
 
-pub digits-off : (base : ℕ) (w : List ℕ) (i : ℕ) → i < length w → base ≤ digit (getD w i 0) → digits base (drop i w) ≡ false
+pub digits-off : (base : ℕ) (w : List ℕ) (i : ℕ) → i < length w → base ≤ digit (getD w i 0) → digits base (drop i w)
+    ≡ false
 unfolding digits
 digits-off base w i h d = rw (drop-cons w i 0 h, le-ltb (digit (getD w i 0)) base d)
 
-pub value-on : (base v : ℕ) (w : List ℕ) (i : ℕ) → i < length w → value base v (drop i w) ≡ value base (v * base + digit (getD w i 0)) (drop (i + 1) w)
+pub value-on : (base v : ℕ) (w : List ℕ) (i : ℕ) → i < length w → value base v (drop i w)
+    ≡ value base (v * base + digit (getD w i 0)) (drop (i + 1) w)
 unfolding value
 value-on base v w i h = rw (drop-cons w i 0 h, add-one i)
 
@@ -97,7 +102,8 @@ unfolding empty
 filled [] h = absurd (omega arith)
 filled (b ∷ w) h = refl
 
-pub number-is : (base most : ℕ) (w : List ℕ) (v : ℕ) → 0 < length w → digits base w ≡ true → value base 0 w ≡ v → v ≤ most → number base most w ≡ Is v
+pub number-is : (base most : ℕ) (w : List ℕ) (v : ℕ) → 0 < length w → digits base w ≡ true → value base 0 w ≡ v
+    → v ≤ most → number base most w ≡ Is v
 unfolding number
 number-is base most w v f d e h = rw (filled w f, d, e, le-leb v most h)
 
@@ -113,7 +119,8 @@ pub number-le : (base most : ℕ) (w : List ℕ) (n : ℕ) → number base most 
 unfolding number
 number-le base most w n = go (not (empty w)) (digits base w) (leb (value base 0 w) most) refl
   where
-    go : (t u x : Bool) → leb (value base 0 w) most ≡ x → cond (t && (u && x)) (Is (value base 0 w)) Not ≡ Is n → n ≤ most
+    go : (t u x : Bool) → leb (value base 0 w) most ≡ x → cond (t && (u && x)) (Is (value base 0 w)) Not ≡ Is n
+        → n ≤ most
     go false u x e q = absurd (let k : _≡_ {A = ℕ} 0 1 = cc in omega arith)
     go true false x e q = absurd (let k : _≡_ {A = ℕ} 0 1 = cc in omega arith)
     go true true false e q = absurd (let k : _≡_ {A = ℕ} 0 1 = cc in omega arith)

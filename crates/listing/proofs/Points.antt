@@ -10,7 +10,9 @@ use Rattle.listing.specs.declared.Verdict.the-variants.{Read, Refused}
 use Rattle.listing.specs.Quoted.{bytes}
 use Rattle.listing.specs.Text.{blank, letter, inLine, lines, onto, parts, longer, inWord, same}
 use Rattle.listing.specs.Numbers.{digit, digits, value, empty, number, number32, number64, bits}
-use Rattle.listing.specs.Forms.{nameOf, placeOf, ends, closes, one, all, several, before, allOr, withNumber, setsNumber, setsFirst, setsParameters, takes, form, named, line, readAs, refusedAt, readLines, reading}
+use Rattle.listing.specs.Forms.{nameOf, placeOf, ends, closes, one, all, several, before, allOr, withNumber}
+use Rattle.listing.specs.Forms.{setsNumber, setsFirst, setsParameters, takes, form, named, line, readAs}
+use Rattle.listing.specs.Forms.{refusedAt, readLines, reading}
 
 -- some settings to start from
 base : Settings
@@ -30,23 +32,26 @@ base = record {
 
 -- ---- the case
 
-case-read : reading (bytes "(parameters all 3F000000)\n(deck 2)\n(span 1)\n(first 00000000 00000000 00000000 3F800000)\n(maxcost 41200000)\n(cost all 41000000)\n") base ≡ record {
-  settings = record {
-    deck = 2;
-    span = 1;
-    seed = 42;
-    learn = 10;
-    review = 9999;
-    retention = 0x3F666666;
-    maxcost = 0x41200000;
-    first = 0 ∷ 0 ∷ 0 ∷ 0x3F800000 ∷ [];
-    cost = replicate 12 0x41000000;
-    parameters = replicate 34 0x3F000000;
-    seen = true ∷ true ∷ true ∷ false ∷ false ∷ false ∷ false ∷ true ∷ true ∷ true ∷ [];
-  };
-  verdict = Read;
-}
-unfolding base blank letter inLine lines onto parts longer inWord same digit digits value empty number number32 number64 bits nameOf placeOf ends closes one all several before allOr withNumber setsNumber setsFirst setsParameters takes form named line readAs refusedAt readLines reading
+case-read : reading
+    (bytes "(parameters all 3F000000)\n(deck 2)\n(span 1)\n(first 00000000 00000000 00000000 3F800000)\n(maxcost 41200000)\n(cost all 41000000)\n") base ≡ record {
+      settings = record {
+        deck = 2;
+        span = 1;
+        seed = 42;
+        learn = 10;
+        review = 9999;
+        retention = 0x3F666666;
+        maxcost = 0x41200000;
+        first = 0 ∷ 0 ∷ 0 ∷ 0x3F800000 ∷ [];
+        cost = replicate 12 0x41000000;
+        parameters = replicate 34 0x3F000000;
+        seen = true ∷ true ∷ true ∷ false ∷ false ∷ false ∷ false ∷ true ∷ true ∷ true ∷ [];
+      };
+      verdict = Read;
+    }
+unfolding base blank letter inLine lines onto parts longer inWord same digit digits value empty number number32
+    number64 bits nameOf placeOf ends closes one all several before allOr withNumber setsNumber setsFirst
+    setsParameters takes form named line readAs refusedAt readLines reading
 case-read = refl
 
 -- ---- verdicts of short texts
@@ -85,5 +90,34 @@ Right [] = Unit
 Right (p ∷ ps) = (verdictOf (p .0) ≡ p .1) × Right ps
 
 all-right : Right points
-unfolding verdictOf base blank letter inLine lines onto parts longer inWord same digit digits value empty number number32 number64 bits nameOf placeOf ends closes one all several before allOr withNumber setsNumber setsFirst setsParameters takes form named line readAs refusedAt readLines reading
-all-right = (refl, (refl, (refl, (refl, (refl, (refl, (refl, (refl, (refl, (refl, (refl, (refl, (refl, (refl, (refl, (refl, (refl, (refl, (refl, (refl, (refl, (refl, tt))))))))))))))))))))))
+unfolding verdictOf base blank letter inLine lines onto parts longer inWord same digit digits value empty number
+    number32 number64 bits nameOf placeOf ends closes one all several before allOr withNumber setsNumber setsFirst
+    setsParameters takes form named line readAs refusedAt readLines reading
+all-right = (
+  refl,
+  (
+    refl,
+    (
+      refl,
+      (
+        refl,
+        (
+          refl,
+          (
+            refl,
+            (
+              refl,
+              (
+                refl,
+                (
+                  refl,
+                  (refl, (refl, (refl, (refl, (refl, (refl, (refl, (refl, (refl, (refl, (refl, (refl, (refl, tt))))))))))))),
+                ),
+              ),
+            ),
+          ),
+        ),
+      ),
+    ),
+  ),
+)

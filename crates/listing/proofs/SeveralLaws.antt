@@ -1,4 +1,4 @@
--- Words read one after the other into an array, against `several`. Assumes nothing.
+-- Words read one after the other into an array, against `several`.
 use mathlib.Core.Path.{_≡_, refl, sym, ap, _∙_}
 use Prim.Native.Nat.{ℕ, suc, _+_, _-_, _≤_, _<_}
 use native.Mathlib.Omega.{arith}
@@ -56,7 +56,8 @@ stepped : ℕ → List ℕ → Found → Several
 stepped k s (found.Is v to) = before (Is v) (several k (parts (drop to s)))
 stepped k s found.Not = none
 
-step-word : (k : ℕ) (s : List ℕ) (to : ℕ) (x : Parsed64) → before x (several k (parts (drop to s))) ≡ stepped k s (stepTo to x)
+step-word : (k : ℕ) (s : List ℕ) (to : ℕ) (x : Parsed64) → before x (several k (parts (drop to s)))
+    ≡ stepped k s (stepTo to x)
 unfolding stepped stepTo before
 step-word k s to (Is v) = refl
 step-word k s to Not = refl
@@ -72,7 +73,8 @@ step-at : (k : ℕ) (s : List ℕ) (i : ℕ) → several (suc k) (parts (drop i 
 unfolding nextBits
 step-at k s i = rw (parts-at s i) (step-piece k s (partAt s i))
 
-step-is : (k : ℕ) (s : List ℕ) (i v to : ℕ) → nextBits s i ≡ found.Is v to → several (suc k) (parts (drop i s)) ≡ before (Is v) (several k (parts (drop to s)))
+step-is : (k : ℕ) (s : List ℕ) (i v to : ℕ) → nextBits s i ≡ found.Is v to → several (suc k) (parts (drop i s))
+    ≡ before (Is v) (several k (parts (drop to s)))
 unfolding stepped
 step-is k s i v to e = step-at k s i ∙ rw e
 
@@ -82,18 +84,21 @@ step-not k s i e = step-at k s i ∙ rw e
 
 -- ---- the loop
 
-pub words-start : (k : ℕ) (ps : List Part) (values : List ℕ) → several k ps ≡ prepend (take 0 values) (several (k - 0) ps)
+pub words-start : (k : ℕ) (ps : List Part) (values : List ℕ) → several k ps
+    ≡ prepend (take 0 values) (several (k - 0) ps)
 unfolding prepend
 words-start k ps values =
     let d : k - 0 ≡ k = omega arith in
     rw d
 
-pub words-on : (s : List ℕ) (k j at v to : ℕ) (values : List ℕ) (x : Several) → j < k → j < length values → nextBits s at ≡ found.Is v to
+pub words-on : (s : List ℕ) (k j at v to : ℕ) (values : List ℕ) (x : Several) → j < k → j < length values
+    → nextBits s at ≡ found.Is v to
     → x ≡ prepend (take j values) (several (k - j) (parts (drop at s)))
     → x ≡ prepend (take (j + 1) (set values j v)) (several (k - (j + 1)) (parts (drop to s)))
 words-on s k j at v to values x h l e inv =
     let d : k - j ≡ suc (k - (j + 1)) = omega arith in
-    inv ∙ rw (d, step-is (k - (j + 1)) s at v to e, add-one j, take-suc-set values j v l) (sym (prepend-snoc (take j values) v (several (k - suc j) (parts (drop to s)))))
+    inv ∙ rw (d, step-is (k - (j + 1)) s at v to e, add-one j, take-suc-set values j v l)
+    (sym (prepend-snoc (take j values) v (several (k - suc j) (parts (drop to s)))))
 
 pub words-off : (s : List ℕ) (k j at : ℕ) (values : List ℕ) (x : Several) → j < k → nextBits s at ≡ found.Not
     → x ≡ prepend (take j values) (several (k - j) (parts (drop at s))) → none ≡ x
@@ -101,7 +106,8 @@ words-off s k j at values x h e inv =
     let d : k - j ≡ suc (k - (j + 1)) = omega arith in
     sym (inv ∙ rw (d, step-not (k - (j + 1)) s at e) (prepend-none (take j values)))
 
-pub words-end : (s : List ℕ) (k j at : ℕ) (values : List ℕ) (x : Several) (ok : Bool) → j ≤ k → k ≤ j → ok ≡ closes (parts (drop at s))
+pub words-end : (s : List ℕ) (k j at : ℕ) (values : List ℕ) (x : Several) (ok : Bool) → j ≤ k → k ≤ j → ok
+    ≡ closes (parts (drop at s))
     → x ≡ prepend (take j values) (several (k - j) (parts (drop at s))) → cond ok (these (take k values)) none ≡ x
 unfolding several
 words-end s k j at values x ok h l e inv =

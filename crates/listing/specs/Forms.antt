@@ -1,6 +1,7 @@
--- The forms of a text and what they set, and the reading of a text. Assumes nothing.
+-- The forms of a text and what they set, and the reading of a text.
 --   nameOf w        the form's name that a word is
---   one f, all, several k   what stands behind a name, to the closing bracket and the end of the line: one word, "all W", k Ws
+-- one f, all, several k what stands behind a name, to the closing bracket and the end of the line: one word, "all W", k
+-- Ws
 --   takes n ps s    what the form n with those parts makes of the settings s: the table of the ten forms
 --   form n ps s     the same, wrong where the name was seen before
 --   line ps s       a line: blanks, or one form
@@ -14,12 +15,14 @@ use lib.Dec.{ltb, leb}
 use Rattle.listing.specs.declared.Parsed64.{Parsed64}
 use Rattle.listing.specs.declared.Parsed64.the-variants.{Is, Not}
 use Rattle.listing.specs.declared.Name.{Name}
-use Rattle.listing.specs.declared.Name.the-variants.{Parameters, Deck, Span, Seed, Learn, Review, Retention, Maxcost, First, Cost, Unknown}
+use Rattle.listing.specs.declared.Name.the-variants.{Parameters, Deck, Span, Seed, Learn, Review, Retention}
+use Rattle.listing.specs.declared.Name.the-variants.{Maxcost, First, Cost, Unknown}
 use Rattle.listing.specs.declared.Settings.{Settings}
 use Rattle.listing.specs.declared.LineResult.{LineResult}
 use Rattle.listing.specs.declared.Reading.{Reading}
 use Rattle.listing.specs.declared.Verdict.the-variants.{Read, Refused}
-use Rattle.listing.specs.With.{withDeck, withSpan, withSeed, withLearn, withReview, withRetention, withMaxcost, withFirst, withCost, withParameters, withSeen}
+use Rattle.listing.specs.With.{withDeck, withSpan, withSeed, withLearn, withReview, withRetention, withMaxcost}
+use Rattle.listing.specs.With.{withFirst, withCost, withParameters, withSeen}
 use Rattle.listing.specs.Text.{Part, opened, closed, word, parts, lines, same}
 use Rattle.listing.specs.Numbers.{number64, number32, bits}
 

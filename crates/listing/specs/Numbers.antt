@@ -1,4 +1,4 @@
--- N and W: a word as a number. Assumes nothing.
+-- N and W: a word as a number.
 --   number base most w   one or more digits to the base that say a number of at most `most`
 --   number32, number64   N
 --   bits            W, as the f32's bits

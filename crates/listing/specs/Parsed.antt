@@ -1,4 +1,4 @@
--- What the code's own types hold, for its contracts. `Forms` has the grammar. Assumes nothing.
+-- What the code's own types hold, for its contracts. `Forms` has the grammar.
 use Prim.Native.Nat.{ℕ}
 use mathlib.Core.Bool.{cond}
 use mathlib.Core.List.{List}

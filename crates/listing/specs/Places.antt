@@ -1,4 +1,4 @@
--- Parts of a line by their places, as the reader finds them. Serves the code's contracts; `Text` has the grammar. Assumes nothing.
+-- Parts of a line by their places, as the reader finds them. Serves the code's contracts; `Text` has the grammar.
 use Prim.Native.Nat.{ℕ, _+_, _-_}
 use mathlib.Core.Bool.{cond}
 use mathlib.Core.List.{List, [], _∷_}

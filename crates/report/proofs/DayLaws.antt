@@ -1,4 +1,4 @@
--- What is written for a day reads back: its line has the day's numbers as words, which say the numbers. Assumes nothing.
+-- What is written for a day reads back: its line has the day's numbers as words, which say the numbers.
 use Rattle.listing.specs.Quoted.{bytes}
 use mathlib.Core.Path.{_≡_, refl}
 use Prim.Native.Nat.{ℕ, _<_}
@@ -15,7 +15,8 @@ use Rattle.report.specs.Digits.{decimal, hex}
 use Rattle.report.specs.Lines.{dayLine}
 use Rattle.report.specs.DayText.{bracketed, dayParts, dayText}
 use Rattle.report.proofs.DigitLaws.{number32-back, bits-back}
-use Rattle.report.proofs.TextLaws.{decimal-word, hex-word, word-then, noFeed, noFeed-append, solid-noFeed, line-then, none-left}
+use Rattle.report.proofs.TextLaws.{decimal-word, hex-word, word-then, noFeed, noFeed-append, solid-noFeed}
+use Rattle.report.proofs.TextLaws.{line-then, none-left}
 
 -- ---- labels
 
@@ -35,7 +36,8 @@ label-correct : (t : List ℕ) → parts ((bytes ") (correct ") ++ t) ≡ closed
 unfolding parts blank letter inWord longer
 label-correct t = refl
 
-label-introduced : (t : List ℕ) → parts ((bytes ") (introduced ") ++ t) ≡ closed ∷ opened ∷ word (bytes "introduced") ∷ parts t
+label-introduced : (t : List ℕ) → parts ((bytes ") (introduced ") ++ t)
+    ≡ closed ∷ opened ∷ word (bytes "introduced") ∷ parts t
 unfolding parts blank letter inWord longer
 label-introduced t = refl
 
@@ -51,23 +53,58 @@ closing : parts (41 ∷ 41 ∷ []) ≡ closed ∷ closed ∷ []
 unfolding parts blank
 closing = refl
 
-stops-day : (d : Day) → inWord ((bytes " (learn ") ++ (decimal (d .learn) ++ ((bytes ") (review ") ++ (decimal (d .review) ++ ((bytes ") (correct ") ++ (decimal (d .correct) ++ ((bytes ") (introduced ") ++ (decimal (d .introduced) ++ ((bytes ") (cost ") ++ (hex (toBits binary32 (d .cost)) ++ ((bytes ") (held ") ++ (hex (toBits binary32 (d .held)) ++ (41 ∷ 41 ∷ []))))))))))))) ≡ false
+stops-day : (d : Day)
+    → inWord ((bytes " (learn ") ++
+    (decimal (d .learn) ++
+    ((bytes ") (review ") ++
+    (decimal (d .review) ++
+    ((bytes ") (correct ") ++
+    (decimal (d .correct) ++
+    ((bytes ") (introduced ") ++
+    (decimal (d .introduced) ++
+    ((bytes ") (cost ") ++
+    (hex (toBits binary32 (d .cost)) ++
+    ((bytes ") (held ") ++ (hex (toBits binary32 (d .held)) ++ (41 ∷ 41 ∷ []))))))))))))) ≡ false
 unfolding inWord letter blank
 stops-day d = refl
 
-stops-learn : (d : Day) → inWord ((bytes ") (review ") ++ (decimal (d .review) ++ ((bytes ") (correct ") ++ (decimal (d .correct) ++ ((bytes ") (introduced ") ++ (decimal (d .introduced) ++ ((bytes ") (cost ") ++ (hex (toBits binary32 (d .cost)) ++ ((bytes ") (held ") ++ (hex (toBits binary32 (d .held)) ++ (41 ∷ 41 ∷ []))))))))))) ≡ false
+stops-learn : (d : Day)
+    → inWord ((bytes ") (review ") ++
+    (decimal (d .review) ++
+    ((bytes ") (correct ") ++
+    (decimal (d .correct) ++
+    ((bytes ") (introduced ") ++
+    (decimal (d .introduced) ++
+    ((bytes ") (cost ") ++
+    (hex (toBits binary32 (d .cost)) ++
+    ((bytes ") (held ") ++ (hex (toBits binary32 (d .held)) ++ (41 ∷ 41 ∷ []))))))))))) ≡ false
 unfolding inWord letter blank
 stops-learn d = refl
 
-stops-review : (d : Day) → inWord ((bytes ") (correct ") ++ (decimal (d .correct) ++ ((bytes ") (introduced ") ++ (decimal (d .introduced) ++ ((bytes ") (cost ") ++ (hex (toBits binary32 (d .cost)) ++ ((bytes ") (held ") ++ (hex (toBits binary32 (d .held)) ++ (41 ∷ 41 ∷ []))))))))) ≡ false
+stops-review : (d : Day)
+    → inWord ((bytes ") (correct ") ++
+    (decimal (d .correct) ++
+    ((bytes ") (introduced ") ++
+    (decimal (d .introduced) ++
+    ((bytes ") (cost ") ++
+    (hex (toBits binary32 (d .cost)) ++
+    ((bytes ") (held ") ++ (hex (toBits binary32 (d .held)) ++ (41 ∷ 41 ∷ []))))))))) ≡ false
 unfolding inWord letter blank
 stops-review d = refl
 
-stops-correct : (d : Day) → inWord ((bytes ") (introduced ") ++ (decimal (d .introduced) ++ ((bytes ") (cost ") ++ (hex (toBits binary32 (d .cost)) ++ ((bytes ") (held ") ++ (hex (toBits binary32 (d .held)) ++ (41 ∷ 41 ∷ []))))))) ≡ false
+stops-correct : (d : Day)
+    → inWord ((bytes ") (introduced ") ++
+    (decimal (d .introduced) ++
+    ((bytes ") (cost ") ++
+    (hex (toBits binary32 (d .cost)) ++ ((bytes ") (held ") ++ (hex (toBits binary32 (d .held)) ++ (41 ∷ 41 ∷ [])))))))
+    ≡ false
 unfolding inWord letter blank
 stops-correct d = refl
 
-stops-introduced : (d : Day) → inWord ((bytes ") (cost ") ++ (hex (toBits binary32 (d .cost)) ++ ((bytes ") (held ") ++ (hex (toBits binary32 (d .held)) ++ (41 ∷ 41 ∷ []))))) ≡ false
+stops-introduced : (d : Day)
+    → inWord ((bytes ") (cost ") ++
+    (hex (toBits binary32 (d .cost)) ++ ((bytes ") (held ") ++ (hex (toBits binary32 (d .held)) ++ (41 ∷ 41 ∷ [])))))
+    ≡ false
 unfolding inWord letter blank
 stops-introduced d = refl
 
@@ -84,7 +121,114 @@ stops-held d = refl
 day-parts : (d : Day) → parts (dayText d) ≡ dayParts d
 unfolding dayText dayParts bracketed
 day-parts d =
-    rw (label-day (decimal (d .day) ++ ((bytes " (learn ") ++ (decimal (d .learn) ++ ((bytes ") (review ") ++ (decimal (d .review) ++ ((bytes ") (correct ") ++ (decimal (d .correct) ++ ((bytes ") (introduced ") ++ (decimal (d .introduced) ++ ((bytes ") (cost ") ++ (hex (toBits binary32 (d .cost)) ++ ((bytes ") (held ") ++ (hex (toBits binary32 (d .held)) ++ (41 ∷ 41 ∷ [])))))))))))))), word-then (decimal (d .day)) ((bytes " (learn ") ++ (decimal (d .learn) ++ ((bytes ") (review ") ++ (decimal (d .review) ++ ((bytes ") (correct ") ++ (decimal (d .correct) ++ ((bytes ") (introduced ") ++ (decimal (d .introduced) ++ ((bytes ") (cost ") ++ (hex (toBits binary32 (d .cost)) ++ ((bytes ") (held ") ++ (hex (toBits binary32 (d .held)) ++ (41 ∷ 41 ∷ []))))))))))))) (decimal-word (d .day)) (stops-day d), label-learn (decimal (d .learn) ++ ((bytes ") (review ") ++ (decimal (d .review) ++ ((bytes ") (correct ") ++ (decimal (d .correct) ++ ((bytes ") (introduced ") ++ (decimal (d .introduced) ++ ((bytes ") (cost ") ++ (hex (toBits binary32 (d .cost)) ++ ((bytes ") (held ") ++ (hex (toBits binary32 (d .held)) ++ (41 ∷ 41 ∷ [])))))))))))), word-then (decimal (d .learn)) ((bytes ") (review ") ++ (decimal (d .review) ++ ((bytes ") (correct ") ++ (decimal (d .correct) ++ ((bytes ") (introduced ") ++ (decimal (d .introduced) ++ ((bytes ") (cost ") ++ (hex (toBits binary32 (d .cost)) ++ ((bytes ") (held ") ++ (hex (toBits binary32 (d .held)) ++ (41 ∷ 41 ∷ []))))))))))) (decimal-word (d .learn)) (stops-learn d), label-review (decimal (d .review) ++ ((bytes ") (correct ") ++ (decimal (d .correct) ++ ((bytes ") (introduced ") ++ (decimal (d .introduced) ++ ((bytes ") (cost ") ++ (hex (toBits binary32 (d .cost)) ++ ((bytes ") (held ") ++ (hex (toBits binary32 (d .held)) ++ (41 ∷ 41 ∷ [])))))))))), word-then (decimal (d .review)) ((bytes ") (correct ") ++ (decimal (d .correct) ++ ((bytes ") (introduced ") ++ (decimal (d .introduced) ++ ((bytes ") (cost ") ++ (hex (toBits binary32 (d .cost)) ++ ((bytes ") (held ") ++ (hex (toBits binary32 (d .held)) ++ (41 ∷ 41 ∷ []))))))))) (decimal-word (d .review)) (stops-review d), label-correct (decimal (d .correct) ++ ((bytes ") (introduced ") ++ (decimal (d .introduced) ++ ((bytes ") (cost ") ++ (hex (toBits binary32 (d .cost)) ++ ((bytes ") (held ") ++ (hex (toBits binary32 (d .held)) ++ (41 ∷ 41 ∷ [])))))))), word-then (decimal (d .correct)) ((bytes ") (introduced ") ++ (decimal (d .introduced) ++ ((bytes ") (cost ") ++ (hex (toBits binary32 (d .cost)) ++ ((bytes ") (held ") ++ (hex (toBits binary32 (d .held)) ++ (41 ∷ 41 ∷ []))))))) (decimal-word (d .correct)) (stops-correct d), label-introduced (decimal (d .introduced) ++ ((bytes ") (cost ") ++ (hex (toBits binary32 (d .cost)) ++ ((bytes ") (held ") ++ (hex (toBits binary32 (d .held)) ++ (41 ∷ 41 ∷ [])))))), word-then (decimal (d .introduced)) ((bytes ") (cost ") ++ (hex (toBits binary32 (d .cost)) ++ ((bytes ") (held ") ++ (hex (toBits binary32 (d .held)) ++ (41 ∷ 41 ∷ []))))) (decimal-word (d .introduced)) (stops-introduced d), label-cost (hex (toBits binary32 (d .cost)) ++ ((bytes ") (held ") ++ (hex (toBits binary32 (d .held)) ++ (41 ∷ 41 ∷ [])))), word-then (hex (toBits binary32 (d .cost))) ((bytes ") (held ") ++ (hex (toBits binary32 (d .held)) ++ (41 ∷ 41 ∷ []))) (hex-word (toBits binary32 (d .cost))) (stops-cost d), label-held (hex (toBits binary32 (d .held)) ++ (41 ∷ 41 ∷ [])), word-then (hex (toBits binary32 (d .held))) (41 ∷ 41 ∷ []) (hex-word (toBits binary32 (d .held))) (stops-held d), closing)
+    rw (
+      label-day
+          (decimal (d .day) ++
+          ((bytes " (learn ") ++
+          (decimal (d .learn) ++
+          ((bytes ") (review ") ++
+          (decimal (d .review) ++
+          ((bytes ") (correct ") ++
+          (decimal (d .correct) ++
+          ((bytes ") (introduced ") ++
+          (decimal (d .introduced) ++
+          ((bytes ") (cost ") ++
+          (hex (toBits binary32 (d .cost)) ++
+          ((bytes ") (held ") ++ (hex (toBits binary32 (d .held)) ++ (41 ∷ 41 ∷ [])))))))))))))),
+      word-then
+          (decimal (d .day))
+          ((bytes " (learn ") ++
+          (decimal (d .learn) ++
+          ((bytes ") (review ") ++
+          (decimal (d .review) ++
+          ((bytes ") (correct ") ++
+          (decimal (d .correct) ++
+          ((bytes ") (introduced ") ++
+          (decimal (d .introduced) ++
+          ((bytes ") (cost ") ++
+          (hex (toBits binary32 (d .cost)) ++
+          ((bytes ") (held ") ++ (hex (toBits binary32 (d .held)) ++ (41 ∷ 41 ∷ []))))))))))))) (decimal-word (d .day))
+          (stops-day d),
+      label-learn
+          (decimal (d .learn) ++
+          ((bytes ") (review ") ++
+          (decimal (d .review) ++
+          ((bytes ") (correct ") ++
+          (decimal (d .correct) ++
+          ((bytes ") (introduced ") ++
+          (decimal (d .introduced) ++
+          ((bytes ") (cost ") ++
+          (hex (toBits binary32 (d .cost)) ++
+          ((bytes ") (held ") ++ (hex (toBits binary32 (d .held)) ++ (41 ∷ 41 ∷ [])))))))))))),
+      word-then
+          (decimal (d .learn))
+          ((bytes ") (review ") ++
+          (decimal (d .review) ++
+          ((bytes ") (correct ") ++
+          (decimal (d .correct) ++
+          ((bytes ") (introduced ") ++
+          (decimal (d .introduced) ++
+          ((bytes ") (cost ") ++
+          (hex (toBits binary32 (d .cost)) ++
+          ((bytes ") (held ") ++ (hex (toBits binary32 (d .held)) ++ (41 ∷ 41 ∷ []))))))))))) (decimal-word (d .learn))
+          (stops-learn d),
+      label-review
+          (decimal (d .review) ++
+          ((bytes ") (correct ") ++
+          (decimal (d .correct) ++
+          ((bytes ") (introduced ") ++
+          (decimal (d .introduced) ++
+          ((bytes ") (cost ") ++
+          (hex (toBits binary32 (d .cost)) ++
+          ((bytes ") (held ") ++ (hex (toBits binary32 (d .held)) ++ (41 ∷ 41 ∷ [])))))))))),
+      word-then
+          (decimal (d .review))
+          ((bytes ") (correct ") ++
+          (decimal (d .correct) ++
+          ((bytes ") (introduced ") ++
+          (decimal (d .introduced) ++
+          ((bytes ") (cost ") ++
+          (hex (toBits binary32 (d .cost)) ++
+          ((bytes ") (held ") ++ (hex (toBits binary32 (d .held)) ++ (41 ∷ 41 ∷ []))))))))) (decimal-word (d .review))
+          (stops-review d),
+      label-correct
+          (decimal (d .correct) ++
+          ((bytes ") (introduced ") ++
+          (decimal (d .introduced) ++
+          ((bytes ") (cost ") ++
+          (hex (toBits binary32 (d .cost)) ++
+          ((bytes ") (held ") ++ (hex (toBits binary32 (d .held)) ++ (41 ∷ 41 ∷ [])))))))),
+      word-then
+          (decimal (d .correct))
+          ((bytes ") (introduced ") ++
+          (decimal (d .introduced) ++
+          ((bytes ") (cost ") ++
+          (hex (toBits binary32 (d .cost)) ++
+          ((bytes ") (held ") ++ (hex (toBits binary32 (d .held)) ++ (41 ∷ 41 ∷ []))))))) (decimal-word (d .correct))
+          (stops-correct d),
+      label-introduced
+          (decimal (d .introduced) ++
+          ((bytes ") (cost ") ++
+          (hex (toBits binary32 (d .cost)) ++
+          ((bytes ") (held ") ++ (hex (toBits binary32 (d .held)) ++ (41 ∷ 41 ∷ [])))))),
+      word-then
+          (decimal (d .introduced))
+          ((bytes ") (cost ") ++
+          (hex (toBits binary32 (d .cost)) ++
+          ((bytes ") (held ") ++ (hex (toBits binary32 (d .held)) ++ (41 ∷ 41 ∷ []))))) (decimal-word (d .introduced))
+          (stops-introduced d),
+      label-cost
+          (hex (toBits binary32 (d .cost)) ++
+          ((bytes ") (held ") ++ (hex (toBits binary32 (d .held)) ++ (41 ∷ 41 ∷ [])))),
+      word-then
+          (hex (toBits binary32 (d .cost))) ((bytes ") (held ") ++ (hex (toBits binary32 (d .held)) ++ (41 ∷ 41 ∷ [])))
+          (hex-word (toBits binary32 (d .cost))) (stops-cost d),
+      label-held
+          (hex (toBits binary32 (d .held)) ++ (41 ∷ 41 ∷ [])),
+      word-then (hex (toBits binary32 (d .held))) (41 ∷ 41 ∷ [])
+          (hex-word (toBits binary32 (d .held))) (stops-held d),
+      closing,
+    )
 
 -- ---- the line
 
@@ -126,7 +270,104 @@ noFeed-held = refl
 
 day-noFeed : (d : Day) → noFeed (dayText d) ≡ true
 unfolding dayText
-day-noFeed d = noFeed-append (bytes "(day ") (decimal (d .day) ++ ((bytes " (learn ") ++ (decimal (d .learn) ++ ((bytes ") (review ") ++ (decimal (d .review) ++ ((bytes ") (correct ") ++ (decimal (d .correct) ++ ((bytes ") (introduced ") ++ (decimal (d .introduced) ++ ((bytes ") (cost ") ++ (hex (toBits binary32 (d .cost)) ++ ((bytes ") (held ") ++ (hex (toBits binary32 (d .held)) ++ (41 ∷ 41 ∷ [])))))))))))))) noFeed-day (noFeed-append (decimal (d .day)) ((bytes " (learn ") ++ (decimal (d .learn) ++ ((bytes ") (review ") ++ (decimal (d .review) ++ ((bytes ") (correct ") ++ (decimal (d .correct) ++ ((bytes ") (introduced ") ++ (decimal (d .introduced) ++ ((bytes ") (cost ") ++ (hex (toBits binary32 (d .cost)) ++ ((bytes ") (held ") ++ (hex (toBits binary32 (d .held)) ++ (41 ∷ 41 ∷ []))))))))))))) (solid-noFeed (decimal (d .day)) (decimal-word (d .day) .whole)) (noFeed-append (bytes " (learn ") (decimal (d .learn) ++ ((bytes ") (review ") ++ (decimal (d .review) ++ ((bytes ") (correct ") ++ (decimal (d .correct) ++ ((bytes ") (introduced ") ++ (decimal (d .introduced) ++ ((bytes ") (cost ") ++ (hex (toBits binary32 (d .cost)) ++ ((bytes ") (held ") ++ (hex (toBits binary32 (d .held)) ++ (41 ∷ 41 ∷ [])))))))))))) noFeed-learn (noFeed-append (decimal (d .learn)) ((bytes ") (review ") ++ (decimal (d .review) ++ ((bytes ") (correct ") ++ (decimal (d .correct) ++ ((bytes ") (introduced ") ++ (decimal (d .introduced) ++ ((bytes ") (cost ") ++ (hex (toBits binary32 (d .cost)) ++ ((bytes ") (held ") ++ (hex (toBits binary32 (d .held)) ++ (41 ∷ 41 ∷ []))))))))))) (solid-noFeed (decimal (d .learn)) (decimal-word (d .learn) .whole)) (noFeed-append (bytes ") (review ") (decimal (d .review) ++ ((bytes ") (correct ") ++ (decimal (d .correct) ++ ((bytes ") (introduced ") ++ (decimal (d .introduced) ++ ((bytes ") (cost ") ++ (hex (toBits binary32 (d .cost)) ++ ((bytes ") (held ") ++ (hex (toBits binary32 (d .held)) ++ (41 ∷ 41 ∷ [])))))))))) noFeed-review (noFeed-append (decimal (d .review)) ((bytes ") (correct ") ++ (decimal (d .correct) ++ ((bytes ") (introduced ") ++ (decimal (d .introduced) ++ ((bytes ") (cost ") ++ (hex (toBits binary32 (d .cost)) ++ ((bytes ") (held ") ++ (hex (toBits binary32 (d .held)) ++ (41 ∷ 41 ∷ []))))))))) (solid-noFeed (decimal (d .review)) (decimal-word (d .review) .whole)) (noFeed-append (bytes ") (correct ") (decimal (d .correct) ++ ((bytes ") (introduced ") ++ (decimal (d .introduced) ++ ((bytes ") (cost ") ++ (hex (toBits binary32 (d .cost)) ++ ((bytes ") (held ") ++ (hex (toBits binary32 (d .held)) ++ (41 ∷ 41 ∷ [])))))))) noFeed-correct (noFeed-append (decimal (d .correct)) ((bytes ") (introduced ") ++ (decimal (d .introduced) ++ ((bytes ") (cost ") ++ (hex (toBits binary32 (d .cost)) ++ ((bytes ") (held ") ++ (hex (toBits binary32 (d .held)) ++ (41 ∷ 41 ∷ []))))))) (solid-noFeed (decimal (d .correct)) (decimal-word (d .correct) .whole)) (noFeed-append (bytes ") (introduced ") (decimal (d .introduced) ++ ((bytes ") (cost ") ++ (hex (toBits binary32 (d .cost)) ++ ((bytes ") (held ") ++ (hex (toBits binary32 (d .held)) ++ (41 ∷ 41 ∷ [])))))) noFeed-introduced (noFeed-append (decimal (d .introduced)) ((bytes ") (cost ") ++ (hex (toBits binary32 (d .cost)) ++ ((bytes ") (held ") ++ (hex (toBits binary32 (d .held)) ++ (41 ∷ 41 ∷ []))))) (solid-noFeed (decimal (d .introduced)) (decimal-word (d .introduced) .whole)) (noFeed-append (bytes ") (cost ") (hex (toBits binary32 (d .cost)) ++ ((bytes ") (held ") ++ (hex (toBits binary32 (d .held)) ++ (41 ∷ 41 ∷ [])))) noFeed-cost (noFeed-append (hex (toBits binary32 (d .cost))) ((bytes ") (held ") ++ (hex (toBits binary32 (d .held)) ++ (41 ∷ 41 ∷ []))) (solid-noFeed (hex (toBits binary32 (d .cost))) (hex-word (toBits binary32 (d .cost)) .whole)) (noFeed-append (bytes ") (held ") (hex (toBits binary32 (d .held)) ++ (41 ∷ 41 ∷ [])) noFeed-held (noFeed-append (hex (toBits binary32 (d .held))) (41 ∷ 41 ∷ []) (solid-noFeed (hex (toBits binary32 (d .held))) (hex-word (toBits binary32 (d .held)) .whole)) (end-noFeed))))))))))))))
+day-noFeed d = noFeed-append (bytes "(day ")
+    (decimal (d .day) ++
+    ((bytes " (learn ") ++
+    (decimal (d .learn) ++
+    ((bytes ") (review ") ++
+    (decimal (d .review) ++
+    ((bytes ") (correct ") ++
+    (decimal (d .correct) ++
+    ((bytes ") (introduced ") ++
+    (decimal (d .introduced) ++
+    ((bytes ") (cost ") ++
+    (hex (toBits binary32 (d .cost)) ++
+    ((bytes ") (held ") ++ (hex (toBits binary32 (d .held)) ++ (41 ∷ 41 ∷ [])))))))))))))) noFeed-day
+    (noFeed-append (decimal (d .day))
+    ((bytes " (learn ") ++
+    (decimal (d .learn) ++
+    ((bytes ") (review ") ++
+    (decimal (d .review) ++
+    ((bytes ") (correct ") ++
+    (decimal (d .correct) ++
+    ((bytes ") (introduced ") ++
+    (decimal (d .introduced) ++
+    ((bytes ") (cost ") ++
+    (hex (toBits binary32 (d .cost)) ++
+    ((bytes ") (held ") ++ (hex (toBits binary32 (d .held)) ++ (41 ∷ 41 ∷ [])))))))))))))
+    (solid-noFeed (decimal (d .day)) (decimal-word (d .day) .whole))
+    (noFeed-append (bytes " (learn ")
+    (decimal (d .learn) ++
+    ((bytes ") (review ") ++
+    (decimal (d .review) ++
+    ((bytes ") (correct ") ++
+    (decimal (d .correct) ++
+    ((bytes ") (introduced ") ++
+    (decimal (d .introduced) ++
+    ((bytes ") (cost ") ++
+    (hex (toBits binary32 (d .cost)) ++
+    ((bytes ") (held ") ++ (hex (toBits binary32 (d .held)) ++ (41 ∷ 41 ∷ [])))))))))))) noFeed-learn
+    (noFeed-append (decimal (d .learn))
+    ((bytes ") (review ") ++
+    (decimal (d .review) ++
+    ((bytes ") (correct ") ++
+    (decimal (d .correct) ++
+    ((bytes ") (introduced ") ++
+    (decimal (d .introduced) ++
+    ((bytes ") (cost ") ++
+    (hex (toBits binary32 (d .cost)) ++
+    ((bytes ") (held ") ++ (hex (toBits binary32 (d .held)) ++ (41 ∷ 41 ∷ [])))))))))))
+    (solid-noFeed (decimal (d .learn)) (decimal-word (d .learn) .whole))
+    (noFeed-append (bytes ") (review ")
+    (decimal (d .review) ++
+    ((bytes ") (correct ") ++
+    (decimal (d .correct) ++
+    ((bytes ") (introduced ") ++
+    (decimal (d .introduced) ++
+    ((bytes ") (cost ") ++
+    (hex (toBits binary32 (d .cost)) ++
+    ((bytes ") (held ") ++ (hex (toBits binary32 (d .held)) ++ (41 ∷ 41 ∷ [])))))))))) noFeed-review
+    (noFeed-append (decimal (d .review))
+    ((bytes ") (correct ") ++
+    (decimal (d .correct) ++
+    ((bytes ") (introduced ") ++
+    (decimal (d .introduced) ++
+    ((bytes ") (cost ") ++
+    (hex (toBits binary32 (d .cost)) ++
+    ((bytes ") (held ") ++ (hex (toBits binary32 (d .held)) ++ (41 ∷ 41 ∷ [])))))))))
+    (solid-noFeed (decimal (d .review)) (decimal-word (d .review) .whole))
+    (noFeed-append (bytes ") (correct ")
+    (decimal (d .correct) ++
+    ((bytes ") (introduced ") ++
+    (decimal (d .introduced) ++
+    ((bytes ") (cost ") ++
+    (hex (toBits binary32 (d .cost)) ++
+    ((bytes ") (held ") ++ (hex (toBits binary32 (d .held)) ++ (41 ∷ 41 ∷ [])))))))) noFeed-correct
+    (noFeed-append (decimal (d .correct))
+    ((bytes ") (introduced ") ++
+    (decimal (d .introduced) ++
+    ((bytes ") (cost ") ++
+    (hex (toBits binary32 (d .cost)) ++ ((bytes ") (held ") ++ (hex (toBits binary32 (d .held)) ++ (41 ∷ 41 ∷ [])))))))
+    (solid-noFeed (decimal (d .correct)) (decimal-word (d .correct) .whole))
+    (noFeed-append (bytes ") (introduced ")
+    (decimal (d .introduced) ++
+    ((bytes ") (cost ") ++
+    (hex (toBits binary32 (d .cost)) ++ ((bytes ") (held ") ++ (hex (toBits binary32 (d .held)) ++ (41 ∷ 41 ∷ []))))))
+    noFeed-introduced
+    (noFeed-append (decimal (d .introduced))
+    ((bytes ") (cost ") ++
+    (hex (toBits binary32 (d .cost)) ++ ((bytes ") (held ") ++ (hex (toBits binary32 (d .held)) ++ (41 ∷ 41 ∷ [])))))
+    (solid-noFeed (decimal (d .introduced)) (decimal-word (d .introduced) .whole))
+    (noFeed-append (bytes ") (cost ")
+    (hex (toBits binary32 (d .cost)) ++ ((bytes ") (held ") ++ (hex (toBits binary32 (d .held)) ++ (41 ∷ 41 ∷ []))))
+    noFeed-cost
+    (noFeed-append (hex (toBits binary32 (d .cost)))
+    ((bytes ") (held ") ++ (hex (toBits binary32 (d .held)) ++ (41 ∷ 41 ∷ [])))
+    (solid-noFeed (hex (toBits binary32 (d .cost))) (hex-word (toBits binary32 (d .cost)) .whole))
+    (noFeed-append (bytes ") (held ") (hex (toBits binary32 (d .held)) ++ (41 ∷ 41 ∷ [])) noFeed-held
+    (noFeed-append (hex (toBits binary32 (d .held))) (41 ∷ 41 ∷ [])
+    (solid-noFeed (hex (toBits binary32 (d .held))) (hex-word (toBits binary32 (d .held)) .whole))
+    (end-noFeed))))))))))))))
 
 pub day-lines : (d : Day) → lines (dayLine d) ≡ dayText d ∷ [] ∷ []
 day-lines d = rw (day-line-is d, line-then (dayText d) [] (day-noFeed d), none-left)

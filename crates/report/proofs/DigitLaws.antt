@@ -1,4 +1,4 @@
--- What is written for a number reads back as the number. Assumes nothing.
+-- What is written for a number reads back as the number.
 use mathlib.Core.Path.{_≡_, refl, _∙_}
 use Prim.Native.Nat.{ℕ, zero, suc, _+_, _*_, _/_, _%_, _≤_, _<_}
 use native.Mathlib.Omega.{arith}
@@ -22,7 +22,13 @@ digit-decimal d h = rw (le-leb 48 (48 + d) (omega arith), le-leb (48 + d) 57 (om
 
 digit-letter : (d : ℕ) → 10 ≤ d → d < 16 → digit (55 + d) ≡ d
 unfolding digit
-digit-letter d l h = rw (le-leb 48 (55 + d) (omega arith), lt-leb (55 + d) 57 (omega arith), le-leb 65 (55 + d) (omega arith), le-leb (55 + d) 70 (omega arith)) (omega arith)
+digit-letter d l h = rw (
+  le-leb 48 (55 + d) (omega arith),
+  lt-leb (55 + d) 57 (omega arith),
+  le-leb 65 (55 + d)
+      (omega arith),
+  le-leb (55 + d) 70 (omega arith),
+) (omega arith)
 
 digit-hex : (d : ℕ) → d < 16 → digit (hexByte d) ≡ d
 unfolding hexByte
@@ -39,7 +45,8 @@ unfolding digits
 digits-append base [] b p q = q
 digits-append base (x ∷ a) b p q = go (ltb (digit x) base) p (digits-append base a b)
   where
-    go : (t : Bool) → (t && digits base a) ≡ true → (digits base a ≡ true → digits base b ≡ true → digits base (a ++ b) ≡ true) → (t && digits base (a ++ b)) ≡ true
+    go : (t : Bool) → (t && digits base a) ≡ true → (digits base a ≡ true → digits base b ≡ true → digits base (a ++ b)
+        ≡ true) → (t && digits base (a ++ b)) ≡ true
     go true p ih = ih p q
     go false p ih = p
 
@@ -74,7 +81,8 @@ decimal-digits (suc k) n = go (ltb n 10) (decimal-digits k (n / 10))
     last : digits 10 ((48 + n % 10) ∷ []) ≡ true
     last = one-digits 10 (48 + n % 10) (n % 10) (last-decimal n) (omega arith)
 
-    go : (b : Bool) → digits 10 (decimalIn k (n / 10)) ≡ true → digits 10 (cond b ((48 + n % 10) ∷ []) (decimalIn k (n / 10) ++ ((48 + n % 10) ∷ []))) ≡ true
+    go : (b : Bool) → digits 10 (decimalIn k (n / 10)) ≡ true
+        → digits 10 (cond b ((48 + n % 10) ∷ []) (decimalIn k (n / 10) ++ ((48 + n % 10) ∷ []))) ≡ true
     go true ih = last
     go false ih = digits-append 10 (decimalIn k (n / 10)) ((48 + n % 10) ∷ []) ih last
 
@@ -90,7 +98,8 @@ decimal-value (suc k) n h = go (ltb n 10) refl (decimal-value k (n / 10) (div-lt
         one-value 10 0 (48 + n % 10) (n % 10) (last-decimal n) ∙ omega arith
     go false e ih =
         value-append 10 0 (decimalIn k (n / 10)) ((48 + n % 10) ∷ [])
-        ∙ (one-value 10 (value 10 0 (decimalIn k (n / 10))) (48 + n % 10) (n % 10) (last-decimal n) ∙ rw ih (omega arith))
+        ∙ (one-value 10 (value 10 0 (decimalIn k (n / 10))) (48 + n % 10) (n % 10) (last-decimal n)
+        ∙ rw ih (omega arith))
 
 pub decimal-some : (k n : ℕ) → 0 < length (decimalIn k n)
 unfolding decimalIn
@@ -108,11 +117,13 @@ enough n h = omega arith
 -- what is written for N is read as N
 pub number64-back : (n : ℕ) → n < 18446744073709551616 → number64 (decimal n) ≡ Is n
 unfolding number64 decimal
-number64-back n h = number-is 10 18446744073709551615 (decimalIn 19 n) n (decimal-some 19 n) (decimal-digits 19 n) (decimal-value 19 n (enough n h)) (omega arith)
+number64-back n h = number-is 10 18446744073709551615 (decimalIn 19 n) n (decimal-some 19 n) (decimal-digits 19 n)
+    (decimal-value 19 n (enough n h)) (omega arith)
 
 pub number32-back : (n : ℕ) → n < 4294967296 → number32 (decimal n) ≡ Is n
 unfolding number32 decimal
-number32-back n h = number-is 10 4294967295 (decimalIn 19 n) n (decimal-some 19 n) (decimal-digits 19 n) (decimal-value 19 n (enough n (omega arith))) (omega arith)
+number32-back n h = number-is 10 4294967295 (decimalIn 19 n) n (decimal-some 19 n) (decimal-digits 19 n)
+    (decimal-value 19 n (enough n (omega arith))) (omega arith)
 
 -- ---- W
 
@@ -126,7 +137,8 @@ last-hex n = digit-hex (n % 16) (omega arith)
 hex-digits : (k n : ℕ) → digits 16 (hexIn k n) ≡ true
 unfolding hexIn digits
 hex-digits zero n = refl
-hex-digits (suc k) n = digits-append 16 (hexIn k (n / 16)) (hexByte (n % 16) ∷ []) (hex-digits k (n / 16)) (one-digits 16 (hexByte (n % 16)) (n % 16) (last-hex n) (omega arith))
+hex-digits (suc k) n = digits-append 16 (hexIn k (n / 16)) (hexByte (n % 16) ∷ []) (hex-digits k (n / 16))
+    (one-digits 16 (hexByte (n % 16)) (n % 16) (last-hex n) (omega arith))
 
 hex-value : (k n : ℕ) → n < sixteens k → value 16 0 (hexIn k n) ≡ n
 unfolding hexIn sixteens value
@@ -142,7 +154,8 @@ fits-eight n h = h
 
 hex-number : (n : ℕ) → n < 4294967296 → number 16 4294967295 (hex n) ≡ Is n
 unfolding hex
-hex-number n h = number-is 16 4294967295 (hexIn 8 n) n (omega (arith, hex-length-in 8 n)) (hex-digits 8 n) (hex-value 8 n (fits-eight n h)) (omega arith)
+hex-number n h = number-is 16 4294967295 (hexIn 8 n) n (omega (arith, hex-length-in 8 n)) (hex-digits 8 n)
+    (hex-value 8 n (fits-eight n h)) (omega arith)
 
 -- what is written for W is read as W
 pub bits-back : (n : ℕ) → n < 4294967296 → bits (hex n) ≡ Is n

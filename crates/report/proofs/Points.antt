@@ -9,7 +9,17 @@ case-forecast : forecastLine 1 4 2 ≡ bytes "(forecast 1 (turns 4) (cards 2))\n
 unfolding decimalIn decimal forecastLine
 case-forecast = refl
 
-case-day : dayLine (record { day = 0; learn = 2; review = 0; correct = 0; introduced = 2; cost = ofBits binary32 0x41800000; held = ofBits binary32 0x3FFFFF58 })
+case-day : dayLine
+    (record {
+      day = 0;
+      learn = 2;
+      review = 0;
+      correct = 0;
+      introduced = 2;
+      cost = ofBits binary32 0x41800000;
+      held
+          = ofBits binary32 0x3FFFFF58;
+    })
     ≡ bytes "(day 0 (learn 2) (review 0) (correct 0) (introduced 2) (cost 41800000) (held 3FFFFF58))\n"
 unfolding decimalIn decimal hexByte hexIn hex dayLine toBits ofBits ofFields
 case-day = refl

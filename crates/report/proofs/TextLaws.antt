@@ -1,4 +1,4 @@
--- The parts of a form that is written with one space between its words, and the lines of such a text. Assumes nothing.
+-- The parts of a form that is written with one space between its words, and the lines of such a text.
 use mathlib.Core.Path.{_≡_, refl, ap, _∙_}
 use Prim.Native.Nat.{ℕ, zero, suc, _+_, _/_, _%_, _≤_, _<_}
 use native.Mathlib.Omega.{arith}
@@ -26,7 +26,8 @@ unfolding solid
 solid-append [] b p q = q
 solid-append (x ∷ a) b p q = go (letter x && inLine x) p (solid-append a b)
   where
-    go : (t : Bool) → (t && solid a) ≡ true → (solid a ≡ true → solid b ≡ true → solid (a ++ b) ≡ true) → (t && solid (a ++ b)) ≡ true
+    go : (t : Bool) → (t && solid a) ≡ true → (solid a ≡ true → solid b ≡ true → solid (a ++ b) ≡ true)
+        → (t && solid (a ++ b)) ≡ true
     go true p ih = ih p q
     go false p ih = p
 
@@ -34,14 +35,23 @@ solid-append (x ∷ a) b p q = go (letter x && inLine x) p (solid-append a b)
 solid-byte : (b : ℕ) → 48 ≤ b → solid (b ∷ []) ≡ true
 unfolding solid letter inLine blank
 solid-byte b h =
-    rw (ne-eqb b 32 (λ e. omega arith), ne-eqb b 9 (λ e. omega arith), ne-eqb b 13 (λ e. omega arith), ne-eqb b 40 (λ e. omega arith), ne-eqb b 41 (λ e. omega arith), ne-eqb b 10 (λ e. omega arith))
+    rw (
+      ne-eqb b 32 (λ e. omega arith),
+      ne-eqb b 9 (λ e. omega arith),
+      ne-eqb b 13 (λ e. omega arith),
+      ne-eqb b 40
+          (λ e. omega arith),
+      ne-eqb b 41 (λ e. omega arith),
+      ne-eqb b 10 (λ e. omega arith),
+    )
 
 decimal-solid-in : (k n : ℕ) → solid (decimalIn k n) ≡ true
 unfolding decimalIn
 decimal-solid-in zero n = solid-byte (48 + n % 10) (omega arith)
 decimal-solid-in (suc k) n = go (ltb n 10) (decimal-solid-in k (n / 10))
   where
-    go : (b : Bool) → solid (decimalIn k (n / 10)) ≡ true → solid (cond b ((48 + n % 10) ∷ []) (decimalIn k (n / 10) ++ ((48 + n % 10) ∷ []))) ≡ true
+    go : (b : Bool) → solid (decimalIn k (n / 10)) ≡ true
+        → solid (cond b ((48 + n % 10) ∷ []) (decimalIn k (n / 10) ++ ((48 + n % 10) ∷ []))) ≡ true
     go true ih = solid-byte (48 + n % 10) (omega arith)
     go false ih = solid-append (decimalIn k (n / 10)) ((48 + n % 10) ∷ []) ih (solid-byte (48 + n % 10) (omega arith))
 
@@ -56,7 +66,8 @@ hex-byte-high d = go (ltb d 10)
 hex-solid-in : (k n : ℕ) → solid (hexIn k n) ≡ true
 unfolding hexIn solid
 hex-solid-in zero n = refl
-hex-solid-in (suc k) n = solid-append (hexIn k (n / 16)) (hexByte (n % 16) ∷ []) (hex-solid-in k (n / 16)) (solid-byte (hexByte (n % 16)) (hex-byte-high (n % 16)))
+hex-solid-in (suc k) n = solid-append (hexIn k (n / 16)) (hexByte (n % 16) ∷ []) (hex-solid-in k (n / 16))
+    (solid-byte (hexByte (n % 16)) (hex-byte-high (n % 16)))
 
 -- words of a text: solid, and not empty
 pub record Word (w : List ℕ) : Type 0 where
@@ -137,16 +148,19 @@ closing = refl
 spaced-parts : (ws : List (List ℕ)) → AllWords ws → parts (spaced ws) ≡ wordsThen ws
 unfolding spaced wordsThen AllWords
 spaced-parts [] a = closing
-spaced-parts (w ∷ ws) a = space-skipped (w ++ spaced ws) ∙ (word-then w (spaced ws) (a .0) (spaced-stop ws) ∙ ap (λ (ps : List Part). word w ∷ ps) (spaced-parts ws (a .1)))
+spaced-parts (w ∷ ws) a = space-skipped (w ++ spaced ws)
+    ∙ (word-then w (spaced ws) (a .0) (spaced-stop ws) ∙ ap (λ (ps : List Part). word w ∷ ps) (spaced-parts ws (a .1)))
 
 opening : (t : List ℕ) → parts (40 ∷ t) ≡ opened ∷ parts t
 unfolding parts blank
 opening t = refl
 
 -- a form's parts
-pub form-parts : (name : List ℕ) (ws : List (List ℕ)) → Word name → AllWords ws → parts (formText name ws) ≡ opened ∷ word name ∷ wordsThen ws
+pub form-parts : (name : List ℕ) (ws : List (List ℕ)) → Word name → AllWords ws → parts (formText name ws)
+    ≡ opened ∷ word name ∷ wordsThen ws
 unfolding formText
-form-parts name ws p a = opening (name ++ spaced ws) ∙ rw (word-then name (spaced ws) p (spaced-stop ws), spaced-parts ws a)
+form-parts name ws p a = opening (name ++ spaced ws)
+    ∙ rw (word-then name (spaced ws) p (spaced-stop ws), spaced-parts ws a)
 
 -- ---- lines
 
@@ -159,7 +173,8 @@ unfolding noFeed
 noFeed-append [] b p q = q
 noFeed-append (x ∷ a) b p q = go (inLine x) p (noFeed-append a b)
   where
-    go : (t : Bool) → (t && noFeed a) ≡ true → (noFeed a ≡ true → noFeed b ≡ true → noFeed (a ++ b) ≡ true) → (t && noFeed (a ++ b)) ≡ true
+    go : (t : Bool) → (t && noFeed a) ≡ true → (noFeed a ≡ true → noFeed b ≡ true → noFeed (a ++ b) ≡ true)
+        → (t && noFeed (a ++ b)) ≡ true
     go true p ih = ih p q
     go false p ih = p
 
@@ -190,11 +205,13 @@ in-line-32 = refl
 spaced-noFeed : (ws : List (List ℕ)) → AllWords ws → noFeed (spaced ws) ≡ true
 unfolding spaced AllWords
 spaced-noFeed [] a = noFeed-one 41 [] (in-line-41) noFeed-nil
-spaced-noFeed (w ∷ ws) a = noFeed-one 32 (w ++ spaced ws) in-line-32 (noFeed-append w (spaced ws) (solid-noFeed w (a .0 .whole)) (spaced-noFeed ws (a .1)))
+spaced-noFeed (w ∷ ws) a = noFeed-one 32 (w ++ spaced ws) in-line-32
+    (noFeed-append w (spaced ws) (solid-noFeed w (a .0 .whole)) (spaced-noFeed ws (a .1)))
 
 pub form-noFeed : (name : List ℕ) (ws : List (List ℕ)) → Word name → AllWords ws → noFeed (formText name ws) ≡ true
 unfolding formText
-form-noFeed name ws p a = noFeed-one 40 (name ++ spaced ws) in-line-40 (noFeed-append name (spaced ws) (solid-noFeed name (p .whole)) (spaced-noFeed ws a))
+form-noFeed name ws p a = noFeed-one 40 (name ++ spaced ws) in-line-40
+    (noFeed-append name (spaced ws) (solid-noFeed name (p .whole)) (spaced-noFeed ws a))
 
 -- a line and its line feed
 fed : (r : List ℕ) → lines (10 ∷ r) ≡ [] ∷ lines r
@@ -210,7 +227,8 @@ unfolding noFeed lines onto
 line-then [] r h = fed r
 line-then (b ∷ l) r h = go (inLine b) refl h (line-then l r)
   where
-    go : (t : Bool) → inLine b ≡ t → (inLine b && noFeed l) ≡ true → (noFeed l ≡ true → lines (l ++ (10 ∷ r)) ≡ l ∷ lines r) → lines (b ∷ (l ++ (10 ∷ r))) ≡ (b ∷ l) ∷ lines r
+    go : (t : Bool) → inLine b ≡ t → (inLine b && noFeed l) ≡ true
+        → (noFeed l ≡ true → lines (l ++ (10 ∷ r)) ≡ l ∷ lines r) → lines (b ∷ (l ++ (10 ∷ r))) ≡ (b ∷ l) ∷ lines r
     go true e h ih = rw (e, ih (rw e at h))
     go false e h ih = absurd (let k : _≡_ {A = ℕ} 0 1 = cc (rw e at h) in omega arith)
 

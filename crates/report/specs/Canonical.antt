@@ -1,4 +1,4 @@
--- Settings as text, in one fixed form, and which settings a text can say. Assumes nothing.
+-- Settings as text, in one fixed form, and which settings a text can say.
 use Rattle.listing.specs.Quoted.{bytes}
 use Prim.Native.Nat.{ℕ, _<_}
 use mathlib.Core.Path.{_≡_}
@@ -28,9 +28,12 @@ hexes (v ∷ vs) = hex v ∷ hexes vs
 -- all ten forms, in the paper's order
 unfoldable pub formsOf : Settings → List (List ℕ)
 formsOf s =
-    formText (bytes "parameters") (hexes (s .parameters)) ∷ formText (bytes "deck") (decimal (s .deck) ∷ []) ∷ formText (bytes "span") (decimal (s .span) ∷ [])
-    ∷ formText (bytes "seed") (decimal (s .seed) ∷ []) ∷ formText (bytes "learn") (decimal (s .learn) ∷ []) ∷ formText (bytes "review") (decimal (s .review) ∷ [])
-    ∷ formText (bytes "retention") (hex (s .retention) ∷ []) ∷ formText (bytes "maxcost") (hex (s .maxcost) ∷ []) ∷ formText (bytes "first") (hexes (s .first))
+    formText (bytes "parameters") (hexes (s .parameters)) ∷ formText (bytes "deck") (decimal (s .deck) ∷ []) ∷ formText
+    (bytes "span") (decimal (s .span) ∷ [])
+    ∷ formText (bytes "seed") (decimal (s .seed) ∷ []) ∷ formText (bytes "learn") (decimal (s .learn) ∷ []) ∷ formText
+    (bytes "review") (decimal (s .review) ∷ [])
+    ∷ formText (bytes "retention") (hex (s .retention) ∷ []) ∷ formText (bytes "maxcost") (hex (s .maxcost) ∷ []) ∷
+    formText (bytes "first") (hexes (s .first))
     ∷ formText (bytes "cost") ((bytes "all") ∷ hex (getD (s .cost) 0 0) ∷ []) ∷ []
 
 unfoldable pub canonical : Settings → List ℕ

@@ -19,6 +19,7 @@ mod stored;
 mod stored_leaves;
 mod stored_points;
 mod stored_runs;
+mod stored_texts;
 mod text;
 mod text_cases;
 mod texts;

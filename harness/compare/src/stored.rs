@@ -1,6 +1,6 @@
-//! Writes every stored answer of the reference: stdin and stdout of the program `replay`, and what `points` and `run_points` print
-//! of it.
-use crate::{stored_leaves, stored_points, stored_runs};
+//! Writes every stored answer of the reference: stdin and stdout of the program `replay`, and of `text_points`, and
+//! what `points` and `run_points` print of it.
+use crate::{stored_leaves, stored_points, stored_runs, stored_texts};
 use std::fmt::Write;
 
 /// The lines that the program `replay` reads, and those that it must print.
@@ -38,4 +38,8 @@ pub fn main(crates: &str) {
     let before = std::fs::read_to_string(&points).unwrap_or_else(|e| panic!("{points} cannot be read: {e}"));
     write(&points, &stored_points::points(&before));
     write(&format!("{crates}/run_points/stdout"), &stored_points::run_points());
+    let (texts, answers) = stored_texts::put();
+    let path = format!("{crates}/text_points/stdin");
+    std::fs::write(&path, texts).unwrap_or_else(|e| panic!("{path} cannot be written: {e}"));
+    write(&format!("{crates}/text_points/stdout"), &answers);
 }

@@ -64,10 +64,10 @@ fn planted(all: &[(Vec<u8>, String)]) {
 }
 
 /// Texts that show what chance seldom does.
-fn telling() -> Vec<Vec<u8>> {
+pub fn telling() -> Vec<Vec<u8>> {
     let parameters = format!("(parameters {})\n", crate::cases::USUAL.map(|x| format!("{:08X}", x.to_bits())).join(" "));
     let with = |rest: &str| (parameters.clone() + rest).into_bytes();
-    let mut all = vec![
+    vec![
         b"(deck5)".to_vec(),
         b"(deck 007)".to_vec(),
         b"(deck\n5)".to_vec(),
@@ -75,6 +75,12 @@ fn telling() -> Vec<Vec<u8>> {
         b"(seed 18446744073709551615)".to_vec(),
         b"(seed 18446744073709551616)".to_vec(),
         b"(deck 0)".to_vec(),
+        b"\n (deck 5)\n x\n(span".to_vec(),
+        b"(parameters all 7F800000)\n(deck 600)".to_vec(),
+        b"(parameters all 3F000000)\n(deck 600)\n(span 800)".to_vec(),
+        b"(parameters all 3F000000)\n(deck 5)\n(span 800)\n(cost all BF800000)".to_vec(),
+        b"(parameters all 3F000000)\n(deck 5)\n(span 9)\n(cost all BF800000)".to_vec(),
+        b"(parameters all C2C80000)\n(deck 5)\n(span 9)".to_vec(),
         with("(deck 512)\n(span 2)"),
         with("(deck 513)\n(span 2)"),
         with("(deck 3)\n(span 730)"),
@@ -90,18 +96,19 @@ fn telling() -> Vec<Vec<u8>> {
         with("\n\n(deck 2) (span 2)"),
         with("(deck 20)\n(span 5)\n(retention 7FC00000)"),
         with("(deck 20)\n(span 5)\n(maxcost 7F800000)\n(cost all 7F7FFFFF)"),
-    ];
-    for len in [32_768, 32_769, 40_000] {
-        all.push([vec![b' '; len - 8], b"(deck 5)".to_vec()].concat());
-        all.push([vec![b'x'; len - 8], b"(deck 5)".to_vec()].concat());
-    }
-    all
+    ]
+}
+
+/// Texts of the longest size and above: blanks before a form, and a line that is none.
+pub fn long() -> Vec<Vec<u8>> {
+    let before = |byte: u8, len: usize| [vec![byte; len - 8], b"(deck 5)".to_vec()].concat();
+    [32_768, 32_769, 40_000].into_iter().flat_map(|len| [before(b' ', len), before(b'x', len)]).collect()
 }
 
 /// The telling texts and n varied ones, and the wrong programs over them.
 pub fn main(program: &str, n: u64, seed: u64) {
     let (mut words, mut ends, mut all) = (Words::new(seed ^ 0x7478), BTreeMap::new(), Vec::new());
-    let mut texts = telling();
+    let mut texts = [telling(), long()].concat();
     for i in 0..n + texts.len() as u64 {
         let text = texts.pop().unwrap_or_else(|| varied(&mut words));
         let ours = compare(program, &text, &mut ends);

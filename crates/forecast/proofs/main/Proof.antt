@@ -35,7 +35,11 @@ array-share-prefix-out c = search needs
 
 slice-aggregate-write-all : tie.Need-slice-aggregate-write-all
 slice-aggregate-write-all c =
-    sym (length-take-le (c .before .before .before .end .given .0 .0) (c .before .before .before .before .before .before .forecast .last .0) (omega (arith, c .before .if2 .taken, c .before .before .before .before .before .before .forecast .kept .0)))
+    let at-if2 = c .before in
+    let at-end = at-if2 .before .before in
+    let at-forecast = at-end .before .before .before in
+    sym (length-take-le (at-end .end .given .0 .0) (at-forecast .forecast .last .0)
+    (omega (arith, at-if2 .if2 .taken, at-forecast .forecast .kept .0)))
 
 write-all-requires : tie.Need-write-all-requires
 write-all-requires c κs = search needs

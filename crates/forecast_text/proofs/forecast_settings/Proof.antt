@@ -36,8 +36,20 @@ slice-aggregate-write-run-3 c = search needs
 
 write-run-requires : tie.Need-write-run-requires
 write-run-requires c κs =
-    let short = within-short mostSpan (c .before .before .before .before .before .before .before .before .before .before .before .before .before .before .before .before .args .set .span) (c .before .before .before .before .before .before .before .span-of .result) (c .before .before .before .before .before .before .before .span-of .ensures) in
-    (c .before .before .before .before .before .before .before .before .before .before .before .before .before .before .before .before .pre, (short, (omega (arith, short, c .before .before .before .before .before .before .before .before .before .before .before .run .kept .0), (omega (arith, short, c .before .before .before .before .before .before .before .before .before .before .before .run .kept .1 .0), omega (arith, short, c .before .before .before .before .before .before .before .before .before .before .before .run .kept .1 .1 .0)))))
+    let at-span-of = c .before .before .before .before .before .before .before in
+    let at-run = at-span-of .before .before .before .before in
+    let start = at-run .before .before .before .before .before in
+    let short = within-short mostSpan (start .args .set .span) (at-span-of .span-of .result)
+    (at-span-of .span-of .ensures) in (
+      start .pre,
+      (
+        short,
+        (
+          omega (arith, short, at-run .run .kept .0),
+          (omega (arith, short, at-run .run .kept .1 .0), omega (arith, short, at-run .run .kept .1 .1 .0)),
+        ),
+      ),
+    )
 
 enum-known-answer-2 : tie.Need-enum-known-answer-2
 enum-known-answer-2 c = search needs
@@ -57,9 +69,16 @@ same-length c = search needs
 returns : tie.Need-returns
 unfolding forecastRun
 returns c =
-    let text = finished-text (c .before .before .before .before .before .before .before .before .before .before .before .before .before .before .before .before .before .before .before .args .set) (c .before .before .before .before .before .before .before .before .before .before .before .before .before .before .run .result) (c .before .before .before .before .before .before .before .before .before .before .before .before .before .before .run .last .0) (c .before .before .before .before .before .before .before .before .before .before .before .before .before .before .run .last .1 .0) (c .before .before .before .before .before .before .before .before .before .before .before .before .before .before .run .last .1 .1 .0) (c .before .before .before .before .before .before .before .before .before .before .before .before .before .before .run .ensures)
-    (c .before .before .before .before .before .before .before .before .answer .given .0 .0) (c .before .before .before .before .before .before .before .before .before .before .span-of .result) (c .before .before .before .before .before .before .before .before .answer .given .1) (c .before .before .before .before .before .before .before .before .before .before .span-of .ensures) in
-    rw text (c .before .before .write-run .ensures)
+    let at-write-run = c .before .before in
+    let at-answer = at-write-run .before .before .before .before .before .before in
+    let at-span-of = at-answer .before .before in
+    let at-run = at-span-of .before .before .before .before in
+    let start = at-run .before .before .before .before .before in
+    let text = finished-text (start .args .set) (at-run .run .result) (at-run .run .last .0) (at-run .run .last .1 .0)
+    (at-run .run .last .1 .1 .0) (at-run .run .ensures)
+    (at-answer .answer .given .0 .0) (at-span-of .span-of .result) (at-answer .answer .given .1)
+    (at-span-of .span-of .ensures) in
+    rw text (at-write-run .write-run .ensures)
 
 same-length-2 : tie.Need-same-length-2
 same-length-2 c = search needs
@@ -67,11 +86,22 @@ same-length-2 c = search needs
 returns-2 : tie.Need-returns-2
 unfolding forecastRun
 returns-2 c =
-    let text = refused-text (c .before .before .before .before .before .before .before .before .before .before .before .before .before .before .before .before .before .before .args .set) (c .before .before .before .before .before .before .before .before .before .before .before .before .before .run .result) (c .before .before .before .before .before .before .before .before .before .before .before .before .before .run .last .0) (c .before .before .before .before .before .before .before .before .before .before .before .before .before .run .last .1 .0) (c .before .before .before .before .before .before .before .before .before .before .before .before .before .run .last .1 .1 .0) (c .before .before .before .before .before .before .before .before .before .before .before .before .before .run .ensures)
-    (c .before .before .before .before .before .before .before .answer2 .given .0 .0) (c .before .before .before .before .before .before .before .answer2 .given .0 .1 .0) (c .before .before .before .before .before .before .before .answer2 .given .1) in
-    rw text (refused-printed (c .before .before .before .before .before .before .before .before .before .before .before .before .before .before .before .before .before .before .args .out .now) _ _ (c .before .before .write-refused .result) (c .before .before .write-refused .last .0) (c .before .before .before .before .before .before .before .before .before .before .before .before .before .before .before .before .before .before .pre)
-    (rw (c .before .before .before .before .number-of .ensures, c .before .before .before .second-of .ensures) at (c .before .before .write-refused .ensures .0))
-    (rw (c .before .before .before .before .number-of .ensures, c .before .before .before .second-of .ensures) at (c .before .before .write-refused .ensures .1)))
+    let at-write-refused = c .before .before in
+    let at-second-of = at-write-refused .before in
+    let at-number-of = at-second-of .before in
+    let at-answer2 = at-number-of .before .before .before in
+    let at-run = at-answer2 .before .before .before .before .before .before in
+    let start = at-run .before .before .before .before .before in
+    let a = start .args in
+    let text = refused-text (a .set) (at-run .run .result) (at-run .run .last .0) (at-run .run .last .1 .0)
+    (at-run .run .last .1 .1 .0) (at-run .run .ensures)
+    (at-answer2 .answer2 .given .0 .0) (at-answer2 .answer2 .given .0 .1 .0) (at-answer2 .answer2 .given .1) in
+    rw text (refused-printed (a .out .now) _ _ (at-write-refused .write-refused .result)
+    (at-write-refused .write-refused .last .0) (start .pre)
+    (rw (at-number-of .number-of .ensures, at-second-of .second-of .ensures) at
+    (at-write-refused .write-refused .ensures .0))
+    (rw (at-number-of .number-of .ensures, at-second-of .second-of .ensures) at
+    (at-write-refused .write-refused .ensures .1)))
 
 pub forecast-settings-spec : {M : Type 1} → statement M
 forecast-settings-spec =

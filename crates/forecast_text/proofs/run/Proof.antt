@@ -44,12 +44,28 @@ slice-aggregate-simulate-6 c = search needs
 
 array-share-prefix-parameters : tie.Need-array-share-prefix-parameters
 array-share-prefix-parameters c =
-    omega (arith, few-parameters (getD (c .before .before .before .before .before .before .before .before .before .before .before .before .before .before .before .before .args .set .seen) 0 false) (c .before .before .before .before .before .before .before .before .before .before .before .parameter-count .result) (c .before .before .before .before .before .before .before .before .before .before .before .parameter-count .ensures), c .before .before .before .before .before .before .before .before .before .before .before .before .floats-of-34 .ensures .0)
+    let at-parameter-count = c .before .before .before .before .before .before .before .before .before .before .before in
+    let at-floats-of-34 = at-parameter-count .before in
+    let start = at-floats-of-34 .before .before .before .before in
+    omega (
+      arith,
+      few-parameters (getD (start .args .set .seen) 0 false) (at-parameter-count .parameter-count .result)
+          (at-parameter-count .parameter-count .ensures),
+      at-floats-of-34 .floats-of-34 .ensures .0,
+    )
 
 slice-aggregate-simulate-7 : tie.Need-slice-aggregate-simulate-7
 slice-aggregate-simulate-7 c =
-    sym (length-take-le (c .before .before .before .before .before .before .before .before .before .before .before .before .parameter-count .result) (c .before .before .before .before .before .before .before .before .before .before .before .before .before .floats-of-34 .result)
-    (omega (arith, few-parameters (getD (c .before .before .before .before .before .before .before .before .before .before .before .before .before .before .before .before .before .args .set .seen) 0 false) (c .before .before .before .before .before .before .before .before .before .before .before .before .parameter-count .result) (c .before .before .before .before .before .before .before .before .before .before .before .before .parameter-count .ensures), c .before .before .before .before .before .before .before .before .before .before .before .before .before .floats-of-34 .ensures .0)))
+    let at-parameter-count = c .before .before .before .before .before .before .before .before .before .before .before .before in
+    let at-floats-of-34 = at-parameter-count .before in
+    let start = at-floats-of-34 .before .before .before .before in
+    sym (length-take-le (at-parameter-count .parameter-count .result) (at-floats-of-34 .floats-of-34 .result)
+    (omega (
+      arith,
+      few-parameters (getD (start .args .set .seen) 0 false) (at-parameter-count .parameter-count .result)
+          (at-parameter-count .parameter-count .ensures),
+      at-floats-of-34 .floats-of-34 .ensures .0,
+    )))
 
 slice-aggregate-simulate-8 : tie.Need-slice-aggregate-simulate-8
 slice-aggregate-simulate-8 c = search needs
@@ -72,11 +88,19 @@ same-length-3 c = search needs
 returns : tie.Need-returns
 unfolding lists parametersOf
 returns c =
-    let a = c .before .before .before .before .before .before .before .before .before .before .before .before .before .before .before .before .before .before .before .before .before .before .before .before .before .before .before .before .before .before .before .args in
-    let w = c .before .before .before .before .before .before .before .before .before .before .before .before .before .before .before .before .before .before .before .before .before .before .before .before .before .before .before .floats-of-34 .ensures in
-    let e = first-parameters (getD (a .set .seen) 0 false) (c .before .before .before .before .before .before .before .before .before .before .before .before .before .before .before .before .before .before .before .before .before .before .before .before .before .before .parameter-count .result) (c .before .before .before .before .before .before .before .before .before .before .before .before .before .before .before .before .before .before .before .before .before .before .before .before .before .before .before .floats-of-34 .result) (c .before .before .before .before .before .before .before .before .before .before .before .before .before .before .before .before .before .before .before .before .before .before .before .before .before .before .parameter-count .ensures) (w .0) ∙ ap (λ (ws : List Float). cond (getD (a .set .seen) 0 false) ws []) (w .1) in
+    let at-simulate = c .before .before .before .before .before .before .before .before .before .before .before in
+    let at-from-bits = at-simulate .before .before .before .before .before .before .before .before .before .before .before .before .before in
+    let at-config-of = at-from-bits .before in
+    let at-parameter-count = at-config-of .before in
+    let at-floats-of-34 = at-parameter-count .before in
+    let start = at-floats-of-34 .before .before .before .before in
+    let a = start .args in
+    let w = at-floats-of-34 .floats-of-34 .ensures in
+    let e = first-parameters (getD (a .set .seen) 0 false) (at-parameter-count .parameter-count .result)
+    (at-floats-of-34 .floats-of-34 .result) (at-parameter-count .parameter-count .ensures) (w .0)
+    ∙ ap (λ (ws : List Float). cond (getD (a .set .seen) 0 false) ws []) (w .1) in
     run-days (a .set) (a .days .now) (a .costs .now) (a .memorized .now) _ _ _ _ _
-    (c .before .before .before .before .before .before .before .before .before .before .before .before .before .before .before .before .before .before .before .before .before .before .before .before .before .config-of .ensures) e (c .before .before .before .before .before .before .before .before .before .before .before .before .before .before .before .before .before .before .before .before .before .before .before .before .from-bits .ensures) (c .before .before .before .before .before .before .before .before .before .before .before .simulate .ensures)
+    (at-config-of .config-of .ensures) e (at-from-bits .from-bits .ensures) (at-simulate .simulate .ensures)
 
 pub run-spec : {M : Type 1} → statement M
 run-spec =

@@ -21,22 +21,30 @@ same-length c = search needs
 
 returns : tie.Need-returns
 returns c =
-    let a = c .before .before .before .before .before .before .before .before .before .before .before .before .before .before .args in
+    let at-write-days = c .before .before in
+    let at-at = at-write-days .before .before .before in
+    let at-write-forecast = at-at .before .before .before .before in
+    let start = at-write-forecast .before .before .before .before .before in
+    let a = start .args in
     run-printed (a .out .now) (a .days .now) (a .costs .now) (a .memorized .now) (a .span) (a .turns) (a .cards)
-    (c .before .before .before .before .before .before .before .before .before .before .before .before .before .before .pre .0) (c .before .before .before .before .before .before .before .before .before .before .before .before .before .before .pre .1 .0) (c .before .before .before .before .before .before .before .before .before .before .before .before .before .before .pre .1 .1 .0) (c .before .before .before .before .before .before .before .before .before .before .before .before .before .before .pre .1 .1 .1 .0) (c .before .before .before .before .before .before .before .before .before .before .before .before .before .before .pre .1 .1 .1 .1)
-    (c .before .before .before .before .before .at .given .0 .0) (c .before .before .before .before .before .before .before .before .before .write-forecast .last .0) (c .before .before .write-days .result) (c .before .before .write-days .last .0)
-    (sym (c .before .before .before .before .before .before .before .before .before .write-forecast .ensures .0) ∙ c .before .before .before .before .before .at .given .1) (c .before .before .before .before .before .before .before .before .before .write-forecast .ensures .1)
-    (c .before .before .write-days .ensures .0) (c .before .before .write-days .ensures .1)
+    (start .pre .0) (start .pre .1 .0) (start .pre .1 .1 .0) (start .pre .1 .1 .1 .0) (start .pre .1 .1 .1 .1)
+    (at-at .at .given .0 .0) (at-write-forecast .write-forecast .last .0) (at-write-days .write-days .result)
+    (at-write-days .write-days .last .0)
+    (sym (at-write-forecast .write-forecast .ensures .0) ∙ at-at .at .given .1)
+    (at-write-forecast .write-forecast .ensures .1)
+    (at-write-days .write-days .ensures .0) (at-write-days .write-days .ensures .1)
 
 same-length-2 : tie.Need-same-length-2
 same-length-2 c = search needs
 
 returns-2 : tie.Need-returns-2
 returns-2 c =
-    let a = c .before .before .before .before .before .before .before .before .before .args in
+    let at-write-forecast = c .before .before .before .before in
+    let start = at-write-forecast .before .before .before .before .before in
+    let a = start .args in
     absurd (never-full (a .out .now) (a .days .now) (a .costs .now) (a .memorized .now) (a .span) (a .turns) (a .cards)
-    (c .before .before .before .before .before .before .before .before .before .pre .0) (c .before .before .before .before .before .before .before .before .before .pre .1 .0) (c .before .before .before .before .before .before .before .before .before .pre .1 .1 .0) (c .before .before .before .before .before .before .before .before .before .pre .1 .1 .1 .0) (c .before .before .before .before .before .before .before .before .before .pre .1 .1 .1 .1)
-    (sym (c .before .before .before .before .write-forecast .ensures .0) ∙ c .enum-told .given .1))
+    (start .pre .0) (start .pre .1 .0) (start .pre .1 .1 .0) (start .pre .1 .1 .1 .0) (start .pre .1 .1 .1 .1)
+    (sym (at-write-forecast .write-forecast .ensures .0) ∙ c .enum-told .given .1))
 
 pub write-run-spec : {M : Type 1} → statement M
 write-run-spec =

@@ -60,12 +60,28 @@ put-text-requires c κs = search needs
 returns : tie.Need-returns
 unfolding cheapestLine
 returns c =
-    held (record { bytes = c .before .put-text .last .0; len = c .before .put-text .result }) (replicate 256 0)
-    (cheapestLine (c .before .before .before .before .before .before .before .before .before .before .before .before .before .before .before .before .before .before .before .args .retention) (c .before .before .before .before .before .before .before .before .before .before .before .before .before .before .before .before .before .before .before .args .rounds) (c .before .before .before .before .before .before .before .before .before .before .before .before .before .before .before .before .before .before .before .args .mean)) refl
-    (put-both (rw (c .before .before .before .before .before .before .before .before .before .before .before .before .before .before .before .before .to-bits .ensures) at (c .before .before .before .before .before .before .before .before .before .before .before .before .before .before .before .put-bits .ensures .0))
-    (put-both (rw (c .before .before .before .before .before .before .before .before .before .before .before .wide .ensures) at (c .before .before .before .before .before .before .before .before .before .before .put-number .ensures .0))
-    (put-both (rw (c .before .before .before .before .before .before .to-bits2 .ensures) at (c .before .before .before .before .before .put-bits2 .ensures .0)) (c .before .put-text .ensures))))
-    (omega (arith, c .before .put-text .ensures .place, c .before .before .before .before .before .before .before .before .before .before .before .before .before .before .before .put-bits .ensures .1, c .before .before .before .before .before .before .before .before .before .before .put-number .ensures .1, c .before .before .before .before .before .put-bits2 .ensures .1))
+    let at-put-text = c .before in
+    let at-put-bits2 = at-put-text .before .before .before .before in
+    let at-to-bits2 = at-put-bits2 .before in
+    let at-put-number = at-to-bits2 .before .before .before .before in
+    let at-wide = at-put-number .before in
+    let at-put-bits = at-wide .before .before .before .before in
+    let at-to-bits = at-put-bits .before in
+    let start = at-to-bits .before .before .before in
+    let a = start .args in
+    held (record { bytes = at-put-text .put-text .last .0; len = at-put-text .put-text .result }) (replicate 256 0)
+    (cheapestLine (a .retention) (a .rounds) (a .mean)) refl
+    (put-both (rw (at-to-bits .to-bits .ensures) at (at-put-bits .put-bits .ensures .0))
+    (put-both (rw (at-wide .wide .ensures) at (at-put-number .put-number .ensures .0))
+    (put-both (rw (at-to-bits2 .to-bits2 .ensures) at (at-put-bits2 .put-bits2 .ensures .0))
+    (at-put-text .put-text .ensures))))
+    (omega (
+      arith,
+      at-put-text .put-text .ensures .place,
+      at-put-bits .put-bits .ensures .1,
+      at-put-number .put-number .ensures .1,
+      at-put-bits2 .put-bits2 .ensures .1,
+    ))
 
 pub cheapest-line-spec : {M : Type 1} → statement M
 cheapest-line-spec =

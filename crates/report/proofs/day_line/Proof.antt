@@ -1,4 +1,3 @@
--- `report::day_line` meets its contract. At each return the tests and calls on the way say which case of the definition holds. Assumes nothing.
 use mathlib.Core.Path.{refl}
 use lib.ListN.{replicate}
 use Rattle.report.specs.Lines.{dayLine}
@@ -90,7 +89,24 @@ to-bits-requires-2 : tie.Need-to-bits-requires-2
 to-bits-requires-2 c κs = search needs
 
 put-bits-requires-2 : tie.Need-put-bits-requires-2
-put-bits-requires-2 c κs = (omega (arith, c .before .before .before .before .before .before .before .before .before .before .before .before .before .before .before .before .before .before .before .before .before .before .before .before .before .before .before .before .before .put-number .ensures .1, c .before .before .before .before .before .before .before .before .before .before .before .before .before .before .before .before .before .before .before .before .before .before .before .before .put-number2 .ensures .1, c .before .before .before .before .before .before .before .before .before .before .before .before .before .before .before .before .before .before .before .put-number3 .ensures .1, c .before .before .before .before .before .before .before .before .before .before .before .before .before .before .put-number4 .ensures .1, c .before .before .before .before .before .before .before .before .before .put-number5 .ensures .1, c .before .before .before .before .put-bits .ensures .1), omega arith)
+put-bits-requires-2 c κs =
+    let at-put-bits = c .before .before .before .before in
+    let at-put-number5 = at-put-bits .before .before .before .before .before in
+    let at-put-number4 = at-put-number5 .before .before .before .before .before in
+    let at-put-number3 = at-put-number4 .before .before .before .before .before in
+    let at-put-number2 = at-put-number3 .before .before .before .before .before in
+    let at-put-number = at-put-number2 .before .before .before .before .before in (
+      omega (
+        arith,
+        at-put-number .put-number .ensures .1,
+        at-put-number2 .put-number2 .ensures .1,
+        at-put-number3 .put-number3 .ensures .1,
+        at-put-number4 .put-number4 .ensures .1,
+        at-put-number5 .put-number5 .ensures .1,
+        at-put-bits .put-bits .ensures .1,
+      ),
+      omega arith,
+    )
 
 slice-aggregate-put-text : tie.Need-slice-aggregate-put-text
 slice-aggregate-put-text c = search needs
@@ -99,20 +115,65 @@ slice-aggregate-put-text-2 : tie.Need-slice-aggregate-put-text-2
 slice-aggregate-put-text-2 c = search needs
 
 put-text-requires : tie.Need-put-text-requires
-put-text-requires c κs = omega (arith, c .before .before .before .before .before .before .before .before .before .before .before .before .before .before .before .before .before .before .before .before .before .before .before .before .before .before .before .before .before .before .before .before .before .put-number .ensures .1, c .before .before .before .before .before .before .before .before .before .before .before .before .before .before .before .before .before .before .before .before .before .before .before .before .before .before .before .before .put-number2 .ensures .1, c .before .before .before .before .before .before .before .before .before .before .before .before .before .before .before .before .before .before .before .before .before .before .before .put-number3 .ensures .1, c .before .before .before .before .before .before .before .before .before .before .before .before .before .before .before .before .before .before .put-number4 .ensures .1, c .before .before .before .before .before .before .before .before .before .before .before .before .before .put-number5 .ensures .1, c .before .before .before .before .before .before .before .before .put-bits .ensures .1, c .before .before .before .put-bits2 .ensures .1)
+put-text-requires c κs =
+    let at-put-bits2 = c .before .before .before in
+    let at-put-bits = at-put-bits2 .before .before .before .before .before in
+    let at-put-number5 = at-put-bits .before .before .before .before .before in
+    let at-put-number4 = at-put-number5 .before .before .before .before .before in
+    let at-put-number3 = at-put-number4 .before .before .before .before .before in
+    let at-put-number2 = at-put-number3 .before .before .before .before .before in
+    let at-put-number = at-put-number2 .before .before .before .before .before in
+    omega (
+      arith,
+      at-put-number .put-number .ensures .1,
+      at-put-number2 .put-number2 .ensures .1,
+      at-put-number3 .put-number3 .ensures .1,
+      at-put-number4 .put-number4 .ensures .1,
+      at-put-number5 .put-number5 .ensures .1,
+      at-put-bits .put-bits .ensures .1,
+      at-put-bits2 .put-bits2 .ensures .1,
+    )
 
 returns : tie.Need-returns
 unfolding dayLine
-returns c = held (record { bytes = c .before .put-text .last .0; len = c .before .put-text .result }) (replicate 256 0) (dayLine (c .before .before .before .before .before .before .before .before .before .before .before .before .before .before .before .before .before .before .before .before .before .before .before .before .before .before .before .before .before .before .before .before .before .before .before .before .before .before .before .args .d)) refl
-    (put-both (rw (c .before .before .before .before .before .before .before .before .before .before .before .before .before .before .before .before .before .before .before .before .before .before .before .before .before .before .before .before .before .before .before .before .before .before .before .before .wide .ensures) at (c .before .before .before .before .before .before .before .before .before .before .before .before .before .before .before .before .before .before .before .before .before .before .before .before .before .before .before .before .before .before .before .before .before .before .before .put-number .ensures .0))
-    (put-both (rw (c .before .before .before .before .before .before .before .before .before .before .before .before .before .before .before .before .before .before .before .before .before .before .before .before .before .before .before .before .before .before .before .wide2 .ensures) at (c .before .before .before .before .before .before .before .before .before .before .before .before .before .before .before .before .before .before .before .before .before .before .before .before .before .before .before .before .before .before .put-number2 .ensures .0))
-    (put-both (rw (c .before .before .before .before .before .before .before .before .before .before .before .before .before .before .before .before .before .before .before .before .before .before .before .before .before .before .wide3 .ensures) at (c .before .before .before .before .before .before .before .before .before .before .before .before .before .before .before .before .before .before .before .before .before .before .before .before .before .put-number3 .ensures .0))
-    (put-both (rw (c .before .before .before .before .before .before .before .before .before .before .before .before .before .before .before .before .before .before .before .before .before .wide4 .ensures) at (c .before .before .before .before .before .before .before .before .before .before .before .before .before .before .before .before .before .before .before .before .put-number4 .ensures .0))
-    (put-both (rw (c .before .before .before .before .before .before .before .before .before .before .before .before .before .before .before .before .wide5 .ensures) at (c .before .before .before .before .before .before .before .before .before .before .before .before .before .before .before .put-number5 .ensures .0))
-    (put-both (rw (c .before .before .before .before .before .before .before .before .before .before .before .to-bits .ensures) at (c .before .before .before .before .before .before .before .before .before .before .put-bits .ensures .0))
-    (put-both (rw (c .before .before .before .before .before .before .to-bits2 .ensures) at (c .before .before .before .before .before .put-bits2 .ensures .0))
-    (c .before .put-text .ensures))))))))
-    (omega (arith, c .before .put-text .ensures .place, c .before .before .before .before .before .before .before .before .before .before .before .before .before .before .before .before .before .before .before .before .before .before .before .before .before .before .before .before .before .before .before .before .before .before .before .put-number .ensures .1, c .before .before .before .before .before .before .before .before .before .before .before .before .before .before .before .before .before .before .before .before .before .before .before .before .before .before .before .before .before .before .put-number2 .ensures .1, c .before .before .before .before .before .before .before .before .before .before .before .before .before .before .before .before .before .before .before .before .before .before .before .before .before .put-number3 .ensures .1, c .before .before .before .before .before .before .before .before .before .before .before .before .before .before .before .before .before .before .before .before .put-number4 .ensures .1, c .before .before .before .before .before .before .before .before .before .before .before .before .before .before .before .put-number5 .ensures .1, c .before .before .before .before .before .before .before .before .before .before .put-bits .ensures .1, c .before .before .before .before .before .put-bits2 .ensures .1))
+returns c =
+    let at-put-text = c .before in
+    let at-put-bits2 = at-put-text .before .before .before .before in
+    let at-to-bits2 = at-put-bits2 .before in
+    let at-put-bits = at-to-bits2 .before .before .before .before in
+    let at-to-bits = at-put-bits .before in
+    let at-put-number5 = at-to-bits .before .before .before .before in
+    let at-wide5 = at-put-number5 .before in
+    let at-put-number4 = at-wide5 .before .before .before .before in
+    let at-wide4 = at-put-number4 .before in
+    let at-put-number3 = at-wide4 .before .before .before .before in
+    let at-wide3 = at-put-number3 .before in
+    let at-put-number2 = at-wide3 .before .before .before .before in
+    let at-wide2 = at-put-number2 .before in
+    let at-put-number = at-wide2 .before .before .before .before in
+    let at-wide = at-put-number .before in
+    let start = at-wide .before .before .before in
+    held (record { bytes = at-put-text .put-text .last .0; len = at-put-text .put-text .result }) (replicate 256 0)
+    (dayLine (start .args .d)) refl
+    (put-both (rw (at-wide .wide .ensures) at (at-put-number .put-number .ensures .0))
+    (put-both (rw (at-wide2 .wide2 .ensures) at (at-put-number2 .put-number2 .ensures .0))
+    (put-both (rw (at-wide3 .wide3 .ensures) at (at-put-number3 .put-number3 .ensures .0))
+    (put-both (rw (at-wide4 .wide4 .ensures) at (at-put-number4 .put-number4 .ensures .0))
+    (put-both (rw (at-wide5 .wide5 .ensures) at (at-put-number5 .put-number5 .ensures .0))
+    (put-both (rw (at-to-bits .to-bits .ensures) at (at-put-bits .put-bits .ensures .0))
+    (put-both (rw (at-to-bits2 .to-bits2 .ensures) at (at-put-bits2 .put-bits2 .ensures .0))
+    (at-put-text .put-text .ensures))))))))
+    (omega (
+      arith,
+      at-put-text .put-text .ensures .place,
+      at-put-number .put-number .ensures .1,
+      at-put-number2 .put-number2 .ensures .1,
+      at-put-number3 .put-number3 .ensures .1,
+      at-put-number4 .put-number4 .ensures .1,
+      at-put-number5 .put-number5 .ensures .1,
+      at-put-bits .put-bits .ensures .1,
+      at-put-bits2 .put-bits2 .ensures .1,
+    ))
 
 pub day-line-spec : {M : Type 1} → statement M
 day-line-spec =

@@ -1,4 +1,3 @@
--- `report::forecast_line` meets its contract. At each return the tests and calls on the way say which case of the definition holds. Assumes nothing.
 use mathlib.Core.Path.{refl}
 use lib.ListN.{replicate}
 use Rattle.report.specs.Lines.{forecastLine}
@@ -55,12 +54,29 @@ put-text-requires c κs = search needs
 
 returns : tie.Need-returns
 unfolding forecastLine
-returns c = held (record { bytes = c .before .put-text .last .0; len = c .before .put-text .result }) (replicate 256 0) (forecastLine (c .before .before .before .before .before .before .before .before .before .before .before .before .before .before .before .before .before .before .before .args .span) (c .before .before .before .before .before .before .before .before .before .before .before .before .before .before .before .before .before .before .before .args .turns) (c .before .before .before .before .before .before .before .before .before .before .before .before .before .before .before .before .before .before .before .args .cards)) refl
-    (put-both (rw (c .before .before .before .before .before .before .before .before .before .before .before .before .before .before .before .before .wide .ensures) at (c .before .before .before .before .before .before .before .before .before .before .before .before .before .before .before .put-number .ensures .0))
-    (put-both (rw (c .before .before .before .before .before .before .before .before .before .before .before .wide2 .ensures) at (c .before .before .before .before .before .before .before .before .before .before .put-number2 .ensures .0))
-    (put-both (rw (c .before .before .before .before .before .before .wide3 .ensures) at (c .before .before .before .before .before .put-number3 .ensures .0))
-    (c .before .put-text .ensures))))
-    (omega (arith, c .before .put-text .ensures .place, c .before .before .before .before .before .before .before .before .before .before .before .before .before .before .before .put-number .ensures .1, c .before .before .before .before .before .before .before .before .before .before .put-number2 .ensures .1, c .before .before .before .before .before .put-number3 .ensures .1))
+returns c =
+    let at-put-text = c .before in
+    let at-put-number3 = at-put-text .before .before .before .before in
+    let at-wide3 = at-put-number3 .before in
+    let at-put-number2 = at-wide3 .before .before .before .before in
+    let at-wide2 = at-put-number2 .before in
+    let at-put-number = at-wide2 .before .before .before .before in
+    let at-wide = at-put-number .before in
+    let start = at-wide .before .before .before in
+    let a = start .args in
+    held (record { bytes = at-put-text .put-text .last .0; len = at-put-text .put-text .result }) (replicate 256 0)
+    (forecastLine (a .span) (a .turns) (a .cards)) refl
+    (put-both (rw (at-wide .wide .ensures) at (at-put-number .put-number .ensures .0))
+    (put-both (rw (at-wide2 .wide2 .ensures) at (at-put-number2 .put-number2 .ensures .0))
+    (put-both (rw (at-wide3 .wide3 .ensures) at (at-put-number3 .put-number3 .ensures .0))
+    (at-put-text .put-text .ensures))))
+    (omega (
+      arith,
+      at-put-text .put-text .ensures .place,
+      at-put-number .put-number .ensures .1,
+      at-put-number2 .put-number2 .ensures .1,
+      at-put-number3 .put-number3 .ensures .1,
+    ))
 
 pub forecast-line-spec : {M : Type 1} → statement M
 forecast-line-spec =

@@ -1,4 +1,3 @@
--- `report::put` meets its contract. At each return the tests and calls on the way say which case of the definition holds. Assumes nothing.
 use mathlib.Core.Path.{sym}
 use lib.Seq.{set-out}
 use borrow.Author.Needs.{needs}

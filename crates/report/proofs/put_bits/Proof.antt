@@ -1,4 +1,3 @@
--- `report::put_bits` meets its contract. At each return the tests and calls on the way say which case of the definition holds. Assumes nothing.
 use mathlib.Core.List.{_++_}
 use Rattle.report.specs.Digits.{hex}
 use Rattle.report.specs.Lines.{Put}
@@ -23,8 +22,19 @@ same-length : tie.Need-same-length
 same-length c = search needs
 
 returns : tie.Need-returns
-returns c = let p : Put (c .before .before .before .before .before .before .before .before .before .before .before .before .args .out .now) (c .before .before .before .before .before .before .before .before .before .before .before .before .args .at) (c .before .before .before .before .before .before .before .before .before .before .before .before .args .label .now ++ hex (c .before .before .before .before .before .before .before .before .before .before .before .before .args .w)) (c .before .before .put-text2 .result) (c .before .before .put-text2 .last .0) = put-both (c .before .before .before .before .before .before .before .before .put-text .ensures) (rw (c .before .before .before .before .before .hex-of .ensures) at (c .before .before .put-text2 .ensures)) in
-    (p, label-hex (c .before .before .before .before .before .before .before .before .before .before .before .before .args .at) (c .before .before .put-text2 .result) (c .before .before .before .before .before .before .before .before .before .before .before .before .args .w) (c .before .before .before .before .before .before .before .before .before .before .before .before .args .label .now) (c .before .before .before .before .before .before .before .before .before .before .before .before .args .out .now) (c .before .before .put-text2 .last .0) p)
+returns c =
+    let at-put-text2 = c .before .before in
+    let at-hex-of = at-put-text2 .before .before .before in
+    let at-put-text = at-hex-of .before .before .before in
+    let start = at-put-text .before .before .before .before in
+    let a = start .args in
+    let p : Put (a .out .now) (a .at) (a .label .now ++ hex (a .w)) (at-put-text2 .put-text2 .result)
+    (at-put-text2 .put-text2 .last .0) = put-both (at-put-text .put-text .ensures)
+    (rw (at-hex-of .hex-of .ensures) at (at-put-text2 .put-text2 .ensures)) in (
+      p,
+      label-hex (a .at) (at-put-text2 .put-text2 .result) (a .w) (a .label .now) (a .out .now)
+          (at-put-text2 .put-text2 .last .0) p,
+    )
 
 pub put-bits-spec : {M : Type 1} → statement M
 put-bits-spec =

@@ -1,4 +1,3 @@
--- `report::put_number` meets its contract. At each return the tests and calls on the way say which case of the definition holds. Assumes nothing.
 use mathlib.Core.List.{_++_}
 use Rattle.report.specs.Digits.{decimal}
 use Rattle.report.specs.Lines.{Put}
@@ -30,8 +29,21 @@ same-length : tie.Need-same-length
 same-length c = search needs
 
 returns : tie.Need-returns
-returns c = let p : Put (c .before .before .before .before .before .before .before .before .before .before .before .before .before .before .args .out .now) (c .before .before .before .before .before .before .before .before .before .before .before .before .before .before .args .at) (c .before .before .before .before .before .before .before .before .before .before .before .before .before .before .args .label .now ++ decimal (c .before .before .before .before .before .before .before .before .before .before .before .before .before .before .args .n)) (c .before .before .put-text2 .result) (c .before .before .put-text2 .last .0) = put-both (c .before .before .before .before .before .before .before .before .before .before .put-text .ensures) (rw (digits-part (c .before .before .before .before .before .before .before .digits-of .result .bytes) (c .before .before .before .before .before .before .before .digits-of .result .from) (decimal (c .before .before .before .before .before .before .before .before .before .before .before .before .before .before .args .n)) (c .before .before .before .before .before .before .before .digits-of .ensures .0) (c .before .before .before .before .before .before .before .digits-of .ensures .1 .1)) at (c .before .before .put-text2 .ensures)) in
-    (p, label-decimal (c .before .before .before .before .before .before .before .before .before .before .before .before .before .before .args .at) (c .before .before .put-text2 .result) (c .before .before .before .before .before .before .before .before .before .before .before .before .before .before .args .n) (c .before .before .before .before .before .before .before .before .before .before .before .before .before .before .args .label .now) (c .before .before .before .before .before .before .before .before .before .before .before .before .before .before .args .out .now) (c .before .before .put-text2 .last .0) p)
+returns c =
+    let at-put-text2 = c .before .before in
+    let at-digits-of = at-put-text2 .before .before .before .before .before in
+    let at-put-text = at-digits-of .before .before .before in
+    let start = at-put-text .before .before .before .before in
+    let a = start .args in
+    let p : Put (a .out .now) (a .at) (a .label .now ++ decimal (a .n)) (at-put-text2 .put-text2 .result)
+    (at-put-text2 .put-text2 .last .0) = put-both (at-put-text .put-text .ensures)
+    (rw (digits-part (at-digits-of .digits-of .result .bytes) (at-digits-of .digits-of .result .from)
+    (decimal (a .n)) (at-digits-of .digits-of .ensures .0) (at-digits-of .digits-of .ensures .1 .1)) at
+    (at-put-text2 .put-text2 .ensures)) in (
+      p,
+      label-decimal (a .at) (at-put-text2 .put-text2 .result) (a .n) (a .label .now) (a .out .now)
+          (at-put-text2 .put-text2 .last .0) p,
+    )
 
 pub put-number-spec : {M : Type 1} → statement M
 put-number-spec =

@@ -1,4 +1,4 @@
--- `report::put_text` meets its contract. The invariant: the first i bytes of the text are written. Assumes nothing.
+-- The invariant: the first i bytes of the text are written.
 use mathlib.Core.Path.{_≡_, refl, _∙_}
 use Prim.Native.Nat.{_-_, _≤_}
 use lib.ListN.{length, take}
@@ -34,7 +34,20 @@ loop-less : tie.Need-loop-less Inv-loop μ-loop
 loop-less c = search needs
 
 loop-again : tie.Need-loop-again Inv-loop μ-loop
-loop-again c = (omega arith, (c .before .before .put .ensures ∙ put-on (c .before .before .before .before .before .before .before .before .before .args .out .now) (c .before .before .before .before .before .before .loop .out) (c .before .before .before .before .before .before .before .before .before .args .text .now) (c .before .before .before .before .before .before .before .before .before .args .at) (c .before .before .before .before .before .before .loop .i) (c .before .before .before .before .before .loop-test .taken) (c .before .before .before .before .before .before .loop .inv .1 .0), c .before .before .put .kept .0 ∙ c .before .before .before .before .before .before .loop .inv .1 .1))
+loop-again c =
+    let at-put = c .before .before in
+    let at-loop-test = at-put .before .before .before in
+    let at-loop = at-loop-test .before in
+    let start = at-loop .before .before .before in
+    let a = start .args in (
+      omega arith,
+      (
+        at-put .put .ensures ∙ put-on (a .out .now) (at-loop .loop .out) (a .text .now) (a .at)
+            (at-loop .loop .i) (at-loop-test .loop-test .taken) (at-loop .loop .inv .1 .0),
+        at-put .put .kept .0
+            ∙ at-loop .loop .inv .1 .1,
+      ),
+    )
 
 add-result : tie.Need-add-result Inv-loop μ-loop
 add-result c = search needs
@@ -43,7 +56,15 @@ same-length : tie.Need-same-length Inv-loop μ-loop
 same-length c = c .before .loop .inv .1 .1
 
 returns : tie.Need-returns Inv-loop μ-loop
-returns c = record { place = omega arith; bytes = put-end (c .before .before .before .before .args .out .now) (c .before .loop .out) (c .before .before .before .before .args .text .now) (c .before .before .before .before .args .at) (c .before .loop .i) (c .loop-test .left) (c .before .loop .inv .1 .0) }
+returns c =
+    let at-loop = c .before in
+    let start = at-loop .before .before .before in
+    let a = start .args in
+    record {
+      place = omega arith;
+      bytes = put-end (a .out .now) (at-loop .loop .out) (a .text .now) (a .at)
+          (at-loop .loop .i) (c .loop-test .left) (at-loop .loop .inv .1 .0);
+    }
 
 pub put-text-spec : {M : Type 1} → statement M
 put-text-spec =

@@ -1,4 +1,3 @@
--- `report::write_day` meets its contract. At each return the tests and calls on the way say which case of the definition holds. Assumes nothing.
 use mathlib.Core.Path.{sym, ap, _∙_}
 use lib.Seq.{length-take-le}
 use Rattle.report.specs.Lines.{placed, written}
@@ -14,7 +13,10 @@ array-share-prefix-bytes : tie.Need-array-share-prefix-bytes
 array-share-prefix-bytes c = search needs
 
 slice-aggregate-write-line : tie.Need-slice-aggregate-write-line
-slice-aggregate-write-line c = sym (length-take-le (c .before .before .before .day-line .result .len) (c .before .before .before .day-line .result .bytes) (omega (arith, c .before .before .before .day-line .ensures .room, c .before .before .before .day-line .ensures .short)))
+slice-aggregate-write-line c =
+    let at-day-line = c .before .before .before in
+    sym (length-take-le (at-day-line .day-line .result .len) (at-day-line .day-line .result .bytes)
+    (omega (arith, at-day-line .day-line .ensures .room, at-day-line .day-line .ensures .short)))
 
 write-line-requires : tie.Need-write-line-requires
 write-line-requires c κs = search needs
@@ -23,7 +25,14 @@ same-length : tie.Need-same-length
 same-length c = search needs
 
 returns : tie.Need-returns
-returns c = (c .before .before .write-line .ensures .0 ∙ ap (placed (c .before .before .before .before .before .before .before .before .args .out .now) (c .before .before .before .before .before .before .before .before .args .at)) (c .before .before .before .before .before .before .day-line .ensures .says), c .before .before .write-line .ensures .1 ∙ ap (written (c .before .before .before .before .before .before .before .before .args .out .now) (c .before .before .before .before .before .before .before .before .args .at)) (c .before .before .before .before .before .before .day-line .ensures .says))
+returns c =
+    let at-write-line = c .before .before in
+    let at-day-line = at-write-line .before .before .before .before in
+    let start = at-day-line .before .before in
+    let a = start .args in (
+      at-write-line .write-line .ensures .0 ∙ ap (placed (a .out .now) (a .at)) (at-day-line .day-line .ensures .says),
+      at-write-line .write-line .ensures .1 ∙ ap (written (a .out .now) (a .at)) (at-day-line .day-line .ensures .says),
+    )
 
 pub write-day-spec : {M : Type 1} → statement M
 write-day-spec =

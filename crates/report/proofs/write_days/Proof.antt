@@ -39,11 +39,16 @@ same-length c = search needs
 returns-4 : tie.Need-returns-4
 unfolding spanPlaced spanWritten hasRows
 returns-4 c =
-    let a = c .before .before .before .before .before .before .before .before .before .before .args in
-    let d = le-leb (a .span) (length (a .days .now)) (c .before .before .before .before .before .before .if1 .left) in
-    let e = le-leb (a .span) (length (a .costs .now)) (c .before .before .before .before .before .if2 .left) in
-    let f = le-leb (a .span) (length (a .memorized .now)) (c .before .before .before .before .if3 .left) in
-    (rw (d, e, f) (c .before .before .write-rows .ensures .0), rw (d, e, f) (c .before .before .write-rows .ensures .1))
+    let at-write-rows = c .before .before in
+    let at-if3 = at-write-rows .before .before in
+    let at-if2 = at-if3 .before in
+    let at-if1 = at-if2 .before in
+    let start = at-if1 .before .before .before .before in
+    let a = start .args in
+    let d = le-leb (a .span) (length (a .days .now)) (at-if1 .if1 .left) in
+    let e = le-leb (a .span) (length (a .costs .now)) (at-if2 .if2 .left) in
+    let f = le-leb (a .span) (length (a .memorized .now)) (at-if3 .if3 .left) in
+    (rw (d, e, f) (at-write-rows .write-rows .ensures .0), rw (d, e, f) (at-write-rows .write-rows .ensures .1))
 
 pub write-days-spec : {M : Type 1} → statement M
 write-days-spec = tie.close (tie.spec returns returns-2 returns-3 write-rows-requires same-length returns-4)

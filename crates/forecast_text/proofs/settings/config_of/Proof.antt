@@ -24,12 +24,17 @@ floats-of-12-requires c κs = search needs
 returns : tie.Need-returns
 unfolding configOf
 returns c =
+    let at-floats-of-4 = c .before in
+    let at-from-bits = at-floats-of-4 .before .before .before in
+    let at-at-most2 = at-from-bits .before in
+    let at-at-most = at-at-most2 .before in
+    let at-default-config = at-at-most .before in
     rw (
-      c .before .before .before .before .before .before .before .default-config .ensures,
-      c .before .before .before .before .before .before .at-most .ensures,
-      c .before .before .before .before .before .at-most2 .ensures,
-      c .before .before .before .before .from-bits .ensures,
-      c .before .floats-of-4 .ensures,
+      at-default-config .default-config .ensures,
+      at-at-most .at-most .ensures,
+      at-at-most2 .at-most2 .ensures,
+      at-from-bits .from-bits .ensures,
+      at-floats-of-4 .floats-of-4 .ensures,
       c .floats-of-12 .ensures,
     )
 

@@ -22,11 +22,15 @@ state-rating-costs-requires c κs = search needs
 returns : tie.Need-returns
 unfolding defaultConfig round ofBits ofFields
 returns c =
+    let at-relearning-step-transitions = c .before in
+    let at-learning-step-transitions = at-relearning-step-transitions .before in
+    let at-review-rating-prob = at-learning-step-transitions .before in
+    let at-first-rating-prob = at-review-rating-prob .before in
     rw (
-      c .before .before .before .before .first-rating-prob .ensures,
-      c .before .before .before .review-rating-prob .ensures,
-      c .before .before .learning-step-transitions .ensures,
-      c .before .relearning-step-transitions .ensures,
+      at-first-rating-prob .first-rating-prob .ensures,
+      at-review-rating-prob .review-rating-prob .ensures,
+      at-learning-step-transitions .learning-step-transitions .ensures,
+      at-relearning-step-transitions .relearning-step-transitions .ensures,
       c .state-rating-costs .ensures,
     )
 

@@ -18,7 +18,15 @@ to-bits-requires c κs = search needs
 returns : tie.Need-returns
 unfolding defaultSettings
 returns c =
-    rw (c .before .before .bits-of-4 .ensures, c .before .bits-of-12 .ensures, c .to-bits .ensures, c .before .before .before .before .before .default-config .ensures)
+    let at-bits-of-12 = c .before in
+    let at-bits-of-4 = at-bits-of-12 .before in
+    let at-default-config = at-bits-of-4 .before .before .before in
+    rw (
+      at-bits-of-4 .bits-of-4 .ensures,
+      at-bits-of-12 .bits-of-12 .ensures,
+      c .to-bits .ensures,
+      at-default-config .default-config .ensures,
+    )
 
 pub default-settings-spec : {M : Type 1} → statement M
 default-settings-spec =

@@ -42,10 +42,12 @@ loop-less c = search needs
 
 loop-again : tie.Need-loop-again Inv-loop μ-loop
 loop-again c =
+    let at-loop-test = c .before .before in
     let at-loop = c .before .before .before in
     let l = at-loop .loop in
     let xs = at-loop .before .before .before .args .xs .now in
-    let e = map-on (toBits binary32) xs (l .out) (l .i) (l .inv .1 .0) (l .inv .1 .1) nan (c .before .before .loop-test .taken) in
+    let e = map-on (toBits binary32) xs (l .out) (l .i) (l .inv .1 .0) (l .inv .1 .1) nan
+    (at-loop-test .loop-test .taken) in
     (omega arith, (length-set (l .out) (l .i) (c .to-bits .result) ∙ l .inv .1 .0, rw (c .to-bits .ensures) e))
 
 same-length : tie.Need-same-length Inv-loop μ-loop
@@ -53,8 +55,10 @@ same-length c = search needs
 
 returns : tie.Need-returns Inv-loop μ-loop
 returns c =
-    let l = c .before .loop in
-    map-all (toBits binary32) (c .before .before .before .before .args .xs .now) (l .out) (l .i) (l .inv .1 .0) (l .inv .1 .1)
+    let at-loop = c .before in
+    let start = at-loop .before .before .before in
+    let l = at-loop .loop in
+    map-all (toBits binary32) (start .args .xs .now) (l .out) (l .i) (l .inv .1 .0) (l .inv .1 .1)
     (c .loop-test .left)
 
 pub put-bits-spec : {M : Type 1} → statement M

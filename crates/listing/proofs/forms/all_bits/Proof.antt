@@ -1,4 +1,3 @@
--- `listing::forms::all_bits` meets its contract. At each return the tests and calls on the way say which case of the definition holds. Assumes nothing.
 use mathlib.Core.Path.{sym}
 use Rattle.listing.specs.Places.{partsFrom}
 use Rattle.listing.specs.Numbers.{as32}
@@ -28,7 +27,23 @@ one-bits-requires c κs = search needs
 
 returns : tie.Need-returns
 unfolding all partsFrom
-returns c = rw (c .one-bits .ensures, parts-at (c .before .before .before .before .before .before .before .before .before .before .args .s .now) (c .before .before .before .before .before .before .before .before .before .before .args .i), sym (c .before .before .before .before .before .before .before .before .part-at .ensures), c .before .before .before .before .before .before .from .given .1, sym (c .before .before .before .before .part-of .ensures), sym (c .before .before .is-word .ensures), c .before .if1 .taken)
+returns c =
+    let at-if1 = c .before in
+    let at-is-word = at-if1 .before in
+    let at-part-of = at-is-word .before .before in
+    let at-from = at-part-of .before .before in
+    let at-part-at = at-from .before .before in
+    let start = at-part-at .before .before in
+    let a = start .args in
+    rw (
+      c .one-bits .ensures,
+      parts-at (a .s .now) (a .i),
+      sym (at-part-at .part-at .ensures),
+      at-from .from .given .1,
+      sym (at-part-of .part-of .ensures),
+      sym (at-is-word .is-word .ensures),
+      at-if1 .if1 .taken,
+    )
 
 enum-told : tie.Need-enum-told
 enum-told c = search needs
@@ -41,19 +56,46 @@ enum-told-3 c = search needs
 
 returns-2 : tie.Need-returns-2
 unfolding all partsFrom as32
-returns-2 c = rw (parts-at (c .before .before .before .before .before .before .before .before .before .args .s .now) (c .before .before .before .before .before .before .before .before .before .args .i), sym (c .before .before .before .before .before .before .before .part-at .ensures), c .before .before .before .before .before .from .given .1, sym (c .before .before .before .part-of .ensures), sym (c .before .is-word .ensures), c .if1 .left)
+returns-2 c =
+    let at-is-word = c .before in
+    let at-part-of = at-is-word .before .before in
+    let at-from = at-part-of .before .before in
+    let at-part-at = at-from .before .before in
+    let start = at-part-at .before .before in
+    let a = start .args in
+    rw (
+      parts-at (a .s .now) (a .i),
+      sym (at-part-at .part-at .ensures),
+      at-from .from .given .1,
+      sym
+          (at-part-of .part-of .ensures),
+      sym (at-is-word .is-word .ensures),
+      c .if1 .left,
+    )
 
 returns-3 : tie.Need-returns-3
 unfolding all partsFrom as32
-returns-3 c = rw (parts-at (c .before .before .before .before .args .s .now) (c .before .before .before .before .args .i), sym (c .before .before .part-at .ensures), c .enum-told .given .1)
+returns-3 c =
+    let at-part-at = c .before .before in
+    let start = at-part-at .before .before in
+    let a = start .args in
+    rw (parts-at (a .s .now) (a .i), sym (at-part-at .part-at .ensures), c .enum-told .given .1)
 
 returns-4 : tie.Need-returns-4
 unfolding all partsFrom as32
-returns-4 c = rw (parts-at (c .before .before .before .before .args .s .now) (c .before .before .before .before .args .i), sym (c .before .before .part-at .ensures), c .enum-told2 .given .1)
+returns-4 c =
+    let at-part-at = c .before .before in
+    let start = at-part-at .before .before in
+    let a = start .args in
+    rw (parts-at (a .s .now) (a .i), sym (at-part-at .part-at .ensures), c .enum-told2 .given .1)
 
 returns-5 : tie.Need-returns-5
 unfolding all partsFrom as32
-returns-5 c = rw (parts-at (c .before .before .before .before .args .s .now) (c .before .before .before .before .args .i), sym (c .before .before .part-at .ensures), c .enum-told3 .given .1)
+returns-5 c =
+    let at-part-at = c .before .before in
+    let start = at-part-at .before .before in
+    let a = start .args in
+    rw (parts-at (a .s .now) (a .i), sym (at-part-at .part-at .ensures), c .enum-told3 .given .1)
 
 pub all-bits-spec : {M : Type 1} → statement M
 all-bits-spec =

@@ -1,4 +1,3 @@
--- `listing::forms::next_bits` meets its contract. At each return the tests and calls on the way say which case of the definition holds. Assumes nothing.
 use mathlib.Core.Path.{sym}
 use Rattle.listing.specs.Numbers.{bits}
 use Rattle.listing.specs.Parsed.{as64, stepTo, bitsIn, nextBits}
@@ -36,11 +35,36 @@ enum-told-4 c = search needs
 
 returns : tie.Need-returns
 unfolding nextBits bitsIn stepTo as64
-returns c = rw (sym (c .before .before .before .before .before .before .before .before .part-at .ensures), c .before .before .before .before .before .before .from .given .1, sym (c .before .before .before .before .part-of .ensures), from-as32 (bits (c .before .before .before .before .part-of .result .now)) (c .before .before .before .bits-of .result) (c .before .before .before .bits-of .ensures), c .before .v .given .1)
+returns c =
+    let at-v = c .before in
+    let at-bits-of = at-v .before .before in
+    let at-part-of = at-bits-of .before in
+    let at-from = at-part-of .before .before in
+    let at-part-at = at-from .before .before in
+    rw (
+      sym (at-part-at .part-at .ensures),
+      at-from .from .given .1,
+      sym (at-part-of .part-of .ensures),
+      from-as32
+          (bits (at-part-of .part-of .result .now)) (at-bits-of .bits-of .result) (at-bits-of .bits-of .ensures),
+      at-v .v .given .1,
+    )
 
 returns-2 : tie.Need-returns-2
 unfolding nextBits bitsIn stepTo as64
-returns-2 c = rw (sym (c .before .before .before .before .before .before .before .part-at .ensures), c .before .before .before .before .before .from .given .1, sym (c .before .before .before .part-of .ensures), from-as32 (bits (c .before .before .before .part-of .result .now)) (c .before .before .bits-of .result) (c .before .before .bits-of .ensures), c .enum-told .given .1)
+returns-2 c =
+    let at-bits-of = c .before .before in
+    let at-part-of = at-bits-of .before in
+    let at-from = at-part-of .before .before in
+    let at-part-at = at-from .before .before in
+    rw (
+      sym (at-part-at .part-at .ensures),
+      at-from .from .given .1,
+      sym (at-part-of .part-of .ensures),
+      from-as32
+          (bits (at-part-of .part-of .result .now)) (at-bits-of .bits-of .result) (at-bits-of .bits-of .ensures),
+      c .enum-told .given .1,
+    )
 
 returns-3 : tie.Need-returns-3
 unfolding nextBits bitsIn

@@ -1,4 +1,3 @@
--- `listing::forms::one_number32` meets its contract. At each return the tests and calls on the way say which case of the definition holds. Assumes nothing.
 use mathlib.Core.Path.{sym}
 use Rattle.listing.specs.Places.{partsFrom}
 use Rattle.listing.specs.Numbers.{as32}
@@ -25,7 +24,24 @@ decimal32-requires c κs = search needs
 
 returns : tie.Need-returns
 unfolding one partsFrom
-returns c = rw (c .decimal32 .ensures, c .before .part-of .ensures, parts-at (c .before .before .before .before .before .before .before .before .before .args .s .now) (c .before .before .before .before .before .before .before .before .before .args .i), sym (c .before .before .before .before .before .before .before .part-at .ensures), c .before .before .before .before .before .from .given .1, sym (c .before .before .before .closes-at .ensures), c .before .before .if1 .taken)
+returns c =
+    let at-part-of = c .before in
+    let at-if1 = at-part-of .before in
+    let at-closes-at = at-if1 .before in
+    let at-from = at-closes-at .before .before in
+    let at-part-at = at-from .before .before in
+    let start = at-part-at .before .before in
+    let a = start .args in
+    rw (
+      c .decimal32 .ensures,
+      at-part-of .part-of .ensures,
+      parts-at (a .s .now) (a .i),
+      sym
+          (at-part-at .part-at .ensures),
+      at-from .from .given .1,
+      sym (at-closes-at .closes-at .ensures),
+      at-if1 .if1 .taken,
+    )
 
 enum-told : tie.Need-enum-told
 enum-told c = search needs
@@ -38,19 +54,44 @@ enum-told-3 c = search needs
 
 returns-2 : tie.Need-returns-2
 unfolding one partsFrom as32
-returns-2 c = rw (parts-at (c .before .before .before .before .before .before .before .args .s .now) (c .before .before .before .before .before .before .before .args .i), sym (c .before .before .before .before .before .part-at .ensures), c .before .before .before .from .given .1, sym (c .before .closes-at .ensures), c .if1 .left)
+returns-2 c =
+    let at-closes-at = c .before in
+    let at-from = at-closes-at .before .before in
+    let at-part-at = at-from .before .before in
+    let start = at-part-at .before .before in
+    let a = start .args in
+    rw (
+      parts-at (a .s .now) (a .i),
+      sym (at-part-at .part-at .ensures),
+      at-from .from .given .1,
+      sym
+          (at-closes-at .closes-at .ensures),
+      c .if1 .left,
+    )
 
 returns-3 : tie.Need-returns-3
 unfolding one partsFrom as32
-returns-3 c = rw (parts-at (c .before .before .before .before .args .s .now) (c .before .before .before .before .args .i), sym (c .before .before .part-at .ensures), c .enum-told .given .1)
+returns-3 c =
+    let at-part-at = c .before .before in
+    let start = at-part-at .before .before in
+    let a = start .args in
+    rw (parts-at (a .s .now) (a .i), sym (at-part-at .part-at .ensures), c .enum-told .given .1)
 
 returns-4 : tie.Need-returns-4
 unfolding one partsFrom as32
-returns-4 c = rw (parts-at (c .before .before .before .before .args .s .now) (c .before .before .before .before .args .i), sym (c .before .before .part-at .ensures), c .enum-told2 .given .1)
+returns-4 c =
+    let at-part-at = c .before .before in
+    let start = at-part-at .before .before in
+    let a = start .args in
+    rw (parts-at (a .s .now) (a .i), sym (at-part-at .part-at .ensures), c .enum-told2 .given .1)
 
 returns-5 : tie.Need-returns-5
 unfolding one partsFrom as32
-returns-5 c = rw (parts-at (c .before .before .before .before .args .s .now) (c .before .before .before .before .args .i), sym (c .before .before .part-at .ensures), c .enum-told3 .given .1)
+returns-5 c =
+    let at-part-at = c .before .before in
+    let start = at-part-at .before .before in
+    let a = start .args in
+    rw (parts-at (a .s .now) (a .i), sym (at-part-at .part-at .ensures), c .enum-told3 .given .1)
 
 pub one-number32-spec : {M : Type 1} → statement M
 one-number32-spec =

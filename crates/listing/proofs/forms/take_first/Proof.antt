@@ -1,4 +1,3 @@
--- `listing::forms::take_first` meets its contract. At each return the tests and calls on the way say which case of the definition holds. Assumes nothing.
 use Rattle.listing.specs.Forms.{setsFirst}
 use Rattle.listing.specs.Parsed.{asSeveral}
 use Rattle.listing.proofs.SeveralLaws.{four}
@@ -20,7 +19,10 @@ array-read-t16 c = search needs
 
 returns : tie.Need-returns
 unfolding setsFirst asSeveral
-returns c = rw (c .before .if1 .taken, four (c .before .before .before .args .w .values) (c .before .before .before .pre))
+returns c =
+    let at-if1 = c .before in
+    let start = at-if1 .before .before in
+    rw (at-if1 .if1 .taken, four (start .args .w .values) (start .pre))
 
 returns-2 : tie.Need-returns-2
 unfolding setsFirst asSeveral

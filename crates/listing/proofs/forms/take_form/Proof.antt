@@ -1,4 +1,3 @@
--- `listing::forms::take_form` meets its contract. At each return the tests and calls on the way say which case of the definition holds. Assumes nothing.
 use lib.ListN.{drop}
 use Rattle.listing.specs.Text.{parts}
 use Rattle.listing.specs.Numbers.{number32, bits}
@@ -106,15 +105,50 @@ enum-told-11 c = search needs
 
 returns : tie.Need-returns
 unfolding takes
-returns c = rw (c .take-parameters .ensures, c .before .before .all-bits .ensures, c .before .words .ensures .1, as64-as32 (all (parts (drop (c .before .before .before .before .before .before .args .i) (c .before .before .before .before .before .before .args .s .now)))), c .before .before .before .enum-told .given .1)
+returns c =
+    let at-words = c .before in
+    let at-all-bits = at-words .before in
+    let at-enum-told = at-all-bits .before in
+    let start = at-enum-told .before .before .before in
+    let a = start .args in
+    rw (
+      c .take-parameters .ensures,
+      at-all-bits .all-bits .ensures,
+      at-words .words .ensures .1,
+      as64-as32
+          (all (parts (drop (a .i) (a .s .now)))),
+      at-enum-told .enum-told .given .1,
+    )
 
 returns-2 : tie.Need-returns-2
 unfolding takes
-returns-2 c = rw (c .take-number .ensures, c .before .one-number32 .ensures, as64-as32 (one number32 (parts (drop (c .before .before .before .before .before .args .i) (c .before .before .before .before .before .args .s .now)))), c .before .before .enum-told2 .given .1)
+returns-2 c =
+    let at-one-number32 = c .before in
+    let at-enum-told2 = at-one-number32 .before in
+    let start = at-enum-told2 .before .before .before in
+    let a = start .args in
+    rw (
+      c .take-number .ensures,
+      at-one-number32 .one-number32 .ensures,
+      as64-as32
+          (one number32 (parts (drop (a .i) (a .s .now)))),
+      at-enum-told2 .enum-told2 .given .1,
+    )
 
 returns-3 : tie.Need-returns-3
 unfolding takes
-returns-3 c = rw (c .take-number2 .ensures, c .before .one-number322 .ensures, as64-as32 (one number32 (parts (drop (c .before .before .before .before .before .args .i) (c .before .before .before .before .before .args .s .now)))), c .before .before .enum-told3 .given .1)
+returns-3 c =
+    let at-one-number322 = c .before in
+    let at-enum-told3 = at-one-number322 .before in
+    let start = at-enum-told3 .before .before .before in
+    let a = start .args in
+    rw (
+      c .take-number2 .ensures,
+      at-one-number322 .one-number322 .ensures,
+      as64-as32
+          (one number32 (parts (drop (a .i) (a .s .now)))),
+      at-enum-told3 .enum-told3 .given .1,
+    )
 
 returns-4 : tie.Need-returns-4
 unfolding takes
@@ -122,19 +156,63 @@ returns-4 c = rw (c .take-seed .ensures, c .before .one-number64 .ensures, c .be
 
 returns-5 : tie.Need-returns-5
 unfolding takes
-returns-5 c = rw (c .take-number3 .ensures, c .before .one-number323 .ensures, as64-as32 (one number32 (parts (drop (c .before .before .before .before .before .args .i) (c .before .before .before .before .before .args .s .now)))), c .before .before .enum-told5 .given .1)
+returns-5 c =
+    let at-one-number323 = c .before in
+    let at-enum-told5 = at-one-number323 .before in
+    let start = at-enum-told5 .before .before .before in
+    let a = start .args in
+    rw (
+      c .take-number3 .ensures,
+      at-one-number323 .one-number323 .ensures,
+      as64-as32
+          (one number32 (parts (drop (a .i) (a .s .now)))),
+      at-enum-told5 .enum-told5 .given .1,
+    )
 
 returns-6 : tie.Need-returns-6
 unfolding takes
-returns-6 c = rw (c .take-number4 .ensures, c .before .one-number324 .ensures, as64-as32 (one number32 (parts (drop (c .before .before .before .before .before .args .i) (c .before .before .before .before .before .args .s .now)))), c .before .before .enum-told6 .given .1)
+returns-6 c =
+    let at-one-number324 = c .before in
+    let at-enum-told6 = at-one-number324 .before in
+    let start = at-enum-told6 .before .before .before in
+    let a = start .args in
+    rw (
+      c .take-number4 .ensures,
+      at-one-number324 .one-number324 .ensures,
+      as64-as32
+          (one number32 (parts (drop (a .i) (a .s .now)))),
+      at-enum-told6 .enum-told6 .given .1,
+    )
 
 returns-7 : tie.Need-returns-7
 unfolding takes
-returns-7 c = rw (c .take-number5 .ensures, c .before .one-bits .ensures, as64-as32 (one bits (parts (drop (c .before .before .before .before .before .args .i) (c .before .before .before .before .before .args .s .now)))), c .before .before .enum-told7 .given .1)
+returns-7 c =
+    let at-one-bits = c .before in
+    let at-enum-told7 = at-one-bits .before in
+    let start = at-enum-told7 .before .before .before in
+    let a = start .args in
+    rw (
+      c .take-number5 .ensures,
+      at-one-bits .one-bits .ensures,
+      as64-as32
+          (one bits (parts (drop (a .i) (a .s .now)))),
+      at-enum-told7 .enum-told7 .given .1,
+    )
 
 returns-8 : tie.Need-returns-8
 unfolding takes
-returns-8 c = rw (c .take-number6 .ensures, c .before .one-bits2 .ensures, as64-as32 (one bits (parts (drop (c .before .before .before .before .before .args .i) (c .before .before .before .before .before .args .s .now)))), c .before .before .enum-told8 .given .1)
+returns-8 c =
+    let at-one-bits2 = c .before in
+    let at-enum-told8 = at-one-bits2 .before in
+    let start = at-enum-told8 .before .before .before in
+    let a = start .args in
+    rw (
+      c .take-number6 .ensures,
+      at-one-bits2 .one-bits2 .ensures,
+      as64-as32
+          (one bits (parts (drop (a .i) (a .s .now)))),
+      at-enum-told8 .enum-told8 .given .1,
+    )
 
 returns-9 : tie.Need-returns-9
 unfolding takes
@@ -142,7 +220,17 @@ returns-9 c = rw (c .take-first .ensures, c .before .words2 .ensures .1, c .befo
 
 returns-10 : tie.Need-returns-10
 unfolding takes
-returns-10 c = rw (c .take-number7 .ensures, c .before .all-bits2 .ensures, as64-as32 (all (parts (drop (c .before .before .before .before .before .args .i) (c .before .before .before .before .before .args .s .now)))), c .before .before .enum-told10 .given .1)
+returns-10 c =
+    let at-all-bits2 = c .before in
+    let at-enum-told10 = at-all-bits2 .before in
+    let start = at-enum-told10 .before .before .before in
+    let a = start .args in
+    rw (
+      c .take-number7 .ensures,
+      at-all-bits2 .all-bits2 .ensures,
+      as64-as32 (all (parts (drop (a .i) (a .s .now)))),
+      at-enum-told10 .enum-told10 .given .1,
+    )
 
 returns-11 : tie.Need-returns-11
 unfolding takes

@@ -1,4 +1,3 @@
--- `listing::forms::take_number` meets its contract. At each return the tests and calls on the way say which case of the definition holds. Assumes nothing.
 use Rattle.listing.specs.Forms.{setsNumber}
 use Rattle.listing.specs.Parsed.{as64}
 use borrow.Author.Needs.{needs}

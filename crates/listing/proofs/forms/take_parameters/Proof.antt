@@ -1,4 +1,3 @@
--- `listing::forms::take_parameters` meets its contract. At each return the tests and calls on the way say which case of the definition holds. Assumes nothing.
 use Rattle.listing.specs.Forms.{allOr, setsParameters}
 use Rattle.listing.specs.Parsed.{as64, asSeveral}
 use Rattle.listing.proofs.SeveralLaws.{whole}
@@ -14,7 +13,10 @@ enum-told c = search needs
 
 returns : tie.Need-returns
 unfolding setsParameters allOr as64 asSeveral
-returns c = rw (c .before .enum-told .given .1, c .if1 .taken, whole (c .before .before .before .before .args .w .values) (c .before .before .before .before .pre))
+returns c =
+    let at-enum-told = c .before in
+    let start = at-enum-told .before .before .before in
+    rw (at-enum-told .enum-told .given .1, c .if1 .taken, whole (start .args .w .values) (start .pre))
 
 returns-2 : tie.Need-returns-2
 unfolding setsParameters allOr as64 asSeveral

@@ -1,4 +1,3 @@
--- `listing::forms::take_seed` meets its contract. At each return the tests and calls on the way say which case of the definition holds. Assumes nothing.
 use Rattle.listing.specs.Forms.{withNumber, setsNumber}
 use borrow.Author.Needs.{needs}
 use Rattle.listing.proofs.forms.take_seed.Statement.{statement}

@@ -1,4 +1,3 @@
--- `listing::numbers::bits_of` meets its contract. At each return the tests and calls on the way say which case of the definition holds. Assumes nothing.
 use mathlib.Core.Path.{sym, _∙_}
 use borrow.Author.Tests.{eq-eqb, ne-eqb}
 use Rattle.listing.specs.Numbers.{bits, as32}
@@ -19,18 +18,35 @@ enum-known-n : tie.Need-enum-known-n
 enum-known-n c = search needs
 
 cast-t7 : tie.Need-cast-t7
-cast-t7 c = record { fits = omega (arith, number-le 16 4294967295 (c .before .before .before .before .before .before .args .w .now) (c .before .n .given .0 .0) (sym (c .before .before .before .number-of .ensures) ∙ c .before .n .given .1)) }
+cast-t7 c =
+    let at-n = c .before in
+    let at-number-of = at-n .before .before in
+    let start = at-number-of .before .before .before in
+    record {
+      fits = omega (
+        arith,
+        number-le 16 4294967295 (start .args .w .now) (at-n .n .given .0 .0)
+            (sym (at-number-of .number-of .ensures) ∙ at-n .n .given .1),
+      );
+    }
 
 enum-told : tie.Need-enum-told
 enum-told c = search needs
 
 returns-2 : tie.Need-returns-2
 unfolding bits as32
-returns-2 c = rw (eq-eqb _ _ (c .before .before .before .before .if1 .left), sym (c .before .before .before .number-of .ensures), c .before .n .given .1)
+returns-2 c =
+    let at-n = c .before in
+    let at-number-of = at-n .before .before in
+    let at-if1 = at-number-of .before in
+    rw (eq-eqb _ _ (at-if1 .if1 .left), sym (at-number-of .number-of .ensures), at-n .n .given .1)
 
 returns-3 : tie.Need-returns-3
 unfolding bits as32
-returns-3 c = rw (eq-eqb _ _ (c .before .before .before .if1 .left), sym (c .before .before .number-of .ensures), c .enum-told .given .1)
+returns-3 c =
+    let at-number-of = c .before .before in
+    let at-if1 = at-number-of .before in
+    rw (eq-eqb _ _ (at-if1 .if1 .left), sym (at-number-of .number-of .ensures), c .enum-told .given .1)
 
 pub bits-of-spec : {M : Type 1} → statement M
 bits-of-spec =

@@ -1,4 +1,3 @@
--- `listing::numbers::decimal32` meets its contract. At each return the tests and calls on the way say which case of the definition holds. Assumes nothing.
 use mathlib.Core.Path.{sym, _∙_}
 use Rattle.listing.specs.Numbers.{number32, as32}
 use Rattle.listing.proofs.NumberLaws.{number-le}
@@ -14,7 +13,17 @@ enum-known-n : tie.Need-enum-known-n
 enum-known-n c = search needs
 
 cast-t5 : tie.Need-cast-t5
-cast-t5 c = record { fits = omega (arith, number-le 10 4294967295 (c .before .before .before .before .before .args .w .now) (c .before .n .given .0 .0) (sym (c .before .before .before .number-of .ensures) ∙ c .before .n .given .1)) }
+cast-t5 c =
+    let at-n = c .before in
+    let at-number-of = at-n .before .before in
+    let start = at-number-of .before .before in
+    record {
+      fits = omega (
+        arith,
+        number-le 10 4294967295 (start .args .w .now) (at-n .n .given .0 .0)
+            (sym (at-number-of .number-of .ensures) ∙ at-n .n .given .1),
+      );
+    }
 
 enum-told : tie.Need-enum-told
 enum-told c = search needs

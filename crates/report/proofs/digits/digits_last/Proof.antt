@@ -1,4 +1,3 @@
--- `report::digits_last` meets its contract. At each return the tests and calls on the way say which case of the definition holds. Assumes nothing.
 use mathlib.Core.Path.{refl}
 use borrow.Author.Needs.{needs}
 use Rattle.report.proofs.digits.digits_last.Statement.{statement}

@@ -1,4 +1,4 @@
--- `report::digits_of` meets its contract. The invariant: the digits of m, of which i more go in front, and those from i + 1 on are the digits of n. Assumes nothing.
+-- The invariant: the digits of m, of which i more go in front, and those from i + 1 on are the digits of n.
 use mathlib.Core.Path.{_≡_, refl, ap, _∙_}
 use Prim.Native.Nat.{_+_, _<_, _%_}
 use mathlib.Core.List.{_++_}
@@ -23,7 +23,19 @@ digits-last-requires : tie.Need-digits-last-requires Inv-loop μ-loop
 digits-last-requires c κs = search needs
 
 returns : tie.Need-returns Inv-loop μ-loop
-returns c = (ap length (c .digits-last .ensures .1) ∙ (length-set (c .before .before .before .loop .bytes) (c .before .before .before .loop .i) (48 + c .before .before .before .loop .m % 10) ∙ c .before .before .before .loop .inv .1 .0), (omega (arith, c .digits-last .ensures .0), rw (c .digits-last .ensures .0, c .digits-last .ensures .1) (digits-stop (c .before .before .before .loop .bytes) (c .before .before .before .loop .m) (decimal (c .before .before .before .before .args .n)) (c .before .before .before .loop .i) (omega arith) (c .before .if1 .taken) (c .before .before .before .loop .inv .1 .1))))
+returns c =
+    let at-if1 = c .before in
+    let at-loop = at-if1 .before .before in
+    let start = at-loop .before in (
+      ap length (c .digits-last .ensures .1)
+          ∙ (length-set (at-loop .loop .bytes) (at-loop .loop .i) (48 + at-loop .loop .m % 10) ∙ at-loop .loop .inv .1 .0),
+      (
+        omega (arith, c .digits-last .ensures .0),
+        rw (c .digits-last .ensures .0, c .digits-last .ensures .1)
+            (digits-stop (at-loop .loop .bytes) (at-loop .loop .m) (decimal (start .args .n)) (at-loop .loop .i) (omega arith)
+            (at-if1 .if1 .taken) (at-loop .loop .inv .1 .1)),
+      ),
+    )
 
 decimal-byte-requires : tie.Need-decimal-byte-requires Inv-loop μ-loop
 decimal-byte-requires c κs = search needs
@@ -38,13 +50,35 @@ loop-less : tie.Need-loop-less Inv-loop μ-loop
 loop-less c = search needs
 
 loop-again : tie.Need-loop-again Inv-loop μ-loop
-loop-again c = (omega arith, (length-set (c .before .before .before .loop .bytes) (c .before .before .before .loop .i) (c .decimal-byte .result) ∙ c .before .before .before .loop .inv .1 .0, rw (c .decimal-byte .ensures) (digits-more (c .before .before .before .loop .bytes) (c .before .before .before .loop .m) (decimal (c .before .before .before .before .args .n)) (c .before .before .before .loop .i) (omega arith) (omega arith) (omega arith) (c .before .before .before .loop .inv .1 .1))))
+loop-again c =
+    let at-loop = c .before .before .before in
+    let start = at-loop .before in (
+      omega arith,
+      (
+        length-set (at-loop .loop .bytes) (at-loop .loop .i) (c .decimal-byte .result)
+            ∙ at-loop .loop .inv .1 .0,
+        rw (c .decimal-byte .ensures)
+            (digits-more (at-loop .loop .bytes) (at-loop .loop .m) (decimal (start .args .n)) (at-loop .loop .i) (omega arith)
+            (omega arith) (omega arith) (at-loop .loop .inv .1 .1)),
+      ),
+    )
 
 digits-last-requires-2 : tie.Need-digits-last-requires-2 Inv-loop μ-loop
 digits-last-requires-2 c κs = search needs
 
 returns-2 : tie.Need-returns-2 Inv-loop μ-loop
-returns-2 c = (ap length (c .digits-last2 .ensures .1) ∙ (length-set (c .before .before .loop .bytes) (c .before .before .loop .i) (48 + c .before .before .loop .m % 10) ∙ c .before .before .loop .inv .1 .0), (omega (arith, c .digits-last2 .ensures .0), rw (c .digits-last2 .ensures .0, c .digits-last2 .ensures .1) (digits-ended (c .before .before .loop .bytes) (c .before .before .loop .m) (decimal (c .before .before .before .args .n)) (c .before .before .loop .i) (omega arith) (omega arith) (c .before .before .loop .inv .1 .1))))
+returns-2 c =
+    let at-loop = c .before .before in
+    let start = at-loop .before in (
+      ap length (c .digits-last2 .ensures .1)
+          ∙ (length-set (at-loop .loop .bytes) (at-loop .loop .i) (48 + at-loop .loop .m % 10) ∙ at-loop .loop .inv .1 .0),
+      (
+        omega (arith, c .digits-last2 .ensures .0),
+        rw (c .digits-last2 .ensures .0, c .digits-last2 .ensures .1)
+            (digits-ended (at-loop .loop .bytes) (at-loop .loop .m) (decimal (start .args .n)) (at-loop .loop .i) (omega arith)
+            (omega arith) (at-loop .loop .inv .1 .1)),
+      ),
+    )
 
 pub digits-of-spec : {M : Type 1} → statement M
 digits-of-spec =

@@ -1,4 +1,3 @@
--- `report::hex_byte` meets its contract. At each return the tests and calls on the way say which case of the definition holds. Assumes nothing.
 use borrow.Author.Tests.{lt-ltb, le-ltb}
 use Rattle.report.specs.Digits.{hexByte}
 use borrow.Author.Needs.{needs}

@@ -1,4 +1,4 @@
--- `report::hex_of` meets its contract. The invariant: the digits of m, of which there are i, and those from i on are the digits of n. Assumes nothing.
+-- The invariant: the digits of m, of which there are i, and those from i on are the digits of n.
 use mathlib.Core.Path.{_≡_, refl, _∙_}
 use Prim.Native.Nat.{_-_, _≤_}
 use mathlib.Core.List.{_++_}
@@ -32,10 +32,25 @@ loop-less : tie.Need-loop-less Inv-loop μ-loop
 loop-less c = search needs
 
 loop-again : tie.Need-loop-again Inv-loop μ-loop
-loop-again c = (omega arith, (length-set (c .before .before .loop .bytes) (c .before .before .loop .i - 1) (c .hex-byte .result) ∙ c .before .before .loop .inv .1 .0, rw (c .hex-byte .ensures) (hex-on (c .before .before .loop .bytes) (c .before .before .loop .m) (c .before .before .loop .i) (hex (c .before .before .before .args .n)) (omega arith) (omega arith) (c .before .before .loop .inv .1 .1))))
+loop-again c =
+    let at-loop = c .before .before in
+    let start = at-loop .before in (
+      omega arith,
+      (
+        length-set (at-loop .loop .bytes) (at-loop .loop .i - 1) (c .hex-byte .result)
+            ∙ at-loop .loop .inv .1 .0,
+        rw (c .hex-byte .ensures)
+            (hex-on (at-loop .loop .bytes) (at-loop .loop .m) (at-loop .loop .i) (hex (start .args .n)) (omega arith)
+            (omega arith) (at-loop .loop .inv .1 .1)),
+      ),
+    )
 
 returns : tie.Need-returns Inv-loop μ-loop
-returns c = hex-end (c .before .loop .bytes) (c .before .loop .m) (c .before .loop .i) (hex (c .before .before .args .n)) (omega arith) (c .before .loop .inv .1 .1)
+returns c =
+    let at-loop = c .before in
+    let start = at-loop .before in
+    hex-end (at-loop .loop .bytes) (at-loop .loop .m) (at-loop .loop .i) (hex (start .args .n)) (omega arith)
+    (at-loop .loop .inv .1 .1)
 
 pub hex-of-spec : {M : Type 1} → statement M
 hex-of-spec =
