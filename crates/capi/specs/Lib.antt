@@ -2,3 +2,5 @@
 pub mod Answer
 pub mod Config
 pub mod State
+pub mod Search
+pub mod Stepper

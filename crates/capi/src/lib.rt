@@ -4,4 +4,5 @@ mod heap;
 mod memory;
 mod numbers;
 mod run;
+mod search;
 mod table;

@@ -9,7 +9,7 @@ ghost use Rattle.capi.specs.Answer.{numbersFrom, numbersOf, CallContract
 ghost use mathlib.Core.Path.{_≡_};
 ghost use Rattle.capi.specs.Config.{configOf};
 
-fn config_of(
+pub(crate) fn config_of(
     numbers: &[u32; 8],
     max_cost_perday: f32,
     max_ivl: f32,

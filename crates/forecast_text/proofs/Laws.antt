@@ -24,7 +24,7 @@ use Rattle.simulation.specs.declared.Answer.{Answer}
 use Rattle.simulation.specs.declared.Answer.the-variants as answer
 use Rattle.simulation.specs.Refusals.{numberOf, secondOf}
 use Rattle.simulation.specs.State.{mostCards, mostDays}
-use Rattle.simulation.specs.Entry.{firstWhere, listsOk, checkFirst, checked}
+use Rattle.simulation.specs.Entry.{firstWhere, listsOk, checkFirst, checkedWith, checked}
 use Rattle.simulation.specs.Simulate.{simulatedBy}
 use Rattle.forecast_text.specs.Settings.{mostDeck, mostSpan, within, configOf, inputsOf, defaultSettings}
 use Rattle.forecast_text.specs.Forecast.{places, lists, lentLists, runWith, forecastRun, room, answerText, runText}
@@ -61,7 +61,7 @@ lists-long s =
     )
 
 pub entry-is : (s : Settings) → checked (inputsOf s) (lentLists s) ≡ entryOf s
-unfolding checked entryOf inputsOf configOf checkFirst firstWhere
+unfolding checkedWith entryOf inputsOf configOf checkFirst firstWhere
 entry-is s =
     rw (
       lists-long s,

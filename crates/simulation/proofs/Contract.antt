@@ -2,7 +2,12 @@
 -- has the result of `simulated`; where it ends Ok, demand 3 holds of it.
 use mathlib.Core.Path.{_≡_, refl, sym, ap, _∙_, subst}
 use mathlib.Core.Option.{some}
+use mathlib.Core.Bool.{Bool, true, not, _&&_, _||_}
+use lib.Dec.{eqb, ltb}
+use lib.ListN.{length}
 use lib.Ieee.{Float}
+use Rattle.float32.specs.Numbers.{0ᶠ}
+use Rattle.float32.specs.Float32.{isFinite}
 use Rattle.draws.specs.Draws.{splitMix}
 use Rattle.model.specs.Runtime as Runtime
 use Rattle.events.specs.Scalars.{Scalars, kept}
@@ -15,26 +20,34 @@ use Rattle.simulation.specs.declared.Answer.{Answer}
 use Rattle.simulation.specs.declared.Answer.the-variants as answer
 use Rattle.simulation.specs.State.{State, Lent, listsOf, withDraws}
 use Rattle.simulation.specs.Rules.{rulesOf}
-use Rattle.simulation.specs.Entry.{Inputs, inputs, listsOk, checked}
+use Rattle.simulation.specs.Entry.{Inputs, inputs, firstWhere, notFinite, checkParameters, listsOk}
+use Rattle.simulation.specs.Entry.{checkedWith, checked}
+use Rattle.cards.specs.Config.{configOk}
 use Rattle.simulation.specs.Simulate.{progress, rulesFor, resultFrom, simulatedBy, simulated, IsResult}
 use Rattle.simulation.specs.Steps.{InnerContract}
 use Rattle.simulation.specs.Demands.{startOf, RunContract}
-use Rattle.simulation.proofs.entry.Accepted.{accepted}
+use Rattle.simulation.proofs.entry.Accepted.{passes, accepted}
 use Rattle.simulation.proofs.run.Suits.{suits}
 use Rattle.simulation.proofs.run.DemandThree.{has-stopped, stops-so}
 use Rattle.simulation.proofs.run.Answers.{ok-demand}
-use Rattle.turns.proofs.Logic.{not-one}
+use Rattle.turns.proofs.Logic.{not-one, both, not-false}
 
 not-finished : (r : Refusal) (p q : Progress) → answer.Refused r p ≡ answer.Finished q → ⊥
 not-finished r p q e = not-one cc
 
 module _ (i : Inputs) (s : State Float) where
-  -- the entry's tests look neither at the seed nor at the draws
-  pub same-check : {c : Check}
-      → c ≡ checked (inputs (i .config) (i .parameters) (i .retention) 0 (i .existing) (i .existing-counts))
-      (withDraws 0 s) → c ≡ checked i s
-  unfolding checked listsOk
-  same-check e = e
+  -- the entry's tests look neither at the retention's value, nor at the seed, nor at the draws
+  pub same-tests : (ok : Bool) {c : Check}
+      → c ≡ checkedWith ok (inputs (i .config) (i .parameters) 0ᶠ 0 (i .existing) (i .existing-counts)) (withDraws 0 s)
+      → c ≡ checkedWith ok i s
+  unfolding checkedWith listsOk
+  same-tests ok e = e
+
+  -- those of a run
+  pub same-check : (ok : Bool) {c : Check} → ok ≡ isFinite (i .retention)
+      → c ≡ checkedWith ok (inputs (i .config) (i .parameters) 0ᶠ 0 (i .existing) (i .existing-counts)) (withDraws 0 s)
+      → c ≡ checked i s
+  same-check ok f e = same-tests ok e ∙ ap (λ (b : Bool). checkedWith b i s) f
 
   pub refused-is : (r : Refusal) → checked i s ≡ check.Failed r
       → RunContract i s (answer.Refused r (progress 0 0 (i .seed))) (listsOf s)
@@ -65,3 +78,16 @@ module _ (i : Inputs) (s : State Float) where
       demand-three = λ p f. ok-demand (rulesFor i) i s (suits splitMix i s (accepted i s e)) p
           (result .answer ∙ ap some f) l′ (result .lists);
     }
+
+-- a call that passes has passed the test of its own setting
+pub setting-ok : {C : Type 0} (ok : Bool) (i : Inputs) (s : State C) → checkedWith ok i s ≡ check.Passed → ok ≡ true
+unfolding checkedWith checkParameters
+setting-ok ok i s e =
+    let w = i .parameters in
+    let g = i .config in
+    let p₁ = passes (ltb (length w) 34) _ _ e in
+    let p₂ = passes (ltb (firstWhere (notFinite w) 34 0) 34) _ _ (p₁ .1) in
+    let p₃ = passes (eqb (g .«deck_size») 0 || ltb 65536 (g .«deck_size»)) _ _ (p₂ .1) in
+    let p₄ = passes (eqb (g .«learn_span») 0 || ltb 36500 (g .«learn_span»)) _ _ (p₃ .1) in
+    let p₅ = passes (not (configOk g && ok)) _ _ (p₄ .1) in
+    both (configOk g) ok (not-false _ (p₅ .0)) .1

@@ -3,7 +3,7 @@
 use mathlib.Core.Path.{_≡_, refl, sym, ap, _∙_}
 use mathlib.Core.List.{List}
 use mathlib.Core.Option.{some}
-use mathlib.Core.Logic.{_↔_, _≢_}
+use mathlib.Core.Logic.{_↔_, _≢_, _⊎_, inl, inr}
 use Prim.Native.Nat.{ℕ}
 use lib.ListN.{length}
 use lib.Ieee.{Float}
@@ -22,6 +22,7 @@ use Rattle.simulation.specs.declared.Stop.the-variants as stop
 use Rattle.simulation.specs.State.{State}
 use Rattle.simulation.specs.Rules.{Rules, rulesWith}
 use Rattle.simulation.specs.Entry.{Inputs, checked}
+use Rattle.simulation.specs.Refusals.{numberOf}
 use Rattle.simulation.specs.SetUp.{emptyDeck, addAllCards, setUp}
 use Rattle.simulation.specs.RunRefusals.{StopCondition}
 use Rattle.simulation.specs.Simulate.{progress, answerOf, resultFrom, simulatedBy}
@@ -30,7 +31,7 @@ use Rattle.simulation.proofs.entry.Accepted.{accepted}
 use Rattle.simulation.proofs.turn.Stops.{stops-iff}
 use Rattle.simulation.proofs.run.Suits.{suits}
 use Rattle.simulation.proofs.run.Table.{end-sound}
-use Rattle.simulation.proofs.run.Frame.{lists-free, cards-are, beyond-same}
+use Rattle.simulation.proofs.run.Frame.{lists-free, cards-are, beyond-same, lengths-same}
 use Rattle.simulation.proofs.run.DemandThree.{few-turns}
 use Rattle.simulation.proofs.run.Due.{due-after, due-left, never-due}
 use Rattle.simulation.proofs.run.Answers.{ok-passed, told-stop, stop-told, ok-demand}
@@ -68,6 +69,31 @@ no-due-refusal w i s e c p z =
     let by = stops-iff w (i .config) (plain (i .parameters)) (endOf R i s) (end-sound R (fit .slots) i s) stop in
     never-due R i s (accepted i s e) fit c (by .0 (told-stop R i s fit e stop p z))
 
+-- the condition of a stop leaves only two refusals
+seven-or-eight : {C : Type 0} (R : Rules C) (s : State C) (r : Refusal) → StopCondition R s (stop.Refused r)
+    → ((c : ℕ) → r ≢ refusal.DueCount c) → (numberOf r ≡ 7) ⊎ (numberOf r ≡ 8)
+seven-or-eight R s (refusal.ChanceOutOfRange c) h n = inl refl
+seven-or-eight R s (refusal.TableFull c) h n = inr refl
+seven-or-eight R s (refusal.DueCount c) h n = absurd (n c refl)
+seven-or-eight R s (refusal.Parameters i) h n = absurd h
+seven-or-eight R s refusal.DeckSize h n = absurd h
+seven-or-eight R s refusal.LearnSpan h n = absurd h
+seven-or-eight R s refusal.Config h n = absurd h
+seven-or-eight R s refusal.Lists h n = absurd h
+seven-or-eight R s refusal.TooManyCards h n = absurd h
+seven-or-eight R s (refusal.ExistingCard i) h n = absurd h
+seven-or-eight R s (refusal.NotFound done) h n = absurd h
+
+run-refusal : (w : DrawRule) (i : Inputs) (s : State Float) → checked i s ≡ check.Passed → (r : Refusal) (p : Progress)
+    → simulatedBy (rulesWith w (i .config) (plain (i .parameters))) i s .answer ≡ some (answer.Refused r p)
+    → (numberOf r ≡ 7) ⊎ (numberOf r ≡ 8)
+run-refusal w i s e r p z =
+    let R = rulesWith w (i .config) (plain (i .parameters)) in
+    let fit = suits w i s (accepted i s e) in
+    let by = stops-iff w (i .config) (plain (i .parameters)) (endOf R i s) (end-sound R (fit .slots) i s) (stop.Refused r) in
+    seven-or-eight R (endOf R i s) r (by .0 (told-stop R i s fit e (stop.Refused r) p z))
+    (λ c q. no-due-refusal w i s e c p (z ∙ ap (λ (y : Refusal). some (answer.Refused y p)) q))
+
 -- ALL OF THEM, whatever is drawn
 pub demands : (w : DrawRule) (i : Inputs) (s : State Float)
     → Demands (rulesWith w (i .config) (plain (i .parameters))) i s
@@ -79,12 +105,14 @@ demands w i s =
       stops-exactly = stops-exactly w i s;
       cards-are = cards-are R i s;
       beyond-same = λ e. beyond-same R i (suits w i s (accepted i s e)) s e;
+      lengths-same = λ e. lengths-same R i (suits w i s (accepted i s e)) s e;
       same-run = λ s′ e. lists-free R i (suits w i s (accepted i s e)) s s′ e;
       demand-three = λ p e. ok-demand R i s (suits w i s (accepted i s (ok-passed R i s p e))) p e _ refl;
       ends-within = λ e. few-turns R i s (accepted i s e) (suits w i s (accepted i s e));
       due-counts = λ e n. due-after R i s (accepted i s e) (suits w i s (accepted i s e)) n;
       due-counts-left = λ e. due-left R i s (accepted i s e) (suits w i s (accepted i s e));
       no-due-refusal = no-due-refusal w i s;
+      run-refusal = run-refusal w i s;
     }
 
 -- what is not read of the parameters plays no part: the model is decided by what is kept of them

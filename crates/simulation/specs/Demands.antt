@@ -10,7 +10,7 @@ use Prim.Native.Nat.{ℕ, suc, _+_, _*_, _≤_}
 use mathlib.Core.Path.{_≡_}
 use mathlib.Core.Bool.{true}
 use mathlib.Core.Option.{some}
-use mathlib.Core.Logic.{_↔_, _≢_}
+use mathlib.Core.Logic.{_↔_, _≢_, _⊎_}
 use mathlib.Core.List.{List, []}
 use lib.Ieee.{Float}
 use lib.ListN.{length}
@@ -37,7 +37,8 @@ use Rattle.simulation.specs.Rules.{Rules, rulesWith}
 use Rattle.simulation.specs.Turn.{next}
 use Rattle.simulation.specs.RunRefusals.{StopCondition}
 use Rattle.simulation.specs.Entry.{Inputs, withParameters, listsOk, checked}
-use Rattle.simulation.specs.Frame.{firstPlaces, beyond}
+use Rattle.simulation.specs.Frame.{firstPlaces, beyond, SameLengths}
+use Rattle.simulation.specs.Refusals.{numberOf}
 use Rattle.simulation.specs.SetUp.{keptCards, introducedBefore, newCardCount, setUp}
 use Rattle.simulation.specs.Simulate.{IsResult, progress, answerOf, rulesFor, runFrom, simulatedBy, simulated}
 
@@ -121,6 +122,8 @@ pub record Demands {C : Type 0} (R : Rules C) (i : Inputs) (s : State C) : Type 
   -- behind the span, of due counts behind theirs
   pub beyond-same : checked i s ≡ check.Passed
       → beyond (cardsOf R i s) (R .span) (endOf R i s) ≡ beyond (cardsOf R i s) (R .span) s
+  -- and every list keeps its length
+  pub lengths-same : checked i s ≡ check.Passed → SameLengths (listsOf s) (listsOf (endOf R i s))
   -- 2: what the lists held before, and how long they are, plays no part: a second call with equal inputs and a table
   -- equally long has the same run
   pub same-run : (s′ : State C) → checked i s ≡ check.Passed → listsOk i s′ ≡ true
@@ -139,6 +142,9 @@ pub record Demands {C : Type 0} (R : Rules C) (i : Inputs) (s : State C) : Type 
   -- no accepted call answers refusal 9: a card with a last date is put off only from a day that counts it
   pub no-due-refusal : checked i s ≡ check.Passed → (c : ℕ) (p : Progress)
       → simulatedBy R i s .answer ≢ some (answer.Refused (refusal.DueCount c) p)
+  -- so an accepted call is refused by 7 or 8 or not at all
+  pub run-refusal : checked i s ≡ check.Passed → (r : Refusal) (p : Progress)
+      → simulatedBy R i s .answer ≡ some (answer.Refused r p) → (numberOf r ≡ 7) ⊎ (numberOf r ≡ 8)
 
 -- of two accepted calls that differ only in parameters 15 to 22 and in those past 33, one result, whatever is drawn
 abbrev pub UnreadParameters : DrawRule → Inputs → State Float → List Float → Type 0

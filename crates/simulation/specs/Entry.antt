@@ -2,7 +2,8 @@
 --   Inputs, inputs, withParameters   what a run is given besides the lists that it writes
 --   firstWhere p n i                 the first number that passes a test
 --   checkParameters, listsOk, checkFirst   refusals 1, 6 and 5
---   checked i s                      all tests, in their order
+--   checkedWith ok i s               all tests, in their order, with ok among those of refusal 4
+--   checked i s                      those of a run
 use Prim.Native.Nat.{ℕ, zero, suc, _+_}
 use mathlib.Core.Bool.{Bool, true, false, not, _&&_, _||_, cond}
 use mathlib.Core.List.{List}
@@ -87,12 +88,17 @@ checkFirst cards counts n =
     let i = firstWhere (notOk cards counts) n 0 in
     failIf (ltb i n) (refusal.ExistingCard i) check.Passed
 
-unfoldable pub checked : {C : Type 0} → Inputs → State C → Check
-checked i s =
+-- all tests; `ok` is the test of what a run and a search each have of their own: a retention, rounds
+unfoldable pub checkedWith : {C : Type 0} → Bool → Inputs → State C → Check
+checkedWith ok i s =
     checkParameters (i .parameters)
     (failIf (eqb (i .config .«deck_size») 0 || ltb mostCards (i .config .«deck_size»)) refusal.DeckSize
     (failIf (eqb (i .config .«learn_span») 0 || ltb mostDays (i .config .«learn_span»)) refusal.LearnSpan
-    (failIf (not (configOk (i .config) && isFinite (i .retention))) refusal.Config
+    (failIf (not (configOk (i .config) && ok)) refusal.Config
     (failIf (not (listsOk i s)) refusal.Lists
     (failIf (ltb (i .config .«deck_size») (length (i .existing))) refusal.TooManyCards
     (checkFirst (i .existing) (i .existing-counts) (length (i .existing))))))))
+
+-- of a run: its retention is finite
+abbrev pub checked : {C : Type 0} → Inputs → State C → Check
+checked i s = checkedWith (isFinite (i .retention)) i s

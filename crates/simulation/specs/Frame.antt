@@ -2,9 +2,11 @@
 --   firstPlaces cards span s   the state of the first places: a row a card, a place a day, and the due counts
 --   beyond cards span s        the places behind them
 --   extended s b               s with the places b behind those of its lists
+--   SameLengths l l′           each list of l′ is as long as that of l
 use Prim.Native.Nat.{ℕ}
 use mathlib.Core.List.{[], _++_}
-use lib.ListN.{take, drop}
+use mathlib.Core.Path.{_≡_}
+use lib.ListN.{length, take, drop}
 use Rattle.days.specs.Due.{dueDays}
 use Rattle.queue.specs.Queue.{queue}
 use Rattle.simulation.specs.State.{State, Lent}
@@ -48,3 +50,15 @@ module _ {C : Type 0} where
     table = s .table;
     draws = s .draws;
   }
+
+-- the lists keep their lengths
+pub record SameLengths {C : Type 0} (l l′ : Lent C) : Type 0 where
+  pub cards : length (l′ .cards) ≡ length (l .cards)
+  pub counts : length (l′ .counts) ≡ length (l .counts)
+  pub rows : length (l′ .rows) ≡ length (l .rows)
+  pub days : length (l′ .days) ≡ length (l .days)
+  pub costs : length (l′ .costs) ≡ length (l .costs)
+  pub memorized : length (l′ .memorized) ≡ length (l .memorized)
+  pub due : length (l′ .due) ≡ length (l .due)
+  pub keys : length (l′ .keys) ≡ length (l .keys)
+  pub intervals : length (l′ .intervals) ≡ length (l .intervals)

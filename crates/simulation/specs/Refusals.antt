@@ -14,6 +14,7 @@ numberOf (refusal.ExistingCard i) = 5
 numberOf (refusal.ChanceOutOfRange c) = 7
 numberOf (refusal.TableFull c) = 8
 numberOf (refusal.DueCount c) = 9
+numberOf (refusal.NotFound done) = 10
 
 abbrev pub secondOf : Refusal → ℕ
 secondOf (refusal.Parameters i) = i
@@ -26,3 +27,4 @@ secondOf (refusal.ExistingCard i) = i
 secondOf (refusal.ChanceOutOfRange c) = c
 secondOf (refusal.TableFull c) = c
 secondOf (refusal.DueCount c) = c
+secondOf (refusal.NotFound done) = done

@@ -89,3 +89,4 @@ module _ {C : Type 0} (R : Rules C) (s : State C) where
   StopCondition (stop.Refused refusal.Lists) = ⊥
   StopCondition (stop.Refused refusal.TooManyCards) = ⊥
   StopCondition (stop.Refused (refusal.ExistingCard i)) = ⊥
+  StopCondition (stop.Refused (refusal.NotFound done)) = ⊥

@@ -9,10 +9,11 @@ ghost use Prim.Native.Nat.{_+_, _/_};
 ghost use mathlib.Core.List.{List};
 ghost use lib.ListN.{getD};
 ghost use lib.Ieee.{Float, nan};
+ghost use Rattle.float32.specs.Numbers.{0ᶠ};
 ghost use Rattle.cards.specs.Cards.{isKept, cardOk};
 ghost use Rattle.simulation.specs.State.{lent, state};
 ghost use Rattle.simulation.specs.declared.Check.the-variants as check;
-ghost use Rattle.simulation.specs.Entry.{inputs, firstWhere, notFinite, notOk, checkParameters, listsOk, checkFirst, checked};
+ghost use Rattle.simulation.specs.Entry.{inputs, firstWhere, notFinite, notOk, checkParameters, listsOk, checkFirst, checkedWith};
 
 fn parameter(w: &[f32], i: u32) -> f32
     ensures { λ r. ⌜ r ≡ getD (now (w .entry)) i nan ⌝ }
@@ -137,7 +138,8 @@ fn lists_ok(
     due_days(config.learn_span) <= due.len()
 }
 
-pub(crate) fn check_entry(
+// What a run and a search test alike; `setting_ok` is the test of what each has of its own.
+pub fn check_entry(
     cards: &[[f32; 6]],
     counts: &[[u32; 2]],
     rows: &[[u64; 2]],
@@ -151,10 +153,10 @@ pub(crate) fn check_entry(
     existing: &[[f32; 6]],
     existing_counts: &[[u32; 2]],
     config: SimulatorConfig,
-    retention: f32,
+    setting_ok: bool,
 ) -> Check
-    ensures { λ r. ⌜ r ≡ checked
-        (inputs config (now (parameters .entry)) retention 0 (now (existing .entry)) (now («existing_counts» .entry)))
+    ensures { λ r. ⌜ r ≡ checkedWith «setting_ok»
+        (inputs config (now (parameters .entry)) 0ᶠ 0 (now (existing .entry)) (now («existing_counts» .entry)))
         (state (lent (now (cards .entry)) (now (counts .entry)) (now (rows .entry)) (now (days .entry)) (now (costs .entry)) (now (memorized .entry)) (now (due .entry)) (now (keys .entry)) (now (intervals .entry))) 0 0) ⌝ }
 {
     let first = check_parameters(parameters);
@@ -176,7 +178,7 @@ pub(crate) fn check_entry(
     if !cards::config_ok(config) {
         return Check::Failed(Refusal::Config);
     }
-    if !float32::is_finite(retention) {
+    if !setting_ok {
         return Check::Failed(Refusal::Config);
     }
     if !lists_ok(

@@ -10,6 +10,8 @@ mod run;
 mod set_up;
 mod turn;
 
+pub use entry::check_entry;
+
 // Why a call is turned away; `refusals::number_of` and `second_of` give the numbers of each.
 pub enum Refusal {
     Parameters(u32),
@@ -22,6 +24,7 @@ pub enum Refusal {
     ChanceOutOfRange(u32),
     TableFull(u32),
     DueCount(u32),
+    NotFound(u32),
 }
 
 // The entry's tests: all passed, or the first that failed.
@@ -100,7 +103,7 @@ pub fn simulate(
         existing,
         existing_counts,
         config,
-        retention,
+        float32::is_finite(retention),
     );
     match entry {
         Check::Failed(refusal) => Answer::Refused(

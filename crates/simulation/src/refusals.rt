@@ -17,6 +17,7 @@ pub fn number_of(refusal: Refusal) -> u32
         Refusal::ChanceOutOfRange(_) => 7,
         Refusal::TableFull(_) => 8,
         Refusal::DueCount(_) => 9,
+        Refusal::NotFound(_) => 10,
     }
 }
 
@@ -34,5 +35,6 @@ pub fn second_of(refusal: Refusal) -> u32
         Refusal::ChanceOutOfRange(c) => c,
         Refusal::TableFull(c) => c,
         Refusal::DueCount(c) => c,
+        Refusal::NotFound(done) => done,
     }
 }

@@ -5,14 +5,15 @@
 --   longer-table, lists-free   two calls: the same run, where the first ends Ok or the tables are equally long
 --   cards-are     one call: its cards are those kept and those created
 --   beyond-same   one call: the places behind those that it needs are as they were lent
+--   lengths-same  one call: each list keeps its length
 use mathlib.Core.Path.{_≡_, refl, sym, ap, _∙_, subst}
 use mathlib.Core.Bool.{true}
-use mathlib.Core.List.{List, []}
+use mathlib.Core.List.{List, [], _++_}
 use mathlib.Core.Option.{some}
 use mathlib.Core.Logic.{inl, inr}
 use Prim.Native.Nat.{ℕ, suc, _+_, _*_, _≤_}
 use native.Mathlib.Omega.{arith}
-use lib.ListN.{length}
+use lib.ListN.{length, drop, length-append, length-drop}
 use lib.Seq.{take-at, drop-at}
 use Rattle.turns.specs.Turns.{Turn}
 use Rattle.turns.specs.Run.{Next, takes, stops, run}
@@ -25,21 +26,22 @@ use Rattle.queue.specs.Queue.{queue}
 use Rattle.simulation.specs.declared.Check.the-variants as check
 use Rattle.simulation.specs.declared.Stop.{Stop}
 use Rattle.simulation.specs.declared.Stop.the-variants as stop
-use Rattle.simulation.specs.State.{State, Lent, withTable}
+use Rattle.simulation.specs.State.{State, Lent, listsOf, withTable}
 use Rattle.simulation.specs.Rules.{Rules}
 use Rattle.simulation.specs.Turn.{next}
-use Rattle.simulation.specs.Entry.{Inputs, listsOk, checked}
+use Rattle.simulation.specs.Entry.{Inputs, listsOk, checkedWith, checked}
 use Rattle.simulation.specs.SetUp.{keptCount, newCardCount}
 use Rattle.simulation.specs.Simulate.{progress, answerOf, bound, runFrom, resultFrom, simulatedBy}
 use Rattle.simulation.specs.Invariant.{RunBounds, StateInvariant}
-use Rattle.simulation.specs.Frame.{firstPlaces, beyond, extended}
+use Rattle.simulation.specs.Frame.{firstPlaces, beyond, extended, SameLengths}
 use Rattle.simulation.specs.Demands.{startOf, cardsOf, endOf, turnsOf, LongerTable, SameRun}
 use Rattle.simulation.proofs.entry.Accepted.{accepted}
 use Rattle.simulation.proofs.turn.Slots.{Slots}
 use Rattle.simulation.proofs.turn.Lawful.{law}
 use Rattle.simulation.proofs.turn.Frame.{Exact, Framed, framed}
-use Rattle.simulation.proofs.set_up.Frame.{ownState, StartsAlike, starts-alike}
+use Rattle.simulation.proofs.set_up.Frame.{ownState, kept-few, new-few, StartsAlike, starts-alike}
 use Rattle.simulation.proofs.run.Suits.{Suits}
+use Rattle.simulation.proofs.run.Table.{end-lengths}
 use Rattle.simulation.proofs.run.DemandThree.{run-bounds, start-good, has-stopped, stops-so}
 use Rattle.simulation.proofs.run.Tables.{Alike, Shared, run-alike}
 
@@ -228,7 +230,7 @@ module _ {C : Type 0} (R : Rules C) (i : Inputs) (fit : Suits R i) (s s′ : Sta
 -- ---- the second call passes the entry too, and its table has as many places or more
 pub passes-too : {C : Type 0} (i : Inputs) (s s′ : State C) → checked i s ≡ check.Passed → listsOk i s′ ≡ true
     → checked i s′ ≡ check.Passed
-unfolding checked
+unfolding checkedWith
 passes-too i s s′ e l = rw l (rw (accepted i s e .lists-ok) at e)
 
 -- THE LONGER TABLE: a run that ends Ok has the same run with any lists that are long enough and a table that is as long
@@ -269,3 +271,47 @@ beyond-same R i fit s e =
     subst (λ (z : ℕ). beyond z (R .span) (endOf R i s) ≡ beyond z (R .span) s) (sym (cards-here R i fit s s e e))
     (ap (beyond n (R .span)) (r .states .whole)
     ∙ beyond-own n (R .span) _ (beyond n (R .span) s) (r .states .exact) s refl)
+
+-- a list's own places in front of the others are as many as it had
+own-length : {A : Type 0} (own l : List A) (n : ℕ) → length own ≡ n → n ≤ length l → length (own ++ drop n l) ≡ length l
+own-length own l n e h = omega (arith, length-append own (drop n l), length-drop n l, e, h)
+
+own-lengths : {C : Type 0} (n span : ℕ) (x s : State C) → Exact n span x → n ≤ length (s .cards) → n ≤ length (s .counts)
+    → n ≤ length (s .queue .rows) → span ≤ length (s .days) → span ≤ length (s .costs) → span ≤ length (s .memorized)
+    → dueDays span ≤ length (s .due) → length (x .table .keys) ≡ length (s .table .keys)
+    → length (x .table .intervals) ≡ length (s .table .intervals)
+    → SameLengths (listsOf s) (listsOf (extended x (beyond n span s)))
+own-lengths n span x s ex a b c d e f g h k = record {
+  cards = own-length (x .cards) (s .cards) n (ex .cards-are) a;
+  counts = own-length (x .counts) (s .counts) n (ex .counts-are) b;
+  rows = own-length (x .queue .rows) (s .queue .rows) n (ex .rows-are) c;
+  days = own-length (x .days) (s .days) span (ex .days-are) d;
+  costs = own-length (x .costs) (s .costs) span (ex .costs-are) e;
+  memorized = own-length (x .memorized) (s .memorized) span (ex .memorized-are) f;
+  due = own-length (x .due) (s .due) (dueDays span) (ex .due-are) g;
+  keys = h;
+  intervals = k;
+}
+
+pub lengths-same : {C : Type 0} (R : Rules C) (i : Inputs) (fit : Suits R i) (s : State C)
+    (e : checked i s ≡ check.Passed) → SameLengths (listsOf s) (listsOf (endOf R i s))
+lengths-same {C = C} R i fit s e =
+    let ok = accepted i s e in
+    let h = has-stopped R i s ok fit in
+    let front = own-here R i fit s s e e (h .0) (h .1) .states in
+    let n = cards R i fit s s e e in
+    let own = (run (next R) (steps R i fit s s e e) [] (f R i fit s s e e)) .state in
+    let table = end-lengths R i s in
+    let same = ap (λ (z : State C). z .table) (front .whole) in
+    let kept = keptCount (i .existing) (i .existing-counts) (length (i .existing)) in
+    let kept-in : kept ≤ i .config .«deck_size» =
+    omega (arith, kept-few (i .existing) (i .existing-counts) (length (i .existing)), ok .existing-few) in
+    let few : n ≤ i .config .«deck_size» =
+    omega (arith, cards-are R i s e, cards-here R i fit s s e e, new-few (i .config) kept kept-in) in
+    subst (λ (z : State C). SameLengths (listsOf s) (listsOf z)) (sym (front .whole))
+    (own-lengths n (R .span) own s (front .exact) (omega (arith, few, ok .cards-long))
+    (omega (arith, few, ok .counts-long)) (omega (arith, few, ok .queue-long)) (omega (arith, fit .span-is, ok .days-long))
+    (omega (arith, fit .span-is, ok .costs-long)) (omega (arith, fit .span-is, ok .memorized-long))
+    (subst (λ (z : ℕ). dueDays z ≤ length (s .due)) (fit .span-is) (ok .due-long))
+    (ap (λ (z : Table). length (z .keys)) (sym same) ∙ table .0)
+    (ap (λ (z : Table). length (z .intervals)) (sym same) ∙ table .1))

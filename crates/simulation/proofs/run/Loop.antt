@@ -122,15 +122,3 @@ pub going-start : {C : Type 0} (R : Rules C) (bound : ℕ) (s : State C) → Goi
 going-start R bound s =
     let e : bound - 0 ≡ bound = omega arith in
     record { at = refl; many = refl; within = omega arith; left = ap (λ (z : ℕ). stopOf (next R) z s) e }
-
--- the lists keep their lengths
-pub record SameLengths {C : Type 0} (l l′ : Lent C) : Type 0 where
-  pub cards : length (l′ .cards) ≡ length (l .cards)
-  pub counts : length (l′ .counts) ≡ length (l .counts)
-  pub rows : length (l′ .rows) ≡ length (l .rows)
-  pub days : length (l′ .days) ≡ length (l .days)
-  pub costs : length (l′ .costs) ≡ length (l .costs)
-  pub memorized : length (l′ .memorized) ≡ length (l .memorized)
-  pub due : length (l′ .due) ≡ length (l .due)
-  pub keys : length (l′ .keys) ≡ length (l .keys)
-  pub intervals : length (l′ .intervals) ≡ length (l .intervals)

@@ -115,7 +115,7 @@ grown-exact span own k ex = record {
 }
 
 -- no more are kept than there are
-kept-few : (cards : List (List Float)) (counts : List (List ℕ)) (n : ℕ) → keptCount cards counts n ≤ n
+pub kept-few : (cards : List (List Float)) (counts : List (List ℕ)) (n : ℕ) → keptCount cards counts n ≤ n
 unfolding keptCount
 kept-few cards counts zero = omega arith
 kept-few cards counts (suc n) = omega (arith, kept-few cards counts n, bit-le (isKept (cardAt cards counts n)))
@@ -260,7 +260,7 @@ pub has-room : {C : Type 0} (i : Inputs) (s : State C) → Accepted i s
     → Room (i .config .«deck_size») (listsDeck (i .config .«learn_span») s)
 has-room i s ok = record { cards-long = ok .cards-long; counts-long = ok .counts-long; rows-long = ok .queue-long }
 
-new-few : (g : SimulatorConfig) (kept : ℕ) → kept ≤ g .«deck_size» → kept + newCardCount g kept ≤ g .«deck_size»
+pub new-few : (g : SimulatorConfig) (kept : ℕ) → kept ≤ g .«deck_size» → kept + newCardCount g kept ≤ g .«deck_size»
 unfolding newCardCount
 new-few g kept h = go (eqb (g .«learn_limit») 0)
   where

@@ -7,6 +7,9 @@ use borrow.Author.Needs.{needs}
 use Rattle.simulation.proofs.simulate.Statement.{statement}
 use Rattle.simulation.proofs.simulate.Tie as tie
 
+is-finite-requires : tie.Need-is-finite-requires
+is-finite-requires c κs = search needs
+
 check-entry-requires : tie.Need-check-entry-requires
 check-entry-requires c κs = search needs
 
@@ -20,13 +23,15 @@ simulate-inner-requires : tie.Need-simulate-inner-requires
 simulate-inner-requires c κs =
     let at-enum-told = c .before .before .before .before .before .before .before .before .before in
     let at-check-entry = at-enum-told .before .before in
-    let start = at-check-entry .before .before .before .before .before .before .before .before .before .before .before .before .before .before .before in
+    let at-is-finite = at-check-entry .before in
+    let start = at-is-finite .before .before .before .before .before .before .before .before .before .before .before .before .before .before .before in
     let a = start .args in
     let i = inputs (a .config) (a .parameters .now) (a .retention) (a .seed) (a .existing .now)
     (a .existing-counts .now) in
     let s = state (lent (a .cards .now) (a .counts .now) (a .rows .now) (a .days .now) (a .costs .now)
     (a .memorized .now) (a .due .now) (a .keys .now) (a .intervals .now)) 0 (a .seed) in
-    sym (same-check i s (at-check-entry .check-entry .ensures)) ∙ at-enum-told .enum-told .given .1
+    sym (same-check i s (at-is-finite .is-finite .result) (at-is-finite .is-finite .ensures)
+    (at-check-entry .check-entry .ensures)) ∙ at-enum-told .enum-told .given .1
 
 same-length : tie.Need-same-length
 same-length c = search needs
@@ -59,13 +64,15 @@ returns : tie.Need-returns
 returns c =
     let at-entry = c .before in
     let at-check-entry = at-entry .before .before in
-    let start = at-check-entry .before .before .before .before .before .before .before .before .before .before .before .before .before .before .before in
+    let at-is-finite = at-check-entry .before in
+    let start = at-is-finite .before .before .before .before .before .before .before .before .before .before .before .before .before .before .before in
     let a = start .args in
     let i = inputs (a .config) (a .parameters .now) (a .retention) (a .seed) (a .existing .now)
     (a .existing-counts .now) in
     let s = state (lent (a .cards .now) (a .counts .now) (a .rows .now) (a .days .now) (a .costs .now)
     (a .memorized .now) (a .due .now) (a .keys .now) (a .intervals .now)) 0 (a .seed) in
-    refused-is i s _ (sym (same-check i s (at-check-entry .check-entry .ensures)) ∙ at-entry .entry .given .1)
+    refused-is i s _ (sym (same-check i s (at-is-finite .is-finite .result) (at-is-finite .is-finite .ensures)
+    (at-check-entry .check-entry .ensures)) ∙ at-entry .entry .given .1)
 
 same-length-10 : tie.Need-same-length-10
 same-length-10 c = search needs
@@ -99,19 +106,22 @@ returns-2 c =
     let at-simulate-inner = c .before .before .before .before .before .before .before .before .before .before .before .before .before in
     let at-enum-told = at-simulate-inner .before .before .before .before .before .before .before .before .before .before in
     let at-check-entry = at-enum-told .before .before in
-    let start = at-check-entry .before .before .before .before .before .before .before .before .before .before .before .before .before .before .before in
+    let at-is-finite = at-check-entry .before in
+    let start = at-is-finite .before .before .before .before .before .before .before .before .before .before .before .before .before .before .before in
     let a = start .args in
     let i = inputs (a .config) (a .parameters .now) (a .retention) (a .seed) (a .existing .now)
     (a .existing-counts .now) in
     let s = state (lent (a .cards .now) (a .counts .now) (a .rows .now) (a .days .now) (a .costs .now)
     (a .memorized .now) (a .due .now) (a .keys .now) (a .intervals .now)) 0 (a .seed) in
-    let e = sym (same-check i s (at-check-entry .check-entry .ensures)) ∙ at-enum-told .enum-told .given .1 in
+    let e = sym (same-check i s (at-is-finite .is-finite .result) (at-is-finite .is-finite .ensures)
+    (at-check-entry .check-entry .ensures)) ∙ at-enum-told .enum-told .given .1 in
     accepted-is i s e (at-simulate-inner .simulate-inner .ensures)
 
 pub simulate-spec : {M : Type 1} → statement M
 simulate-spec =
     tie.close
     (tie.spec
+    is-finite-requires
     check-entry-requires
     enum-known-entry
     enum-told

@@ -187,6 +187,7 @@ module _ (w : DrawRule) (g : SimulatorConfig) (x : Scalars) (s : State Float) (o
   meets (stop.Refused refusal.Lists) h = absurd h
   meets (stop.Refused refusal.TooManyCards) h = absurd h
   meets (stop.Refused (refusal.ExistingCard i)) h = absurd h
+  meets (stop.Refused (refusal.NotFound done)) h = absurd h
 
   pub stops-iff : (y : Stop) → (next R s ≡ stops y) ↔ StopCondition R s y
   stops-iff y = (λ e. rw e at tells, meets y)

@@ -2,8 +2,9 @@
 use borrow.Author.Tests.{lt-ltb, le-ltb, eq-eqb, ne-eqb}
 use mathlib.Core.Path.{_≡_, sym, _∙_}
 use Rattle.turns.proofs.Logic.{not-true, not-false}
+use Rattle.float32.specs.Numbers.{0ᶠ}
 use Rattle.simulation.specs.declared.Check.the-variants as check
-use Rattle.simulation.specs.Entry.{checkParameters, checked}
+use Rattle.simulation.specs.Entry.{checkParameters, checkedWith}
 use Rattle.simulation.proofs.entry.Parameters.{parameters-pass, parameters-fail}
 use borrow.Author.Needs.{needs}
 use Rattle.simulation.proofs.entry.check_entry.Statement.{statement}
@@ -19,7 +20,7 @@ enum-told-2 : tie.Need-enum-told-2
 enum-told-2 c = search needs
 
 returns : tie.Need-returns
-unfolding checked
+unfolding checkedWith
 returns c =
     let at-match = c .before in
     let at-check-parameters = at-match .before in
@@ -28,7 +29,7 @@ returns c =
     (at-match .match .keys2)
 
 returns-2 : tie.Need-returns-2
-unfolding checked
+unfolding checkedWith
 returns-2 c =
     let at-enum-told = c .before .before in
     let at-check-parameters = at-enum-told .before .before in
@@ -38,7 +39,7 @@ returns-2 c =
     ∙ at-enum-told .enum-told .given .1 in rw (parameters-pass, eq-eqb _ _ (c .if1 .taken))
 
 returns-3 : tie.Need-returns-3
-unfolding checked
+unfolding checkedWith
 returns-3 c =
     let at-if1 = c .before .before in
     let at-enum-told = at-if1 .before .before in
@@ -50,7 +51,7 @@ returns-3 c =
     (parameters-pass, ne-eqb _ _ (at-if1 .if1 .left), lt-ltb _ _ (c .if2 .taken))
 
 returns-4 : tie.Need-returns-4
-unfolding checked
+unfolding checkedWith
 returns-4 c =
     let at-if2 = c .before .before in
     let at-if1 = at-if2 .before .before in
@@ -63,7 +64,7 @@ returns-4 c =
     (parameters-pass, ne-eqb _ _ (at-if1 .if1 .left), le-ltb _ _ (at-if2 .if2 .left), eq-eqb _ _ (c .if3 .taken))
 
 returns-5 : tie.Need-returns-5
-unfolding checked
+unfolding checkedWith
 returns-5 c =
     let at-if3 = c .before .before in
     let at-if2 = at-if3 .before .before in
@@ -85,7 +86,7 @@ config-ok-requires : tie.Need-config-ok-requires
 config-ok-requires c κs = search needs
 
 returns-6 : tie.Need-returns-6
-unfolding checked
+unfolding checkedWith
 returns-6 c =
     let at-config-ok = c .before in
     let at-if4 = at-config-ok .before in
@@ -107,14 +108,10 @@ returns-6 c =
       not-true (at-config-ok .config-ok .result) (c .if5 .taken),
     )
 
-is-finite-requires : tie.Need-is-finite-requires
-is-finite-requires c κs = search needs
-
 returns-7 : tie.Need-returns-7
-unfolding checked
+unfolding checkedWith
 returns-7 c =
-    let at-is-finite = c .before in
-    let at-if5 = at-is-finite .before in
+    let at-if5 = c .before in
     let at-config-ok = at-if5 .before in
     let at-if4 = at-config-ok .before in
     let at-if3 = at-if4 .before .before in
@@ -133,20 +130,18 @@ returns-7 c =
       le-ltb _ _ (at-if4 .if4 .left),
       ← at-config-ok .config-ok .ensures,
       not-false (at-config-ok .config-ok .result) (at-if5 .if5 .left),
-      ← at-is-finite .is-finite .ensures,
-      not-true (at-is-finite .is-finite .result) (c .if6 .taken),
+      not-true (start .args .setting-ok) (c .if6 .taken),
     )
 
 lists-ok-requires : tie.Need-lists-ok-requires
 lists-ok-requires c κs = search needs
 
 returns-8 : tie.Need-returns-8
-unfolding checked
+unfolding checkedWith
 returns-8 c =
     let at-lists-ok = c .before in
     let at-if6 = at-lists-ok .before in
-    let at-is-finite = at-if6 .before in
-    let at-if5 = at-is-finite .before in
+    let at-if5 = at-if6 .before in
     let at-config-ok = at-if5 .before in
     let at-if4 = at-config-ok .before in
     let at-if3 = at-if4 .before .before in
@@ -165,9 +160,8 @@ returns-8 c =
       le-ltb _ _ (at-if4 .if4 .left),
       ← at-config-ok .config-ok .ensures,
       not-false (at-config-ok .config-ok .result) (at-if5 .if5 .left),
-      ← at-is-finite .is-finite .ensures,
-      not-false (at-is-finite .is-finite .result) (at-if6 .if6 .left),
-      ← at-lists-ok .lists-ok .ensures (start .args .parameters .now) (start .args .retention),
+      not-false (start .args .setting-ok) (at-if6 .if6 .left),
+      ← at-lists-ok .lists-ok .ensures (start .args .parameters .now) 0ᶠ,
       not-true (at-lists-ok .lists-ok .result) (c .if7 .taken),
     )
 
@@ -175,13 +169,12 @@ cast-if8 : tie.Need-cast-if8
 cast-if8 c = search needs
 
 returns-9 : tie.Need-returns-9
-unfolding checked
+unfolding checkedWith
 returns-9 c =
     let at-if7 = c .before .before in
     let at-lists-ok = at-if7 .before in
     let at-if6 = at-lists-ok .before in
-    let at-is-finite = at-if6 .before in
-    let at-if5 = at-is-finite .before in
+    let at-if5 = at-if6 .before in
     let at-config-ok = at-if5 .before in
     let at-if4 = at-config-ok .before in
     let at-if3 = at-if4 .before .before in
@@ -200,9 +193,8 @@ returns-9 c =
       le-ltb _ _ (at-if4 .if4 .left),
       ← at-config-ok .config-ok .ensures,
       not-false (at-config-ok .config-ok .result) (at-if5 .if5 .left),
-      ← at-is-finite .is-finite .ensures,
-      not-false (at-is-finite .is-finite .result) (at-if6 .if6 .left),
-      ← at-lists-ok .lists-ok .ensures (start .args .parameters .now) (start .args .retention),
+      not-false (start .args .setting-ok) (at-if6 .if6 .left),
+      ← at-lists-ok .lists-ok .ensures (start .args .parameters .now) 0ᶠ,
       not-false (at-lists-ok .lists-ok .result) (at-if7 .if7 .left),
       lt-ltb _ _ (c .if8 .taken),
     )
@@ -214,14 +206,13 @@ check-cards-requires : tie.Need-check-cards-requires
 check-cards-requires c κs = search needs
 
 returns-10 : tie.Need-returns-10
-unfolding checked
+unfolding checkedWith
 returns-10 c =
     let at-if8 = c .before in
     let at-if7 = at-if8 .before .before in
     let at-lists-ok = at-if7 .before in
     let at-if6 = at-lists-ok .before in
-    let at-is-finite = at-if6 .before in
-    let at-if5 = at-is-finite .before in
+    let at-if5 = at-if6 .before in
     let at-config-ok = at-if5 .before in
     let at-if4 = at-config-ok .before in
     let at-if3 = at-if4 .before .before in
@@ -240,9 +231,8 @@ returns-10 c =
       le-ltb _ _ (at-if4 .if4 .left),
       ← at-config-ok .config-ok .ensures,
       not-false (at-config-ok .config-ok .result) (at-if5 .if5 .left),
-      ← at-is-finite .is-finite .ensures,
-      not-false (at-is-finite .is-finite .result) (at-if6 .if6 .left),
-      ← at-lists-ok .lists-ok .ensures (start .args .parameters .now) (start .args .retention),
+      not-false (start .args .setting-ok) (at-if6 .if6 .left),
+      ← at-lists-ok .lists-ok .ensures (start .args .parameters .now) 0ᶠ,
       not-false (at-lists-ok .lists-ok .result) (at-if7 .if7 .left),
       le-ltb _ _ (at-if8 .if8 .left),
     )
@@ -262,7 +252,6 @@ check-entry-spec =
     returns-5
     config-ok-requires
     returns-6
-    is-finite-requires
     returns-7
     lists-ok-requires
     returns-8

@@ -6,7 +6,8 @@ use mathlib.Core.Path.{refl, _∙_}
 use Rattle.events.specs.Scalars.{kept}
 use Rattle.simulation.specs.Rules.{rulesOf}
 use Rattle.simulation.specs.State.{lent, state}
-use Rattle.simulation.proofs.run.Loop.{Going, going-start, going-on, going-stops, going-spent, SameLengths}
+use Rattle.simulation.specs.Frame.{SameLengths}
+use Rattle.simulation.proofs.run.Loop.{Going, going-start, going-on, going-stops, going-spent}
 use Rattle.simulation.proofs.run.run_turns.Statement.{statement}
 use Rattle.simulation.proofs.run.run_turns.Tie as tie
 use borrow.Author.Needs.{needs}

@@ -1,0 +1,12 @@
+-- `brent::middle` meets its contract.
+use mathlib.Core.Path.{refl}
+use Rattle.brent.specs.Step.{middle}
+use Rattle.brent.proofs.middle.Statement.{statement}
+use Rattle.brent.proofs.middle.Tie as tie
+
+returns : tie.Need-returns
+unfolding middle
+returns c = refl
+
+pub middle-spec : {M : Type 1} → statement M
+middle-spec = tie.close (tie.spec returns)

@@ -1,0 +1,15 @@
+-- `brent::start` meets its contract.
+use borrow.Author.Needs.{needs}
+use Rattle.brent.specs.Stepping.{started}
+use Rattle.brent.proofs.start.Statement.{statement}
+use Rattle.brent.proofs.start.Tie as tie
+
+begun-requires : tie.Need-begun-requires
+begun-requires c κs = search needs
+
+returns : tie.Need-returns
+unfolding started
+returns c = rw (c .begun .ensures)
+
+pub start-spec : {M : Type 1} → statement M
+start-spec = tie.close (tie.spec begun-requires returns)

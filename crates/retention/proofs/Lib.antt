@@ -1,0 +1,4 @@
+-- What the functions of the search share, and its laws.
+pub mod Rounds
+pub mod Entry
+pub mod Laws
