@@ -42,6 +42,16 @@ int main(void) {
                    counts, 1, queue, 1, days, 1, costs, 1, memorized, 1, due, 1, keys, 2, intervals, 2, &answer);
     good &= answer[0] == 0 && answer[2] == 2 && answer[3] == 1 && days[0][0] == 1 && days[0][3] == 1 && costs[0] == 1;
     good &= 0 < memorized[0] && memorized[0] <= 1;
+    uint32_t said[3] = {9, 9, 9}, steps[3] = {9, 9, 9};
+    float found[2] = {9, 9}, floats[10] = {9};
+    drill_optimal_retention(w, 34, no_cards, 0, no_counts, 0, &numbers, 10, 100, &four, &three, &twelve, &twelve, &twelve, 64, cards, 1,
+                            counts, 1, queue, 1, days, 1, costs, 1, memorized, 1, due, 1, keys, 2, intervals, 2, &said, &found);
+    good &= said[0] == 0 && said[2] == 6 && found[0] > 0.93f && found[1] >= 1;
+    drill_search_start(64, &floats, &steps);
+    good &= drill_search_next((const float(*)[10])&floats, (const uint32_t(*)[3])&steps) == 0.7f;
+    drill_search_take(1, &floats, &steps);
+    good &= drill_search_answer((const float(*)[10])&floats, (const uint32_t(*)[3])&steps) == UINT32_MAX && steps[1] == 1;
+    good &= drill_sample_size(30) == 180 && drill_target(1, costs, 1, memorized, 1) >= 1 && drill_mean(costs, 1, 1) == 1;
     puts(good ? "header: compiled, linked, and each function called" : "header: a function answered wrongly");
     return !good;
 }

@@ -94,6 +94,38 @@ void drill_simulate(const float *parameters, size_t parameters_len, const float 
                     size_t memorized_len, uint32_t *due, size_t due_len,
                     uint32_t (*keys)[2], size_t keys_len, float *intervals, size_t intervals_len, uint64_t (*answer)[5]);
 
+/* ---- the search for the retention from 0.70 to 0.95 at which a run costs least for each card memorized in the end
+ *
+ * Arguments as of drill_simulate; rounds is 1 to 64. answer: the refusal's number, 0 where a retention was found; its second
+ * number; the rounds done where one was found. found: the retention and its mean, 0 and 0 where none was found. Look at the mean:
+ * a NaN or an infinity says that no card was memorized in a trial. */
+void drill_optimal_retention(const float *parameters, size_t parameters_len, const float (*existing_cards)[6],
+                             size_t existing_cards_len, const uint32_t (*existing_counts)[2], size_t existing_counts_len,
+                             const uint32_t (*numbers)[8], float max_cost_perday, float max_ivl,
+                             const float (*first_rating_prob)[4], const float (*review_rating_prob)[3],
+                             const float (*learning_step_transitions)[12], const float (*relearning_step_transitions)[12],
+                             const float (*state_rating_costs)[12], uint32_t rounds, float (*cards)[6], size_t cards_len,
+                             uint32_t (*counts)[2], size_t counts_len, uint64_t (*queue)[2], size_t queue_len,
+                             uint32_t (*days)[4], size_t days_len, float *costs, size_t costs_len, float *memorized,
+                             size_t memorized_len, uint32_t *due, size_t due_len, uint32_t (*keys)[2], size_t keys_len,
+                             float *intervals, size_t intervals_len, uint32_t (*answer)[3], float (*found)[2]);
+
+/* The same search one trial at a time, so that a host may make a trial's runs on threads of its own: start; while next is a number,
+ * make drill_sample_size runs at that retention with the seeds 42, 43, .., take the mean of their targets; then answer.
+ * floats: a, b, x, v, w, the means of x, v and w, deltax, rat; counts: the rounds done, whether it has begun, the most rounds. */
+void drill_search_start(uint32_t rounds, float (*floats)[10], uint32_t (*counts)[3]);
+/* the retention to try, a NaN where there is none */
+float drill_search_next(const float (*floats)[10], const uint32_t (*counts)[3]);
+void drill_search_take(float mean, float (*floats)[10], uint32_t (*counts)[3]);
+/* 0: found, x; 10: not found; 4294967295: a retention is still to be tried */
+uint32_t drill_search_answer(const float (*floats)[10], const uint32_t (*counts)[3]);
+/* how many runs a trial has, by the days of the span */
+uint32_t drill_sample_size(uint32_t span);
+/* what a run costs for each card memorized on its last day */
+float drill_target(uint32_t span, const float *costs, size_t costs_len, const float *memorized, size_t memorized_len);
+/* of the first n */
+float drill_mean(const float *targets, size_t targets_len, uint32_t n);
+
 #ifdef __cplusplus
 }
 #endif

@@ -126,7 +126,13 @@ fn simulation(folder: &Path, variant: &str, probe: &Path) -> Source {
         .replace("#[cfg(all(target_arch = \"aarch64\", target_feature = \"neon\"))]", "#[cfg(any())]", 1)
         .replace(".into_par_iter()", ".into_iter()", 1)
         .replace("let maxiter = 64;", "let maxiter = crate::trace::rounds();", 1)
-        .replace("// dbg!(iter);", "crate::trace::set_rounds_done(iter);", 1);
+        .replace("// dbg!(iter);", "crate::trace::set_rounds_done(iter);", 1)
+        .before("    if !progress() {", "    crate::trace::begin_trial(desired_retention);")
+        .replace(
+            "results.map(|v| v.iter().sum::<f32>() / n as f32)",
+            "results.map(|v| crate::trace::end_trial(v.iter().sum::<f32>() / n as f32))",
+            1,
+        );
     let mut head = format!(
         "use crate::{variant}::error::{{FSRSError, Result}};\nuse crate::{variant}::inference::{{ItemProgress, Parameters}};\n\
          use crate::{variant}::model::{{ModelVersion, check_and_fill_parameters, model_v7}};\n\

@@ -1,4 +1,4 @@
-//! The lists that a run is lent, and its call: the one place that knows how many they are, their order and their rows.
+//! The lists that a run is lent, its call, and the search's: the one place that knows how many they are, their order and their rows.
 //! Each list stands within a longer one, guard places before and after it, and every place is marked beforehand.
 use crate::floats::bits;
 use crate::lists::held;
@@ -42,6 +42,43 @@ unsafe extern "C" {
         intervals: *mut f32,
         intervals_len: usize,
         answer: &mut [u64; 5],
+    );
+    fn drill_optimal_retention(
+        parameters: *const f32,
+        parameters_len: usize,
+        existing: *const [f32; 6],
+        existing_len: usize,
+        existing_counts: *const [u32; 2],
+        existing_counts_len: usize,
+        numbers: &[u32; 8],
+        max_cost_perday: f32,
+        max_ivl: f32,
+        first_rating_prob: &[f32; 4],
+        review_rating_prob: &[f32; 3],
+        learning_step_transitions: &[f32; 12],
+        relearning_step_transitions: &[f32; 12],
+        state_rating_costs: &[f32; 12],
+        rounds: u32,
+        cards: *mut [f32; 6],
+        cards_len: usize,
+        counts: *mut [u32; 2],
+        counts_len: usize,
+        queue: *mut [u64; 2],
+        queue_len: usize,
+        days: *mut [u32; 4],
+        days_len: usize,
+        costs: *mut f32,
+        costs_len: usize,
+        memorized: *mut f32,
+        memorized_len: usize,
+        due: *mut u32,
+        due_len: usize,
+        keys: *mut [u32; 2],
+        keys_len: usize,
+        intervals: *mut f32,
+        intervals_len: usize,
+        answer: &mut [u32; 3],
+        found: &mut [f32; 2],
     );
 }
 
@@ -291,6 +328,53 @@ impl Lists {
             );
         }
         answer
+    }
+
+    /// The port's search: number, second number, rounds; the retention found and its mean.
+    pub fn search(&mut self, call: &Call, rounds: u32) -> ([u32; 3], [f32; 2]) {
+        let c = &call.case;
+        let (floats, counts) = call.existing();
+        let (mut answer, mut found) = ([u32::MAX; 3], [f32::NAN; 2]);
+        unsafe {
+            drill_optimal_retention(
+                c.parameters.as_ptr(),
+                c.parameters.len(),
+                floats.as_ptr(),
+                floats.len(),
+                counts.as_ptr(),
+                counts.len(),
+                &call.numbers(),
+                c.max_cost_perday,
+                c.max_ivl,
+                &c.first_rating_prob,
+                &c.review_rating_prob,
+                &c.learning_step_transitions,
+                &c.relearning_step_transitions,
+                &c.state_rating_costs,
+                rounds,
+                self.cards.places_mut().as_mut_ptr(),
+                self.cards.places().len(),
+                self.counts.places_mut().as_mut_ptr(),
+                self.counts.places().len(),
+                self.queue.places_mut().as_mut_ptr(),
+                self.queue.places().len(),
+                self.days.places_mut().as_mut_ptr(),
+                self.days.places().len(),
+                self.costs.places_mut().as_mut_ptr(),
+                self.costs.places().len(),
+                self.memorized.places_mut().as_mut_ptr(),
+                self.memorized.places().len(),
+                self.due.places_mut().as_mut_ptr(),
+                self.due.places().len(),
+                self.keys.places_mut().as_mut_ptr(),
+                self.keys.places().len(),
+                self.intervals.places_mut().as_mut_ptr(),
+                self.intervals.places().len(),
+                &mut answer,
+                &mut found,
+            );
+        }
+        (answer, found)
     }
 
     /// Whether every place but those that a run of so many cards and days may write is as it was lent; of the interval table

@@ -14,6 +14,7 @@ mod reference;
 mod result;
 mod rules;
 mod runs;
+mod searches;
 mod spoils;
 mod stored;
 mod stored_leaves;
@@ -34,11 +35,14 @@ fn main() {
         ["leaf", ..] => leaf::main(number(&words, 1, 100), number(&words, 2, 1)),
         ["edges"] => edges::main(),
         ["runs", ..] => runs::main(number(&words, 1, 1000), number(&words, 2, 1)),
+        ["search", ..] => searches::main(number(&words, 1, 100), number(&words, 2, 1)),
         ["planted", ..] => planted::main(number(&words, 1, 3000)),
         ["bench", _, "port"] => bench::port_alone(number(&words, 1, 5)),
+        ["bench", _, "search"] => searches::bench(number(&words, 1, 3)),
         ["bench", _, "tables"] => bench::tables(number(&words, 1, 5)),
         ["bench", ..] => bench::main(number(&words, 1, 5)),
         ["texts", program, ..] => texts::main(program, number(&words, 2, 1000), number(&words, 3, 1)),
+        ["cheapest", program, ..] => texts::searched(program, number(&words, 2, 100), number(&words, 3, 1)),
         ["short", program] => texts::short(program),
         ["store", crates] => stored::main(crates),
         _ => panic!("a command of harness/run is needed"),

@@ -51,6 +51,21 @@ unsafe extern "C" {
     fn drill_peek_index(rows: *const [u64; 2], rows_len: usize, len: u32) -> u32;
     fn drill_pop(rows: *mut [u64; 2], rows_len: usize, len: u32) -> u32;
     fn drill_change_front(rows: *mut [u64; 2], rows_len: usize, len: u32, key: u64);
+    pub safe fn drill_sample_size(span: u32) -> u32;
+    fn drill_target(span: u32, costs: *const f32, costs_len: usize, memorized: *const f32, memorized_len: usize) -> f32;
+    fn drill_mean(targets: *const f32, targets_len: usize, n: u32) -> f32;
+    pub safe fn drill_search_start(rounds: u32, floats: &mut [f32; 10], counts: &mut [u32; 3]);
+    pub safe fn drill_search_next(floats: &[f32; 10], counts: &[u32; 3]) -> f32;
+    pub safe fn drill_search_take(mean: f32, floats: &mut [f32; 10], counts: &mut [u32; 3]);
+    pub safe fn drill_search_answer(floats: &[f32; 10], counts: &[u32; 3]) -> u32;
+}
+
+pub fn target(span: u32, costs: &[f32], memorized: &[f32]) -> f32 {
+    unsafe { drill_target(span, costs.as_ptr(), costs.len(), memorized.as_ptr(), memorized.len()) }
+}
+
+pub fn mean(targets: &[f32]) -> f32 {
+    unsafe { drill_mean(targets.as_ptr(), targets.len(), targets.len() as u32) }
 }
 
 pub fn rating(weights: &[f32], word: u32) -> usize {

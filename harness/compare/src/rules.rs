@@ -15,7 +15,6 @@ fn config_taken(c: &Case) -> bool {
         && c.state_rating_costs.iter().all(|&x| x.is_finite() && !(x < 0.0))
         && !c.max_cost_perday.is_nan()
         && (1.0..=36_500.0).contains(&c.max_ivl)
-        && c.desired_retention.is_finite()
 }
 
 fn dated(x: f32) -> bool {
@@ -52,15 +51,24 @@ fn first_bad_card(call: &Call) -> Option<(u32, u32)> {
     rows.iter().zip(counts).position(|(row, n)| row[1] > 1e-9 && !card_taken(*row, n)).map(|i| (5, i as u32))
 }
 
-/// All rows of the table that the call is turned away by, in its order, each with its second number.
+/// All rows of the table that a call of the run is turned away by, in its order, each with its second number.
 pub fn faults(call: &Call) -> Vec<(u32, u32)> {
+    faults_with(call, call.case.desired_retention.is_finite())
+}
+
+/// The same of a search, which has rounds and no retention.
+pub fn search_faults(call: &Call, rounds: u32) -> Vec<(u32, u32)> {
+    faults_with(call, (1..=64).contains(&rounds))
+}
+
+fn faults_with(call: &Call, setting_taken: bool) -> Vec<(u32, u32)> {
     let c = &call.case;
     let failed = |test: bool, number: u32, second: u32| (!test).then_some((number, second));
     let rows = [
         first_bad_parameter(c),
         failed((1..=65_536).contains(&c.deck_size), 2, 0),
         failed((1..=36_500).contains(&c.learn_span), 3, 0),
-        failed(config_taken(c), 4, 0),
+        failed(config_taken(c) && setting_taken, 4, 0),
         failed(lists_taken(call), 6, 0),
         failed(call.lengths.existing <= c.deck_size as usize, 2, 1),
         first_bad_card(call),

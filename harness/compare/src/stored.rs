@@ -1,5 +1,5 @@
 //! Writes every stored answer of the reference: stdin and stdout of the program `replay`, and of `text_points`, and
-//! what `points` and `run_points` print of it.
+//! what `points`, `run_points` and `cheapest` print of it.
 use crate::{stored_leaves, stored_points, stored_runs, stored_texts};
 use std::fmt::Write;
 
@@ -42,4 +42,7 @@ pub fn main(crates: &str) {
     let path = format!("{crates}/text_points/stdin");
     std::fs::write(&path, texts).unwrap_or_else(|e| panic!("{path} cannot be written: {e}"));
     write(&format!("{crates}/text_points/stdout"), &answers);
+    let path = format!("{crates}/cheapest/stdin");
+    let text = std::fs::read(&path).unwrap_or_else(|e| panic!("{path} cannot be read: {e}"));
+    write(&format!("{crates}/cheapest/stdout"), &crate::text::cheapest(&text));
 }

@@ -3,6 +3,7 @@
 use crate::lent::Call;
 use crate::reference;
 use crate::rules::faults;
+use crate::searches;
 use oracle::case::Case;
 use oracle::ours::simulation::SimulatorConfig;
 
@@ -236,4 +237,25 @@ pub fn answer(text: &[u8], wrong: Wrong) -> String {
         Err(line) => refused(11, line),
         Ok(case) => told(&case, wrong),
     }
+}
+
+/// What the program `cheapest` must print of a text: the retention and the seed play no part.
+pub fn cheapest(text: &[u8]) -> String {
+    let case = match read(text, Wrong::Nothing) {
+        Err(line) => return refused(11, line),
+        Ok(case) => case,
+    };
+    if let Some((number, second)) = turned_away(&case, Wrong::Nothing) {
+        return refused(number, second);
+    }
+    let said = searches::said(&Call::exact("text", case), 64);
+    match said.number {
+        0 => format!("(cheapest {:08X} (rounds {}) (mean {:08X}))\n", said.retention, said.rounds, said.mean),
+        number => refused(number, said.second),
+    }
+}
+
+/// Whether a search over a text takes little time.
+pub fn is_small(text: &[u8]) -> bool {
+    read(text, Wrong::Nothing).map_or(true, |case| turned_away(&case, Wrong::Nothing).is_some() || case.deck_size * case.learn_span < 300)
 }

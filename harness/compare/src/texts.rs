@@ -1,6 +1,6 @@
 //! The built program `forecast` beside the second reading of its texts over the Rust's run.
 use crate::generate::Words;
-use crate::text::{WRONG, Wrong, answer, read};
+use crate::text::{WRONG, Wrong, answer, cheapest, is_small, read};
 use crate::text_cases::varied;
 use std::collections::BTreeMap;
 use std::io::Write;
@@ -24,17 +24,17 @@ fn shown(text: &[u8]) -> String {
     text.escape_ascii().to_string()
 }
 
-/// How an answer ends a text: the first line without its numbers, or the refusal.
+/// How an answer begins: its first word, and the number of a refusal.
 fn kind(answer: &str) -> String {
     match answer.strip_prefix("(refused ") {
         Some(rest) => format!("refused {}", rest.split(' ').next().unwrap()),
-        None => "forecast".into(),
+        None => answer.trim_start_matches('(').split(' ').next().unwrap_or("").into(),
     }
 }
 
 /// Compares the program's answer to a text, and counts it.
-fn compare(program: &str, text: &[u8], ends: &mut BTreeMap<String, u64>) -> String {
-    let (ours, theirs) = (printed(program, text), answer(text, Wrong::Nothing));
+fn compare(program: &str, text: &[u8], theirs: String, ends: &mut BTreeMap<String, u64>) -> String {
+    let ours = printed(program, text);
     if ours != theirs {
         println!("DIFFERENCE in the text {}\nprogram {ours}reference {theirs}", shown(text));
         std::process::exit(1)
@@ -111,7 +111,7 @@ pub fn main(program: &str, n: u64, seed: u64) {
     let mut texts = [telling(), long()].concat();
     for i in 0..n + texts.len() as u64 {
         let text = texts.pop().unwrap_or_else(|| varied(&mut words));
-        let ours = compare(program, &text, &mut ends);
+        let ours = compare(program, &text, answer(&text, Wrong::Nothing), &mut ends);
         if i < 4000 {
             all.push((text, ours));
         }
@@ -138,9 +138,22 @@ pub fn short(program: &str) {
     for (what, bytes, len) in [("of at most two bytes", &every[..], 2), ("of at most five of eight bytes", b"()\n\r d50", 5)] {
         let (mut n, mut ends) = (0, BTreeMap::new());
         each_string(bytes, len, &mut Vec::new(), &mut |text| {
-            compare(program, text, &mut ends);
+            compare(program, text, answer(text, Wrong::Nothing), &mut ends);
             n += 1;
         });
         told(what, n, &ends);
     }
+}
+
+/// n texts whose search takes little time, through the program `cheapest`.
+pub fn searched(program: &str, n: u64, seed: u64) {
+    let (mut words, mut ends, mut done) = (Words::new(seed ^ 0x6368), BTreeMap::new(), 0);
+    while done < n {
+        let text = varied(&mut words);
+        if is_small(&text) {
+            compare(program, &text, cheapest(&text), &mut ends);
+            done += 1;
+        }
+    }
+    told(&format!("for a search (seed {seed})"), n, &ends);
 }

@@ -28,6 +28,8 @@ thread_local! {
     static ROUNDS: Cell<i32> = const { Cell::new(64) };
     static ROUNDS_DONE: Cell<i32> = const { Cell::new(0) };
     static RUNS: Cell<u64> = const { Cell::new(0) };
+    static RETENTION: Cell<f32> = const { Cell::new(0.0) };
+    static TRIALS: RefCell<Vec<(f32, f32)>> = const { RefCell::new(Vec::new()) };
     static LAST: RefCell<Trace> = RefCell::new(Trace::default());
 }
 
@@ -67,9 +69,24 @@ pub fn last() -> Trace {
     LAST.with_borrow(Trace::clone)
 }
 
-/// How many runs were made since this was last asked.
-pub fn runs() -> u64 {
-    RUNS.replace(0)
+pub(crate) fn begin_trial(retention: f32) {
+    RETENTION.set(retention);
+    RUNS.set(0);
+}
+
+pub(crate) fn end_trial(mean: f32) -> f32 {
+    TRIALS.with_borrow_mut(|all| all.push((RETENTION.get(), mean)));
+    mean
+}
+
+/// The retentions that a search has tried, each with its mean, since this was last asked.
+pub fn trials() -> Vec<(f32, f32)> {
+    TRIALS.take()
+}
+
+/// The retention of the last trial, and how many of its runs were made.
+pub fn last_trial() -> (f32, u64) {
+    (RETENTION.get(), RUNS.get())
 }
 
 pub fn set_rounds(rounds: i32) {

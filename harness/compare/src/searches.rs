@@ -1,0 +1,291 @@
+//! Searches: the port beside the Rust, on varied calls from a seed. The whole search: answer, rounds, mean, and the lists as the
+//! last run made leaves them; by the stepper: every trial's retention and mean, with the runs of a trial on all cores.
+use crate::calls::generated;
+use crate::cases::usual;
+use crate::floats::bits;
+use crate::generate::Words;
+use crate::lent::{Call, Lists};
+use crate::port;
+use crate::reference;
+use crate::result::Result;
+use crate::rules::search_faults;
+use oracle::ours::simulation::probe;
+use oracle::trace;
+use std::time::Instant;
+
+/// What a search says: number, second number, rounds done, the retention found and its mean.
+#[derive(Clone, Debug, PartialEq)]
+pub struct Said {
+    pub number: u32,
+    pub second: u32,
+    pub rounds: u32,
+    pub retention: u64,
+    pub mean: u64,
+}
+
+impl Said {
+    fn found(retention: f32, mean: f32, rounds: u32) -> Said {
+        Said { number: 0, second: 0, rounds, retention: bits(retention), mean: bits(mean) }
+    }
+
+    fn refused(number: u32, second: u32) -> Said {
+        Said { number, second, rounds: 0, retention: 0, mean: 0 }
+    }
+}
+
+type Trials = Vec<(u64, u64)>;
+
+/// A search's answer, its trials, and its last run: none where the entry refused.
+#[derive(Clone, Debug, PartialEq)]
+struct Searched {
+    said: Said,
+    trials: Trials,
+    last: Option<Result>,
+}
+
+/// The call of the last run that the Rust made.
+fn last_call(call: &Call) -> Call {
+    let (retention, runs) = trace::last_trial();
+    let mut last = call.clone();
+    last.case.desired_retention = retention;
+    last.case.seed = 41 + runs;
+    last
+}
+
+/// What the Rust says, and its last run's call.
+fn reference(call: &Call, rounds: u32) -> (Searched, Option<Call>) {
+    if let Some(&(number, second)) = search_faults(call, rounds).first() {
+        return (Searched { said: Said::refused(number, second), trials: vec![], last: None }, None);
+    }
+    let mut c = call.case.clone();
+    c.parameters.truncate(34);
+    trace::set_rounds(rounds as i32);
+    trace::limit(call.lengths.keys, u64::MAX);
+    trace::trials();
+    let found = probe::search(&c);
+    let trials = trace::trials();
+    let done = trace::rounds_done() as u32;
+    let said = match (found, trace::last().stopped) {
+        (_, Some((number, card))) => Said::refused(number, card),
+        (Ok(x), None) => Said::found(x, trials.iter().rfind(|t| bits(t.0) == bits(x)).expect("x was tried").1, done),
+        (Err(_), None) => Said::refused(10, done),
+    };
+    let last = last_call(call);
+    let result = reference::result(&last);
+    let trials = trials.iter().map(|t| (bits(t.0), bits(t.1))).collect();
+    (Searched { said, trials, last: Some(result) }, Some(last))
+}
+
+/// What the Rust's search says.
+pub fn said(call: &Call, rounds: u32) -> Said {
+    reference(call, rounds).0.said
+}
+
+/// The port's whole search; the answer tells no turns, cards and draws of its last run, so those are the Rust's.
+fn whole(call: &Call, rounds: u32, theirs: &Searched, last: Option<&Call>) -> (Said, Option<Result>) {
+    let mut lists = Lists::of(call);
+    let ([number, second, done], [retention, mean]) = lists.search(call, rounds);
+    let said = if number == 0 { Said::found(retention, mean, done) } else { Said::refused(number, second) };
+    let left = match (last, &theirs.last) {
+        (Some(last), Some(r)) => {
+            Some(lists.result(last, [r.number as u64, r.second as u64, r.turns, r.cards as u64, r.draws], r.queue.len()))
+        }
+        _ => {
+            let r = lists.result(call, [number as u64, second as u64, 0, 0, call.case.seed], 0);
+            assert!(r.spared, "an entry refusal wrote");
+            None
+        }
+    };
+    (said, left)
+}
+
+/// The targets of a trial's runs, in the order of their seeds, on so many threads; or the refusal of the first that was refused.
+fn trial(call: &Call, retention: f32, threads: usize) -> std::result::Result<Vec<f32>, (u32, u32)> {
+    let span = call.case.learn_span;
+    let n = port::drill_sample_size(span) as usize;
+    let run = |i: usize, lists: &mut Lists, mine: &mut Call| {
+        mine.case.seed = 42 + i as u64;
+        let answer = lists.simulate(mine);
+        match answer[0] {
+            0 => Ok(port::target(span, lists.costs.places(), lists.memorized.places())),
+            number => Err((number as u32, answer[1] as u32)),
+        }
+    };
+    let mut all: Vec<std::result::Result<f32, (u32, u32)>> = vec![Ok(0.0); n];
+    std::thread::scope(|scope| {
+        for part in all.chunks_mut(n.div_ceil(threads)).enumerate() {
+            let (k, part) = part;
+            scope.spawn(move || {
+                let mut mine = call.clone();
+                mine.case.desired_retention = retention;
+                let mut lists = Lists::of(&mine);
+                part.iter_mut().enumerate().for_each(|(j, x)| *x = run(k * n.div_ceil(threads) + j, &mut lists, &mut mine));
+            });
+        }
+    });
+    all.into_iter().collect()
+}
+
+/// The search by the stepper, on so many threads.
+fn stepped(call: &Call, rounds: u32, threads: usize) -> (Said, Trials) {
+    let (mut floats, mut counts) = ([0.0; 10], [0; 3]);
+    let mut trials = vec![];
+    port::drill_search_start(rounds, &mut floats, &mut counts);
+    loop {
+        let u = port::drill_search_next(&floats, &counts);
+        if u.is_nan() {
+            break;
+        }
+        match trial(call, u, threads) {
+            Err((number, second)) => return (Said::refused(number, second), trials),
+            Ok(targets) => {
+                let mean = port::mean(&targets);
+                trials.push((bits(u), bits(mean)));
+                port::drill_search_take(mean, &mut floats, &mut counts);
+            }
+        }
+    }
+    let said = match port::drill_search_answer(&floats, &counts) {
+        0 => Said::found(floats[2], floats[5], counts[0]),
+        number => Said::refused(number, counts[0]),
+    };
+    (said, trials)
+}
+
+fn cores() -> usize {
+    std::thread::available_parallelism().map_or(1, usize::from)
+}
+
+/// Whether the port and the Rust are alike; the Rust's answer.
+fn compare(call: &Call, rounds: u32) -> Searched {
+    let (theirs, last) = reference(call, rounds);
+    let (said, left) = whole(call, rounds, &theirs, last.as_ref());
+    let mut ours = Searched { said, trials: theirs.trials.clone(), last: left };
+    if theirs.last.is_some() {
+        let (said, trials) = stepped(call, rounds, cores());
+        ours.trials = trials;
+        if said != ours.said {
+            println!("DIFFERENCE: by the stepper {said:?}, whole {:?}", ours.said);
+            std::process::exit(1)
+        }
+    }
+    if ours != theirs {
+        println!(
+            "DIFFERENCE in a search of {rounds} rounds: call {call:?}\nport {:?} {:?}\nreference {:?} {:?}",
+            ours.said, ours.trials, theirs.said, theirs.trials
+        );
+        if let (Some(a), Some(b)) = (&ours.last, &theirs.last) {
+            println!("lists: {}", a.differing(b).join(", "));
+        }
+        std::process::exit(1)
+    }
+    theirs
+}
+
+/// Small decks over short spans, mostly: a trial of a short span has 180 runs.
+fn small(words: &mut Words) -> Call {
+    loop {
+        let call = generated(words);
+        let c = &call.case;
+        let work = u64::from(c.deck_size.min(65_536)) * u64::from(c.learn_span.min(36_500));
+        if work <= 400 || (work <= 8000 && words.chance(25)) || !search_faults(&call, 64).is_empty() {
+            return call;
+        }
+    }
+}
+
+fn rounds(words: &mut Words) -> u32 {
+    match words.below(12) {
+        0 => words.pick(&[0, 65, u32::MAX]),
+        1 => 1 + words.below(9) as u32,
+        _ => words.pick(&[64, 64, 57, 20]),
+    }
+}
+
+/// How many ended in each way.
+#[derive(Default)]
+struct Tally {
+    ends: std::collections::BTreeMap<u32, u64>,
+    trials: usize,
+    nan: u64,
+}
+
+impl Tally {
+    fn count(&mut self, s: &Searched) {
+        *self.ends.entry(s.said.number).or_default() += 1;
+        self.trials += s.trials.len();
+        self.nan += u64::from(s.trials.iter().any(|t| t.1 == bits(f32::NAN)));
+    }
+}
+
+pub fn main(n: u64, seed: u64) {
+    let mut words = Words::new(seed ^ 0x7365);
+    let mut tally = Tally::default();
+    for _ in 0..n {
+        let call = small(&mut words);
+        tally.count(&compare(&call, rounds(&mut words)));
+    }
+    if n >= 2000 {
+        let few = usual(400, 365);
+        for call in [Call::exact("400 cards, a year", few), Call::exact("the usual rate", usual(4000, 365))] {
+            tally.count(&compare(&call, 64));
+        }
+    }
+    let ends = tally.ends.iter().map(|(k, n)| if *k == 0 { format!("{n} found") } else { format!("{n} refused {k}") });
+    println!(
+        "search: alike ({}), {} trials, {} searches with a NaN among their means, trials on {} threads (seed {seed})",
+        ends.collect::<Vec<_>>().join(", "),
+        tally.trials,
+        tally.nan,
+        cores()
+    );
+}
+
+/// The published Rust's trials on two threads: its runs over the seeds, each half on a thread of its own.
+fn published_on_two(call: &Call, retentions: &[f32]) {
+    let n = port::drill_sample_size(call.case.learn_span) as usize;
+    for &u in retentions {
+        std::thread::scope(|scope| {
+            for k in 0..2 {
+                scope.spawn(move || {
+                    let mut c = call.case.clone();
+                    c.desired_retention = u;
+                    for i in (0..n).filter(|i| i % 2 == k) {
+                        c.seed = 42 + i as u64;
+                        std::hint::black_box(oracle::published::simulation::probe::run(&c).unwrap());
+                    }
+                });
+            }
+        });
+    }
+}
+
+fn seconds(run: &mut dyn FnMut()) -> f64 {
+    let start = Instant::now();
+    run();
+    start.elapsed().as_secs_f64()
+}
+
+/// A search at the usual rate: the published Rust and the port on one thread, then both on two.
+pub fn bench(rounds: u64) {
+    let call = Call::exact("the usual rate", usual(4000, 365));
+    let mut times = [f64::MAX; 4];
+    trace::set_rounds(64);
+    trace::trials();
+    for _ in 0..rounds {
+        let mut found = 0.0;
+        times[0] = times[0].min(seconds(&mut || found = oracle::published::simulation::probe::search(&call.case).unwrap()));
+        let retentions: Vec<f32> = trace::trials().iter().map(|t| t.0).collect();
+        let mut lists = Lists::of(&call);
+        times[1] = times[1].min(seconds(&mut || _ = lists.search(&call, 64)));
+        times[2] = times[2].min(seconds(&mut || published_on_two(&call, &retentions)));
+        times[3] = times[3].min(seconds(&mut || drop(stepped(&call, 64, 2))));
+        println!("  {} trials, the published Rust found {found}", retentions.len());
+    }
+    let [a, b, c, d] = times;
+    println!(
+        "bench: a search at the usual rate, least of {rounds}: on one thread the published Rust {a:.2} s, the port {b:.2} s ({:.2});",
+        b / a
+    );
+    println!("  on two threads the published Rust's runs {c:.2} s, the port's stepper {d:.2} s ({:.2})", d / c);
+}
