@@ -48,7 +48,8 @@ fn search(set: Settings) -> SearchAnswer
 }
 
 fn write_answer(out: &mut [u8], answer: SearchAnswer) -> Placed
-    ensures { λ r. ⌜ (r ≡ placed (now (out .entry)) 0 (answerText answer)) × (now (out .exit) ≡ written (now (out .entry)) 0 (answerText answer)) ⌝ }
+    ensures { λ r. ⌜ (r ≡ placed (now (out .entry)) 0 (answerText answer))
+        × (now (out .exit) ≡ written (now (out .entry)) 0 (answerText answer)) ⌝ }
 {
     match answer {
         SearchAnswer::Found(x) => report::write_cheapest(out, 0, x.retention, x.rounds, x.mean),
@@ -60,7 +61,8 @@ fn write_answer(out: &mut [u8], answer: SearchAnswer) -> Placed
 
 // The cheapest retention of a text, as text: one line, whole or not at all; 90 bytes are room enough.
 pub fn cheapest(out: &mut [u8], text: &[u8]) -> Placed
-    ensures { λ r. ⌜ (r ≡ placed (now (out .entry)) 0 (cheapestText (now (text .entry)))) × (now (out .exit) ≡ written (now (out .entry)) 0 (cheapestText (now (text .entry)))) ⌝ }
+    ensures { λ r. ⌜ (r ≡ placed (now (out .entry)) 0 (cheapestText (now (text .entry))))
+        × (now (out .exit) ≡ written (now (out .entry)) 0 (cheapestText (now (text .entry)))) ⌝ }
 {
     let reading = listing::reader::read(text, settings::default_settings());
     let verdict = reading.verdict;

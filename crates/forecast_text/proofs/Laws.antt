@@ -1,15 +1,14 @@
 -- The laws of texts: the entry's refusals in their order, and the room.
-use mathlib.Core.Path.{_≡_, refl, sym, ap, _∙_}
-use Prim.Native.Nat.{ℕ, _+_, _*_, _/_, _≤_, _<_}
+use mathlib.Core.Path.{_≡_, refl, sym}
+use Prim.Native.Nat.{ℕ, _+_, _/_, _≤_}
 use native.Mathlib.Omega.{arith}
-use mathlib.Core.Bool.{Bool, true, false, cond, _||_, _&&_}
+use mathlib.Core.Bool.{Bool, true, false, cond, _||_}
 use mathlib.Core.Option.{Option, none, some}
-use mathlib.Core.List.{List, []}
-use lib.ListN.{length, replicate, length-append}
-use lib.Dec.{eqb, leb, ltb}
+use mathlib.Core.List.{List}
+use lib.ListN.{length, length-append}
+use lib.Dec.{eqb, ltb}
 use lib.Ieee.{Float}
-use borrow.Author.Tests.{le-leb, le-ltb, ltb-false, eq-eqb}
-use Rattle.float32.specs.Numbers.{0ᶠ}
+use borrow.Author.Tests.{le-leb, le-ltb, ltb-false}
 use Rattle.listing.specs.declared.Settings.{Settings}
 use Rattle.listing.specs.declared.Verdict.{Verdict}
 use Rattle.listing.specs.declared.Verdict.the-variants.{Read, Refused}
@@ -27,7 +26,7 @@ use Rattle.simulation.specs.State.{mostCards, mostDays}
 use Rattle.simulation.specs.Entry.{firstWhere, listsOk, checkFirst, checkedWith, checked}
 use Rattle.simulation.specs.Simulate.{simulatedBy}
 use Rattle.forecast_text.specs.Settings.{mostDeck, mostSpan, within, configOf, inputsOf, defaultSettings}
-use Rattle.forecast_text.specs.Forecast.{places, lists, lentLists, runWith, forecastRun, room, answerText, runText}
+use Rattle.forecast_text.specs.Forecast.{lists, lentLists, runWith, forecastRun, room, answerText, runText}
 use Rattle.forecast_text.specs.Forecast.{verdictText, forecastText}
 use Rattle.forecast_text.specs.Laws.{entryOf, RunLaws, TextLaws}
 use Rattle.forecast_text.proofs.Call.{within-short}

@@ -1,6 +1,6 @@
 -- Texts at the head of a lent list that has room for them.
-use mathlib.Core.Path.{_≡_, refl, sym, ap, _∙_}
-use Prim.Native.Nat.{ℕ, _+_, _*_, _≤_, _<_}
+use mathlib.Core.Path.{_≡_, sym, ap, _∙_}
+use Prim.Native.Nat.{ℕ, _+_, _≤_, _<_}
 use native.Mathlib.Omega.{arith}
 use mathlib.Core.Bool.{true, false}
 use mathlib.Core.List.{List, _++_}
@@ -12,7 +12,7 @@ use borrow.Author.Tests.{le-leb, lt-leb, leb-false}
 use Rattle.report.specs.declared.Placed.{Placed}
 use Rattle.report.specs.declared.Placed.the-variants.{To, Full}
 use Rattle.report.specs.Lines.{forecastLine, refusedLine, placed, written}
-use Rattle.report.specs.Rows.{dayLines, daysPlaced, daysWritten, hasRows, spanPlaced, spanWritten}
+use Rattle.report.specs.Rows.{dayLines, hasRows, spanPlaced, spanWritten}
 use Rattle.report.proofs.WriteLaws.{sets-append, forecast-short, refused-short}
 use Rattle.report.proofs.RowLaws.{placed-to, placed-full, written-sets, days-whole, days-short}
 use Rattle.listing.specs.declared.Settings.{Settings}

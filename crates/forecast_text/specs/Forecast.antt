@@ -1,4 +1,4 @@
--- WHAT A TEXT FORECASTS, from the bytes read to the bytes written. Definitions only.
+-- WHAT A TEXT FORECASTS, from the bytes read to the bytes written (docs/RULES.md, P9 to P12). Definitions only.
 --   lists               the lists that the program lends to the run
 --   forecastRun s       the run of settings
 --   runText, forecastText   what is printed, of a run and of a text
@@ -28,7 +28,7 @@ use Rattle.simulation.specs.State.{State, Lent, lent, state}
 use Rattle.simulation.specs.Simulate.{Result, simulated}
 use Rattle.forecast_text.specs.Settings.{mostDeck, mostSpan, defaultSettings, configOf, inputsOf}
 
--- "Its interval table has 4,096 places"
+-- the length of the interval table
 abbrev pub places : ℕ
 places = 4096
 
@@ -50,7 +50,7 @@ lentLists s =
 unfoldable pub forecastRun : Settings → Result Float
 forecastRun = runWith (replicate mostSpan (replicate 4 0)) (replicate mostSpan 0ᶠ) (replicate mostSpan 0ᶠ)
 
--- "prints span, turns, cards, then each day", or the refusal; every run has an answer
+-- P11: a run that ended by its first line and a line a day, or its refusal; every run has an answer
 unfoldable pub answerText : ℕ → Option Answer → List (List ℕ) → List Float → List Float → List ℕ
 answerText span none days costs memorized = []
 answerText span (some (answer.Finished p)) days costs memorized =

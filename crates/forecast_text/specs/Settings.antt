@@ -1,5 +1,5 @@
--- What a text's settings are for a run: the values that missing forms take, and the inputs of the run. Definitions
--- only.
+-- What a text's settings are for a run: the values that missing forms take, and the inputs of the run
+-- (docs/RULES.md, P8 and P9). Definitions only.
 --   defaultConfig          `SimulatorConfig::default`, from its decimals
 --   bitsOf, floatsOf       floats as W, and back
 --   defaultSettings        what missing forms take
@@ -44,8 +44,7 @@ bitsOf = map (toBits binary32)
 abbrev pub floatsOf : List ℕ → List Float
 floatsOf = map (ofBits binary32)
 
--- "Missing forms take the values of `SimulatorConfig::default`, seed 42, retention 3F666666"; that parameters are
--- missing says `seen` (`parametersOf`)
+-- P8: what the settings are before any form; parameters are missing where `seen` says so (`parametersOf`)
 unfoldable pub defaultSettings : Settings
 defaultSettings = record {
   deck = defaultConfig .«deck_size»;
@@ -63,15 +62,14 @@ defaultSettings = record {
 
 -- ---- the inputs of the run
 
--- "The program's own largest deck is 512, span 730"
+-- P9: streets and days at the most
 abbrev pub mostDeck : ℕ
 mostDeck = 512
 
 abbrev pub mostSpan : ℕ
 mostSpan = 730
 
--- "above that it prints 2 or 3": a number above its limit is handed on as 0, which the run refuses by that number, in
--- the order of its refusals
+-- a number above its limit is handed on as 0, which the run refuses as 2 or 3, in the order of its refusals
 abbrev pub within : ℕ → ℕ → ℕ
 within most n = cond (ltb most n) 0 n
 
@@ -94,7 +92,7 @@ configOf s = record {
   «relearning_step_count» = defaultConfig .«relearning_step_count»;
 }
 
--- "missing parameters are an empty list"
+-- P8: none where their form is missing
 unfoldable pub parametersOf : Settings → List Float
 parametersOf s = cond (getD (s .seen) 0 false) (floatsOf (s .parameters)) []
 

@@ -6,19 +6,20 @@ use simulation::Answer;
 use simulation::refusals;
 ghost use mathlib.Core.Path.{_≡_};
 ghost use mathlib.Core.List.{_++_};
-ghost use mathlib.Core.Option.{some};
 ghost use Prim.Native.Nat.{_≤_};
 ghost use lib.ListN.{length};
 ghost use Rattle.report.specs.Lines.{forecastLine};
 ghost use Rattle.report.specs.Rows.{dayLines};
 ghost use Rattle.forecast_text.specs.Settings.{mostSpan};
-ghost use Rattle.forecast_text.specs.Forecast.{RunDays, Printed, runWith, room, answerText, runText, verdictText, forecastText, printed, left};
+ghost use Rattle.forecast_text.specs.Forecast.{RunDays, Printed, runWith, room, runText};
+ghost use Rattle.forecast_text.specs.Forecast.{forecastText, printed, left};
 
 pub mod settings;
 
 // The run of settings, its days in the lent lists.
 fn run(days: &mut [[u32; 4]], costs: &mut [f32], memorized: &mut [f32], set: Settings) -> Answer
-    ensures { λ r. ⌜ RunDays (runWith (now (days .entry)) (now (costs .entry)) (now (memorized .entry)) set) r (now (days .exit)) (now (costs .exit)) (now (memorized .exit)) ⌝ }
+    ensures { λ r. ⌜ RunDays (runWith (now (days .entry)) (now (costs .entry)) (now (memorized .entry)) set) r
+        (now (days .exit)) (now (costs .exit)) (now (memorized .exit)) ⌝ }
 {
     let mut cards: [[f32; 6]; 512] = [[0.0; 6]; 512];
     let mut counts: [[u32; 2]; 512] = [[0; 2]; 512];
@@ -62,8 +63,13 @@ fn write_run(
     turns: u32,
     cards: u32,
 ) -> Placed
-    requires { ⌜ (room ≤ length (now out)) × ((span ≤ mostSpan) × ((span ≤ length (now days)) × ((span ≤ length (now costs)) × (span ≤ length (now memorized))))) ⌝ }
-    ensures { λ r. ⌜ Printed (now (out .entry)) (forecastLine span turns cards ++ dayLines (now (days .entry)) (now (costs .entry)) (now (memorized .entry)) 0 span) r (now (out .exit)) ⌝ }
+    requires { ⌜ (room ≤ length (now out))
+        × ((span ≤ mostSpan)
+        × ((span ≤ length (now days))
+        × ((span ≤ length (now costs))
+        × (span ≤ length (now memorized))))) ⌝ }
+    ensures { λ r. ⌜ Printed (now (out .entry)) (forecastLine span turns cards ++ dayLines (now (days .entry))
+        (now (costs .entry)) (now (memorized .entry)) 0 span) r (now (out .exit)) ⌝ }
 {
     match report::write_forecast(out, 0, span, turns, cards) {
         Placed::To(at) => report::write_days(out, at, days, costs, memorized, span),
@@ -91,7 +97,8 @@ fn forecast_settings(out: &mut [u8], set: Settings) -> Placed
 
 // What a text forecasts, as text: what is read gives what is written.
 pub fn forecast(out: &mut [u8], text: &[u8]) -> Placed
-    ensures { λ r. ⌜ (r ≡ printed (now (out .entry)) (forecastText (now (text .entry)))) × (now (out .exit) ≡ left (now (out .entry)) (forecastText (now (text .entry)))) ⌝ }
+    ensures { λ r. ⌜ (r ≡ printed (now (out .entry)) (forecastText (now (text .entry))))
+        × (now (out .exit) ≡ left (now (out .entry)) (forecastText (now (text .entry)))) ⌝ }
 {
     if out.len() < 133680 {
         return Placed::Full;

@@ -5,7 +5,8 @@ use model::defaults;
 ghost use mathlib.Core.Path.{_≡_};
 ghost use mathlib.Core.Bool.{false, cond};
 ghost use lib.ListN.{length, getD};
-ghost use Rattle.forecast_text.specs.Settings.{defaultConfig, bitsOf, floatsOf, defaultSettings, mostSpan, within, configOf};
+ghost use Rattle.forecast_text.specs.Settings.{defaultConfig, bitsOf, floatsOf, defaultSettings, mostSpan};
+ghost use Rattle.forecast_text.specs.Settings.{within, configOf};
 
 // `SimulatorConfig::default`.
 pub fn default_config() -> SimulatorConfig

@@ -1,11 +1,10 @@
--- The forms of a text and what they set, and the reading of a text.
---   nameOf w        the form's name that a word is
--- one f, all, several k what stands behind a name, to the closing bracket and the end of the line: one word, "all W", k
--- Ws
---   takes n ps s    what the form n with those parts makes of the settings s: the table of the ten forms
---   form n ps s     the same, wrong where the name was seen before
---   line ps s       a line: blanks, or one form
---   reading text base   the settings that a text says, or refusal 11 with its line
+-- THE FORMS of a text and what they set, and the reading of a text (docs/RULES.md, P4 to P6). Definitions only.
+--   nameOf w, placeOf n      the form's name that a word is, and its place among the names seen
+--   one f, all, several k    what stands behind a name up to the line's end: a word, the word all and a W, k Ws
+--   takes n ps s             what the form n with those parts makes of the settings s: the table of the ten forms
+--   form n ps s              the same, rejected where the name was seen before
+--   line ps s                a line: blanks, or one form
+--   reading text base        the settings that a text says, or refusal 11 with its line
 use Rattle.listing.specs.Quoted.{bytes}
 use Prim.Native.Nat.{ℕ, zero, suc}
 use mathlib.Core.Bool.{Bool, true, false, cond}
@@ -74,7 +73,7 @@ one f (opened ∷ ps) = Not
 one f (closed ∷ ps) = Not
 one f (word w ∷ ps) = cond (closes ps) (f w) Not
 
--- "all W"
+-- the word all and one W
 unfoldable pub all : List Part → Parsed64
 all [] = Not
 all (opened ∷ ps) = Not
@@ -98,7 +97,7 @@ several (suc k) (opened ∷ ps) = none
 several (suc k) (closed ∷ ps) = none
 several (suc k) (word w ∷ ps) = before (bits w) (several k ps)
 
--- "(parameters all W) or 34 W"
+-- one W for all 34 parameters, or each with its own
 unfoldable pub allOr : Parsed64 → Several → Several
 allOr (Is v) vs = these (replicate 34 v)
 allOr Not vs = vs
@@ -163,7 +162,7 @@ named (opened ∷ ps) s = rejected s
 named (closed ∷ ps) s = rejected s
 named (word w ∷ ps) s = form (nameOf w) ps s
 
--- "one form a line"; "a line of blanks is skipped"
+-- P5: a line without parts says nothing; any other has one form
 unfoldable pub line : List Part → Settings → LineResult
 line [] s = accepted s
 line (opened ∷ ps) s = named ps s

@@ -1,4 +1,4 @@
--- N and W: a word as a number.
+-- N and W: a word as a number (docs/RULES.md, P3). Definitions only.
 --   number base most w   one or more digits to the base that say a number of at most `most`
 --   number32, number64   N
 --   bits            W, as the f32's bits
@@ -34,14 +34,14 @@ empty (b ∷ w) = false
 unfoldable pub number : ℕ → ℕ → List ℕ → Parsed64
 number base most w = cond (not (empty w) && (digits base w && leb (value base 0 w) most)) (Is (value base 0 w)) Not
 
--- "N is decimal and fits its type (seed 64 bits, the others 32)"; zeros may lead
+-- N of the seed, and of the other forms; zeros may lead
 unfoldable pub number64 : List ℕ → Parsed64
 number64 w = number 10 18446744073709551615 w
 
 unfoldable pub number32 : List ℕ → Parsed64
 number32 w = number 10 4294967295 w
 
--- "W is the f32's bits, 8 capital hex digits"
+-- W: a float by its bits, all eight digits written
 unfoldable pub bits : List ℕ → Parsed64
 bits w = cond (eqb (length w) 8) (number 16 4294967295 w) Not
 

@@ -18,7 +18,8 @@ ghost use Prim.Native.Nat.{_≤_};
 ghost use lib.ListN.{drop, length};
 ghost use Rattle.listing.specs.Text.{parts};
 ghost use Rattle.listing.specs.Numbers.{number32, number64, bits, as32};
-ghost use Rattle.listing.specs.Forms.{nameOf, placeOf, ends, closes, one, all, several, allOr, withNumber, setsNumber, setsFirst, setsParameters, takes, form, named, line};
+ghost use Rattle.listing.specs.Forms.{nameOf, placeOf, ends, closes, one, all, several, allOr, withNumber};
+ghost use Rattle.listing.specs.Forms.{setsNumber, setsFirst, setsParameters, takes, form, named, line};
 ghost use Rattle.listing.specs.Parsed.{asSeveral, as64, nextBits};
 
 // Whether nothing but blanks stands from i on.

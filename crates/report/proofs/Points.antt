@@ -17,8 +17,7 @@ case-day : dayLine
       correct = 0;
       introduced = 2;
       cost = ofBits binary32 0x41800000;
-      held
-          = ofBits binary32 0x3FFFFF58;
+      held = ofBits binary32 0x3FFFFF58;
     })
     ≡ bytes "(day 0 (learn 2) (review 0) (correct 0) (introduced 2) (cost 41800000) (held 3FFFFF58))\n"
 unfolding decimalIn decimal hexByte hexIn hex dayLine toBits ofBits ofFields

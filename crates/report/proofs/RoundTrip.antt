@@ -215,8 +215,7 @@ module _ (s base : Settings) (ok : Expressible s) where
     span = base .span;
     seed = base .seed;
     learn = base .learn;
-    review
-        = base .review;
+    review = base .review;
     retention = base .retention;
     maxcost = base .maxcost;
     first = base .first;
@@ -232,8 +231,7 @@ module _ (s base : Settings) (ok : Expressible s) where
     span = base .span;
     seed = base .seed;
     learn = base .learn;
-    review
-        = base .review;
+    review = base .review;
     retention = base .retention;
     maxcost = base .maxcost;
     first = base .first;
@@ -254,8 +252,7 @@ module _ (s base : Settings) (ok : Expressible s) where
     maxcost = base .maxcost;
     first = base .first;
     cost = base .cost;
-    parameters
-        = s .parameters;
+    parameters = s .parameters;
     seen = true ∷ true ∷ false ∷ false ∷ false ∷ false ∷ false ∷ false ∷ false ∷ false ∷ [];
   }
 
@@ -270,8 +267,7 @@ module _ (s base : Settings) (ok : Expressible s) where
     maxcost = base .maxcost;
     first = base .first;
     cost = base .cost;
-    parameters
-        = s .parameters;
+    parameters = s .parameters;
     seen = true ∷ true ∷ true ∷ false ∷ false ∷ false ∷ false ∷ false ∷ false ∷ false ∷ [];
   }
 
@@ -286,8 +282,7 @@ module _ (s base : Settings) (ok : Expressible s) where
     maxcost = base .maxcost;
     first = base .first;
     cost = base .cost;
-    parameters
-        = s .parameters;
+    parameters = s .parameters;
     seen = true ∷ true ∷ true ∷ true ∷ false ∷ false ∷ false ∷ false ∷ false ∷ false ∷ [];
   }
 
@@ -298,8 +293,7 @@ module _ (s base : Settings) (ok : Expressible s) where
     seed = s .seed;
     learn = s .learn;
     review = base .review;
-    retention
-        = base .retention;
+    retention = base .retention;
     maxcost = base .maxcost;
     first = base .first;
     cost = base .cost;
@@ -314,8 +308,7 @@ module _ (s base : Settings) (ok : Expressible s) where
     seed = s .seed;
     learn = s .learn;
     review = s .review;
-    retention
-        = base .retention;
+    retention = base .retention;
     maxcost = base .maxcost;
     first = base .first;
     cost = base .cost;
@@ -330,14 +323,12 @@ module _ (s base : Settings) (ok : Expressible s) where
     seed = s .seed;
     learn = s .learn;
     review = s .review;
-    retention
-        = s .retention;
+    retention = s .retention;
     maxcost = base .maxcost;
     first = base .first;
     cost = base .cost;
     parameters = s .parameters;
-    seen
-        = true ∷ true ∷ true ∷ true ∷ true ∷ true ∷ true ∷ false ∷ false ∷ false ∷ [];
+    seen = true ∷ true ∷ true ∷ true ∷ true ∷ true ∷ true ∷ false ∷ false ∷ false ∷ [];
   }
 
   after-8 : Settings
@@ -347,14 +338,12 @@ module _ (s base : Settings) (ok : Expressible s) where
     seed = s .seed;
     learn = s .learn;
     review = s .review;
-    retention
-        = s .retention;
+    retention = s .retention;
     maxcost = s .maxcost;
     first = base .first;
     cost = base .cost;
     parameters = s .parameters;
-    seen
-        = true ∷ true ∷ true ∷ true ∷ true ∷ true ∷ true ∷ true ∷ false ∷ false ∷ [];
+    seen = true ∷ true ∷ true ∷ true ∷ true ∷ true ∷ true ∷ true ∷ false ∷ false ∷ [];
   }
 
   after-9 : Settings
@@ -364,14 +353,12 @@ module _ (s base : Settings) (ok : Expressible s) where
     seed = s .seed;
     learn = s .learn;
     review = s .review;
-    retention
-        = s .retention;
+    retention = s .retention;
     maxcost = s .maxcost;
     first = s .first;
     cost = base .cost;
     parameters = s .parameters;
-    seen
-        = true ∷ true ∷ true ∷ true ∷ true ∷ true ∷ true ∷ true ∷ true ∷ false ∷ [];
+    seen = true ∷ true ∷ true ∷ true ∷ true ∷ true ∷ true ∷ true ∷ true ∷ false ∷ [];
   }
 
   after-10 : Settings
@@ -381,13 +368,11 @@ module _ (s base : Settings) (ok : Expressible s) where
     seed = s .seed;
     learn = s .learn;
     review = s .review;
-    retention
-        = s .retention;
+    retention = s .retention;
     maxcost = s .maxcost;
     first = s .first;
     cost = replicate 12 (getD (s .cost) 0 0);
-    parameters
-        = s .parameters;
+    parameters = s .parameters;
     seen = true ∷ true ∷ true ∷ true ∷ true ∷ true ∷ true ∷ true ∷ true ∷ true ∷ [];
   }
 
@@ -686,14 +671,12 @@ module _ (s base : Settings) (ok : Expressible s) where
     span = s .span;
     seed = s .seed;
     learn = s .learn;
-    review
-        = s .review;
+    review = s .review;
     retention = s .retention;
     maxcost = s .maxcost;
     first = s .first;
     cost = c;
-    parameters
-        = s .parameters;
+    parameters = s .parameters;
     seen = replicate 10 true;
   }) (sym (ok .same))
 

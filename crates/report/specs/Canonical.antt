@@ -1,4 +1,7 @@
--- Settings as text, in one fixed form, and which settings a text can say.
+-- Settings as text, in one fixed form, and which settings a text can say (docs/RULES.md, P7). Definitions only.
+--   formText name ws, textOf ls   a form, and lines
+--   canonical s                   all ten forms of settings
+--   Expressible s                 settings that a text can say
 use Rattle.listing.specs.Quoted.{bytes}
 use Prim.Native.Nat.{ℕ, _<_}
 use mathlib.Core.Path.{_≡_}
@@ -25,7 +28,7 @@ unfoldable pub hexes : List ℕ → List (List ℕ)
 hexes [] = []
 hexes (v ∷ vs) = hex v ∷ hexes vs
 
--- all ten forms, in the paper's order
+-- all ten forms
 unfoldable pub formsOf : Settings → List (List ℕ)
 formsOf s =
     formText (bytes "parameters") (hexes (s .parameters)) ∷ formText (bytes "deck") (decimal (s .deck) ∷ []) ∷ formText

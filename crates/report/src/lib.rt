@@ -4,7 +4,8 @@ ghost use mathlib.Core.List.{_++_};
 ghost use Prim.Native.Nat.{_+_, _<_, _≤_, _^_};
 ghost use lib.ListN.{length, set};
 ghost use Rattle.report.specs.Digits.{decimal, hex};
-ghost use Rattle.report.specs.Lines.{Put, Holds, placed, written, dayLine, forecastLine, refusedLine, cheapestLine};
+ghost use Rattle.report.specs.Lines.{Put, Holds, placed, written, dayLine, forecastLine, refusedLine};
+ghost use Rattle.report.specs.Lines.{cheapestLine};
 ghost use Rattle.report.specs.Rows.{dayAt, daysPlaced, daysWritten, spanPlaced, spanWritten};
 
 mod digits;
@@ -133,7 +134,8 @@ fn day_line(d: Day) -> Line
 
 // A line from `at` on, whole or not at all.
 pub fn write_line(out: &mut [u8], at: usize, line: &[u8]) -> Placed
-    ensures { λ r. ⌜ (r ≡ placed (now (out .entry)) at (now (line .entry))) × (now (out .exit) ≡ written (now (out .entry)) at (now (line .entry))) ⌝ }
+    ensures { λ r. ⌜ (r ≡ placed (now (out .entry)) at (now (line .entry)))
+        × (now (out .exit) ≡ written (now (out .entry)) at (now (line .entry))) ⌝ }
 {
     if out.len() < at {
         return Placed::Full;
@@ -146,7 +148,8 @@ pub fn write_line(out: &mut [u8], at: usize, line: &[u8]) -> Placed
 
 // `(day ..)`.
 pub fn write_day(out: &mut [u8], at: usize, d: Day) -> Placed
-    ensures { λ r. ⌜ (r ≡ placed (now (out .entry)) at (dayLine d)) × (now (out .exit) ≡ written (now (out .entry)) at (dayLine d)) ⌝ }
+    ensures { λ r. ⌜ (r ≡ placed (now (out .entry)) at (dayLine d))
+        × (now (out .exit) ≡ written (now (out .entry)) at (dayLine d)) ⌝ }
 {
     let line = day_line(d);
     let n = line.len;
@@ -156,7 +159,8 @@ pub fn write_day(out: &mut [u8], at: usize, d: Day) -> Placed
 
 // `(forecast ..)`.
 pub fn write_forecast(out: &mut [u8], at: usize, span: u32, turns: u32, cards: u32) -> Placed
-    ensures { λ r. ⌜ (r ≡ placed (now (out .entry)) at (forecastLine span turns cards)) × (now (out .exit) ≡ written (now (out .entry)) at (forecastLine span turns cards)) ⌝ }
+    ensures { λ r. ⌜ (r ≡ placed (now (out .entry)) at (forecastLine span turns cards))
+        × (now (out .exit) ≡ written (now (out .entry)) at (forecastLine span turns cards)) ⌝ }
 {
     let line = forecast_line(span, turns, cards);
     let n = line.len;
@@ -166,7 +170,8 @@ pub fn write_forecast(out: &mut [u8], at: usize, span: u32, turns: u32, cards: u
 
 // `(refused ..)`.
 pub fn write_refused(out: &mut [u8], at: usize, number: u32, second: u32) -> Placed
-    ensures { λ r. ⌜ (r ≡ placed (now (out .entry)) at (refusedLine number second)) × (now (out .exit) ≡ written (now (out .entry)) at (refusedLine number second)) ⌝ }
+    ensures { λ r. ⌜ (r ≡ placed (now (out .entry)) at (refusedLine number second))
+        × (now (out .exit) ≡ written (now (out .entry)) at (refusedLine number second)) ⌝ }
 {
     let line = refused_line(number, second);
     let n = line.len;
@@ -176,7 +181,8 @@ pub fn write_refused(out: &mut [u8], at: usize, number: u32, second: u32) -> Pla
 
 // `(cheapest ..)`.
 pub fn write_cheapest(out: &mut [u8], at: usize, retention: f32, rounds: u32, mean: f32) -> Placed
-    ensures { λ r. ⌜ (r ≡ placed (now (out .entry)) at (cheapestLine retention rounds mean)) × (now (out .exit) ≡ written (now (out .entry)) at (cheapestLine retention rounds mean)) ⌝ }
+    ensures { λ r. ⌜ (r ≡ placed (now (out .entry)) at (cheapestLine retention rounds mean))
+        × (now (out .exit) ≡ written (now (out .entry)) at (cheapestLine retention rounds mean)) ⌝ }
 {
     let line = cheapest_line(retention, rounds, mean);
     let n = line.len;
@@ -214,8 +220,10 @@ fn write_rows(
     span: u32,
 ) -> Placed
     requires { ⌜ (span ≤ length (now days)) × ((span ≤ length (now costs)) × (span ≤ length (now memorized))) ⌝ }
-    ensures { λ r. ⌜ (r ≡ daysPlaced (now (days .entry)) (now (costs .entry)) (now (memorized .entry)) 0 span (now (out .entry)) from)
-        × (now (out .exit) ≡ daysWritten (now (days .entry)) (now (costs .entry)) (now (memorized .entry)) 0 span (now (out .entry)) from) ⌝ }
+    ensures { λ r. ⌜ (r ≡ daysPlaced (now (days .entry)) (now (costs .entry)) (now (memorized .entry)) 0 span
+        (now (out .entry)) from)
+        × (now (out .exit) ≡ daysWritten (now (days .entry)) (now (costs .entry)) (now (memorized .entry)) 0 span
+        (now (out .entry)) from) ⌝ }
 {
     let mut at = from;
     let mut d: u32 = 0;
@@ -243,8 +251,10 @@ pub fn write_days(
     memorized: &[f32],
     span: u32,
 ) -> Placed
-    ensures { λ r. ⌜ (r ≡ spanPlaced (now (days .entry)) (now (costs .entry)) (now (memorized .entry)) span (now (out .entry)) at)
-        × (now (out .exit) ≡ spanWritten (now (days .entry)) (now (costs .entry)) (now (memorized .entry)) span (now (out .entry)) at) ⌝ }
+    ensures { λ r. ⌜ (r ≡ spanPlaced (now (days .entry)) (now (costs .entry)) (now (memorized .entry)) span
+        (now (out .entry)) at)
+        × (now (out .exit) ≡ spanWritten (now (days .entry)) (now (costs .entry)) (now (memorized .entry)) span
+        (now (out .entry)) at) ⌝ }
 {
     let n = span as usize;
     if days.len() < n {

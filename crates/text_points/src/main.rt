@@ -1,4 +1,5 @@
-// Prints what each text of its input forecasts. A text ends at a byte 1E; the texts and what they print are those of the Rust
+// Prints what each text of its input forecasts. A text ends at a byte 1E; the texts and what they print are those of
+// the Rust
 // (`harness/run store`).
 use report::Placed;
 ghost use Prim.Native.Nat.{_≤_};
