@@ -15,7 +15,8 @@ use Rattle.brent.specs.declared.Stepper.{Stepper}
 use Rattle.brent.specs.declared.Next.{Next}
 use Rattle.brent.specs.declared.Next.the-variants as next
 use Rattle.brent.specs.Step.{rMin, converged, trial, begun, stepOf, within}
-use Rattle.brent.specs.Search.{Sampled, gives, refuses, Answer, found, notFound, Searched, ended, noted, tried, settled}
+use Rattle.brent.specs.Search.{Sampled, gives, refuses, Answer, found, notFound, Searched, ended, noted, tried}
+use Rattle.brent.specs.Search.{settled}
 use Rattle.brent.specs.Search.{searchOn, search, Lawful, RefusedBy}
 use Rattle.brent.specs.Stepping.{started, goesOn, nextRetention, takenIn, takeMean, fed, AskedWithin}
 use Rattle.brent.proofs.Driven.{tried-same}
@@ -24,20 +25,28 @@ use Rattle.brent.proofs.Range as Range
 use Rattle.brent.proofs.Range.{Ranged, trial-place, begun-ranged, rMin-at, within-at}
 
 trial-within : (s : Brent) → Ranged s → converged s ≡ false → T (within (trial s .u))
-trial-within s r e = let m = trial-place s r e in within-at (trial s .u) (m .k) (m .at) (le-trans (r .low) (m .least)) (le-trans (m .most) (r .high))
+trial-within s r e =
+    let m = trial-place s r e in within-at (trial s .u) (m .k) (m .at) (le-trans (r .low) (m .least))
+    (le-trans (m .most) (r .high))
 
 first-within : T (within rMin)
 first-within = within-at rMin kMin rMin-at (omega arith) (omega arith)
 
-module _ {W R : Type 0} (run run' : W → Float → Sampled W R) (agree : (w : W) (u : Float) → T (within u) → run w u ≡ run' w u) where
-  turn : (n : ℕ) (w : W) (s : Brent) → Ranged s → ((after : W) (mean : Float) → Ranged (stepOf s mean) → searchOn run n after (stepOf s mean) ≡ searchOn run' n after (stepOf s mean))
+module _ {W R : Type 0} (run run' : W → Float → Sampled W R)
+    (agree : (w : W) (u : Float) → T (within u) → run w u ≡ run' w u) where
+  turn : (n : ℕ) (w : W) (s : Brent) → Ranged s
+      → ((after : W) (mean : Float) → Ranged (stepOf s mean)
+      → searchOn run n after (stepOf s mean) ≡ searchOn run' n after (stepOf s mean))
       → (b : Bool) → converged s ≡ b → searchOn run (suc n) w s ≡ searchOn run' (suc n) w s
   unfolding searchOn
   turn n w s r h true e = rw e
   turn n w s r h false e =
       rw e
-      (ap (λ (x : Sampled W R). tried (trial s .u) x (λ after mean. searchOn run n after (stepOf s mean))) (agree w (trial s .u) (trial-within s r e))
-      ∙ tried-same (trial s .u) (run' w (trial s .u)) (λ after mean. searchOn run n after (stepOf s mean)) (λ after mean. searchOn run' n after (stepOf s mean)) (λ after mean. h after mean (Range.next s r e mean .to)))
+      (ap (λ (x : Sampled W R). tried (trial s .u) x (λ after mean. searchOn run n after (stepOf s mean)))
+      (agree w (trial s .u) (trial-within s r e))
+      ∙ tried-same (trial s .u) (run' w (trial s .u)) (λ after mean. searchOn run n after (stepOf s mean))
+      (λ after mean. searchOn run' n after (stepOf s mean))
+      (λ after mean. h after mean (Range.next s r e mean .to)))
 
   same-on : (n : ℕ) (w : W) (s : Brent) → Ranged s → searchOn run n w s ≡ searchOn run' n w s
   unfolding searchOn
@@ -47,8 +56,11 @@ module _ {W R : Type 0} (run run' : W → Float → Sampled W R) (agree : (w : W
   pub asks-within : (rounds : ℕ) (world : W) → search run rounds world ≡ search run' rounds world
   unfolding search
   asks-within rounds world =
-      ap (λ (x : Sampled W R). tried rMin x (λ after mean. searchOn run rounds after (begun mean))) (agree world rMin first-within)
-      ∙ tried-same rMin (run' world rMin) (λ after mean. searchOn run rounds after (begun mean)) (λ after mean. searchOn run' rounds after (begun mean)) (λ after mean. same-on rounds after (begun mean) (begun-ranged mean))
+      ap (λ (x : Sampled W R). tried rMin x (λ after mean. searchOn run rounds after (begun mean)))
+      (agree world rMin first-within)
+      ∙ tried-same rMin (run' world rMin) (λ after mean. searchOn run rounds after (begun mean))
+      (λ after mean. searchOn run' rounds after (begun mean))
+      (λ after mean. same-on rounds after (begun mean) (begun-ranged mean))
 
 -- ---- what each trial keeps and how it is refused
 module _ {W R : Type 0} (run : W → Float → Sampled W R) (P : W → Type 0) (Q : R → Type 0)
@@ -79,7 +91,8 @@ module _ {W R : Type 0} (run : W → Float → Sampled W R) (P : W → Type 0) (
   ends-on : (n : ℕ) (w : W) (s : Brent) → Ranged s → P w → Ends (searchOn run n w s)
   unfolding searchOn ended
   ends-on zero w s r p = tt
-  ends-on (suc n) w s r p = ends-turn n w s r p (λ after mean q g. ends-on n after (stepOf s mean) g q) (converged s) refl
+  ends-on (suc n) w s r p =
+      ends-turn n w s r p (λ after mean q g. ends-on n after (stepOf s mean) g q) (converged s) refl
 
   -- a search is refused only as its trials are
   pub refused-by : (rounds : ℕ) (world : W) → P world → Ends (search run rounds world)
@@ -113,7 +126,8 @@ take-kept : (t : Stepper) (mean : Float) → Kept t → Kept (takeMean t mean)
 unfolding takeMean
 take-kept t mean h q = go (t .begun) h
   where
-    go : (b : Bool) → (b ≡ true → Ranged (t .state)) → Ranged (cond b (takenIn (t .rounds) (t .state) mean) (begun mean))
+    go : (b : Bool) → (b ≡ true → Ranged (t .state))
+        → Ranged (cond b (takenIn (t .rounds) (t .state) mean) (begun mean))
     go true h = taken-ranged (t .rounds) (t .state) mean (h refl)
     go false h = begun-ranged mean
 
@@ -126,11 +140,13 @@ next-within : (t : Stepper) → Kept t → AskedWithin (nextRetention t)
 unfolding nextRetention
 next-within t h = go (t .begun) (goesOn (t .rounds) (t .state)) h refl
   where
-    go : (b c : Bool) → (b ≡ true → Ranged (t .state)) → goesOn (t .rounds) (t .state) ≡ c → AskedWithin (cond b (cond c (next.Retention (trial (t .state) .u)) next.Nothing) (next.Retention rMin))
+    go : (b c : Bool) → (b ≡ true → Ranged (t .state)) → goesOn (t .rounds) (t .state) ≡ c
+        → AskedWithin (cond b (cond c (next.Retention (trial (t .state) .u)) next.Nothing) (next.Retention rMin))
     go true true h e = trial-within (t .state) (h refl) (going-open (t .rounds) (t .state) e)
     go true false h e = tt
     go false c h e = first-within
 
 pub stepper-asks-within : (rounds : ℕ) (means : List Float) → AskedWithin (nextRetention (fed (started rounds) means))
 unfolding started
-stepper-asks-within rounds means = next-within (fed (started rounds) means) (fed-kept (started rounds) means (λ e. absurd (true≢false (sym e))))
+stepper-asks-within rounds means =
+    next-within (fed (started rounds) means) (fed-kept (started rounds) means (λ e. absurd (true≢false (sym e))))

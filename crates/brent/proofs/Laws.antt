@@ -13,7 +13,9 @@ use lib.ListN.{length}
 use lib.Ieee.{Float, lt, isNan}
 use Rattle.brent.specs.declared.Brent.{Brent}
 use Rattle.brent.specs.Step.{rMin, converged, trial, begun, stepOf, afterTrial, afterWorse, afterBetter, within}
-use Rattle.brent.specs.Search.{Sampled, gives, refuses, Tried, Answer, Searched, found, notFound, refused, ended, noted, tried, settled, searchOn, search, Each, Some, NotBelow, WasTried, FoundWithin, OneMore}
+use Rattle.brent.specs.Search.{Sampled, gives, refuses, Tried, Answer, Searched, found, notFound, refused, ended}
+use Rattle.brent.specs.Search.{noted, tried, settled, searchOn, search, Each, Some, NotBelow, WasTried}
+use Rattle.brent.specs.Search.{FoundWithin, OneMore}
 use Rattle.brent.proofs.Order.{asym, self, not-below-trans}
 use Rattle.brent.proofs.Driven.{step-done}
 
@@ -21,8 +23,10 @@ use Rattle.brent.proofs.Driven.{step-done}
 module _ {W R : Type 0} (run : W → Float → Sampled W R) (P : ℕ → Brent → Searched W R → Type 0)
     (spent : (w : W) (s : Brent) → P 0 s (ended w (notFound (s .done))))
     (stop : (n : ℕ) (w : W) (s : Brent) → converged s ≡ true → P (suc n) s (ended w (settled s)))
-    (trying : (n : ℕ) (s : Brent) (x : Sampled W R) (rest : W → Float → Searched W R) → converged s ≡ false → ((w : W) (mean : Float) → P n (stepOf s mean) (rest w mean)) → P (suc n) s (tried (trial s .u) x rest)) where
-  turn : (n : ℕ) (w : W) (s : Brent) → ((after : W) (mean : Float) → P n (stepOf s mean) (searchOn run n after (stepOf s mean))) → (b : Bool) → converged s ≡ b → P (suc n) s (searchOn run (suc n) w s)
+    (trying : (n : ℕ) (s : Brent) (x : Sampled W R) (rest : W → Float → Searched W R) → converged s ≡ false
+    → ((w : W) (mean : Float) → P n (stepOf s mean) (rest w mean)) → P (suc n) s (tried (trial s .u) x rest)) where
+  turn : (n : ℕ) (w : W) (s : Brent) → ((after : W) (mean : Float) → P n (stepOf s mean)
+      (searchOn run n after (stepOf s mean))) → (b : Bool) → converged s ≡ b → P (suc n) s (searchOn run (suc n) w s)
   unfolding searchOn
   turn n w s h true e = rw e (stop n w s e)
   turn n w s h false e = rw e (trying n s (run w (trial s .u)) (λ after mean. searchOn run n after (stepOf s mean)) e h)
@@ -41,10 +45,12 @@ Cheapest r = Each Number (r .trials) → Each (λ t. NotBelow (r .answer) (t .me
 
 -- from a state whose best mean is m: neither is m below
 abbrev CheapestFrom : {W R : Type 0} → Float → Searched W R → Type 0
-CheapestFrom m r = Each Number (r .trials) → NotBelow (r .answer) m × Each (λ t. NotBelow (r .answer) (t .mean)) (r .trials)
+CheapestFrom m r =
+    Each Number (r .trials) → NotBelow (r .answer) m × Each (λ t. NotBelow (r .answer) (t .mean)) (r .trials)
 
 -- by the best mean before a trial, the trial's, and the best after it
-joins : {R : Type 0} (answer : Answer R) (b : Bool) (m mean : Float) → lt m mean ≡ b → isNan m ≡ false → isNan mean ≡ false → NotBelow answer (cond b m mean) → NotBelow answer m × NotBelow answer mean
+joins : {R : Type 0} (answer : Answer R) (b : Bool) (m mean : Float) → lt m mean ≡ b → isNan m ≡ false
+    → isNan mean ≡ false → NotBelow answer (cond b m mean) → NotBelow answer m × NotBelow answer mean
 joins (found x best done) true m mean e p q h = (h, not-below-trans mean m best p (asym m mean e) h)
 joins (found x best done) false m mean e p q h = (not-below-trans m mean best q e h, h)
 joins (notFound done) b m mean e p q h = (tt, tt)
@@ -66,7 +72,8 @@ settled-below : (R : Type 0) (s : Brent) → NotBelow {R = R} (settled s) (s .fx
 unfolding settled
 settled-below R s = go (within (s .x)) (self (s .fx))
   where
-    go : (b : Bool) → lt (s .fx) (s .fx) ≡ false → NotBelow {R = R} (cond b (found (s .x) (s .fx) (s .done)) (notFound (s .done))) (s .fx)
+    go : (b : Bool) → lt (s .fx) (s .fx) ≡ false → NotBelow {R = R}
+        (cond b (found (s .x) (s .fx) (s .done)) (notFound (s .done))) (s .fx)
     go true h = h
     go false h = tt
 
@@ -74,7 +81,9 @@ module _ {W R : Type 0} (run : W → Float → Sampled W R) where
   abbrev CheapOn : ℕ → Brent → Searched W R → Type 0
   CheapOn n s r = isNan (s .fx) ≡ false → CheapestFrom (s .fx) r
 
-  cheap-trial : (n : ℕ) (s : Brent) (x : Sampled W R) (rest : W → Float → Searched W R) → converged s ≡ false → ((w : W) (mean : Float) → CheapOn n (stepOf s mean) (rest w mean)) → CheapOn (suc n) s (tried (trial s .u) x rest)
+  cheap-trial : (n : ℕ) (s : Brent) (x : Sampled W R) (rest : W → Float → Searched W R) → converged s ≡ false
+      → ((w : W) (mean : Float) → CheapOn n (stepOf s mean) (rest w mean))
+      → CheapOn (suc n) s (tried (trial s .u) x rest)
   unfolding tried noted ended
   cheap-trial n s (gives w mean) rest e h p (q, qs) =
       let r = h w mean (rw (best-is s mean) (number-or (lt (s .fx) mean) (s .fx) mean p q)) qs in
@@ -99,7 +108,8 @@ Reaches (found x mean done) y m ts = ((y ≡ x) × (m ≡ mean)) ⊎ Some (λ t.
 Reaches (notFound done) y m ts = Unit {0}
 Reaches (refused why) y m ts = Unit {0}
 
-reach-more : {R : Type 0} (answer : Answer R) (b : Bool) (y m u mean : Float) (ts : List Tried) → Reaches answer (cond b y u) (cond b m mean) ts → Reaches answer y m (record { retention = u; mean = mean } ∷ ts)
+reach-more : {R : Type 0} (answer : Answer R) (b : Bool) (y m u mean : Float) (ts : List Tried)
+    → Reaches answer (cond b y u) (cond b m mean) ts → Reaches answer y m (record { retention = u; mean = mean } ∷ ts)
 reach-more (found x best done) true y m u mean ts (inl h) = inl h
 reach-more (found x best done) true y m u mean ts (inr h) = inr (inr h)
 reach-more (found x best done) false y m u mean ts (inl h) = inr (inl h)
@@ -107,7 +117,8 @@ reach-more (found x best done) false y m u mean ts (inr h) = inr (inr h)
 reach-more (notFound done) b y m u mean ts h = tt
 reach-more (refused why) b y m u mean ts h = tt
 
-reach-first : {R : Type 0} (answer : Answer R) (u mean : Float) (ts : List Tried) → Reaches answer u mean ts → WasTried answer (record { retention = u; mean = mean } ∷ ts)
+reach-first : {R : Type 0} (answer : Answer R) (u mean : Float) (ts : List Tried) → Reaches answer u mean ts
+    → WasTried answer (record { retention = u; mean = mean } ∷ ts)
 reach-first (found x best done) u mean ts h = h
 reach-first (notFound done) u mean ts h = tt
 reach-first (refused why) u mean ts h = tt
@@ -116,7 +127,8 @@ place-is : (s : Brent) (mean : Float) → stepOf s mean .x ≡ cond (lt (s .fx) 
 unfolding stepOf afterTrial afterWorse afterBetter
 place-is s mean = go (lt (s .fx) mean)
   where
-    go : (b : Bool) → cond b (afterWorse s (trial s) mean) (afterBetter s (trial s) mean) .x ≡ cond b (s .x) (trial s .u)
+    go : (b : Bool) → cond b (afterWorse s (trial s) mean) (afterBetter s (trial s) mean) .x ≡ cond b (s .x)
+        (trial s .u)
     go true = refl
     go false = refl
 
@@ -132,23 +144,31 @@ module _ {W R : Type 0} (run : W → Float → Sampled W R) where
       go true = inl (refl, refl)
       go false = tt
 
-  reach-trial : (n : ℕ) (s : Brent) (x : Sampled W R) (rest : W → Float → Searched W R) → converged s ≡ false → ((w : W) (mean : Float) → ReachesOn n (stepOf s mean) (rest w mean)) → ReachesOn (suc n) s (tried (trial s .u) x rest)
+  reach-trial : (n : ℕ) (s : Brent) (x : Sampled W R) (rest : W → Float → Searched W R) → converged s ≡ false
+      → ((w : W) (mean : Float) → ReachesOn n (stepOf s mean) (rest w mean))
+      → ReachesOn (suc n) s (tried (trial s .u) x rest)
   unfolding tried noted ended
   reach-trial n s (gives w mean) rest e h =
       reach-more (rest w mean .answer) (lt (s .fx) mean) (s .x) (s .fx) (trial s .u) mean (rest w mean .trials)
-      (subst (λ (m : Float). Reaches (rest w mean .answer) (cond (lt (s .fx) mean) (s .x) (trial s .u)) m (rest w mean .trials)) (best-is s mean)
-      (subst (λ (y : Float). Reaches (rest w mean .answer) y (stepOf s mean .fx) (rest w mean .trials)) (place-is s mean) (h w mean)))
+      (subst (λ (m : Float). Reaches (rest w mean .answer) (cond (lt (s .fx) mean) (s .x) (trial s .u)) m
+      (rest w mean .trials)) (best-is s mean)
+      (subst (λ (y : Float). Reaches (rest w mean .answer) y (stepOf s mean .fx) (rest w mean .trials))
+      (place-is s mean) (h w mean)))
   reach-trial n s (refuses w why) rest e h = tt
 
-  pub was-tried : (rounds : ℕ) (world : W) → WasTried (search run rounds world .answer) (search run rounds world .trials)
+  pub was-tried : (rounds : ℕ) (world : W) → WasTried (search run rounds world .answer)
+      (search run rounds world .trials)
   unfolding search tried noted ended begun
   was-tried rounds world = go (run world rMin)
     where
       on : (w : W) (s : Brent) → ReachesOn rounds s (searchOn run rounds w s)
       on = by-rounds run ReachesOn (λ w s. tt) reach-stop reach-trial rounds
 
-      go : (x : Sampled W R) → WasTried (tried rMin x (λ after mean. searchOn run rounds after (begun mean)) .answer) (tried rMin x (λ after mean. searchOn run rounds after (begun mean)) .trials)
-      go (gives w mean) = reach-first (searchOn run rounds w (begun mean) .answer) rMin mean (searchOn run rounds w (begun mean) .trials) (on w (begun mean))
+      go : (x : Sampled W R) → WasTried (tried rMin x (λ after mean. searchOn run rounds after (begun mean)) .answer)
+          (tried rMin x (λ after mean. searchOn run rounds after (begun mean)) .trials)
+      go (gives w mean) =
+          reach-first (searchOn run rounds w (begun mean) .answer) rMin mean
+          (searchOn run rounds w (begun mean) .trials) (on w (begun mean))
       go (refuses w why) = tt
 
   -- ---- within the range
@@ -159,11 +179,14 @@ module _ {W R : Type 0} (run : W → Float → Sampled W R) where
   unfolding ended settled
   within-stop n w s e = go (within (s .x)) refl
     where
-      go : (b : Bool) → within (s .x) ≡ b → FoundWithin {R = R} (cond b (found (s .x) (s .fx) (s .done)) (notFound (s .done)))
+      go : (b : Bool) → within (s .x) ≡ b → FoundWithin {R = R}
+          (cond b (found (s .x) (s .fx) (s .done)) (notFound (s .done)))
       go true e = rw e tt
       go false e = tt
 
-  within-trial : (n : ℕ) (s : Brent) (x : Sampled W R) (rest : W → Float → Searched W R) → converged s ≡ false → ((w : W) (mean : Float) → WithinOn n (stepOf s mean) (rest w mean)) → WithinOn (suc n) s (tried (trial s .u) x rest)
+  within-trial : (n : ℕ) (s : Brent) (x : Sampled W R) (rest : W → Float → Searched W R) → converged s ≡ false
+      → ((w : W) (mean : Float) → WithinOn n (stepOf s mean) (rest w mean))
+      → WithinOn (suc n) s (tried (trial s .u) x rest)
   unfolding tried noted ended
   within-trial n s (gives w mean) rest e h = h w mean
   within-trial n s (refuses w why) rest e h = tt
@@ -207,18 +230,26 @@ module _ {W R : Type 0} (run : W → Float → Sampled W R) where
   unfolding ended
   count-spent w s = omega arith
 
-  count-trial : (n : ℕ) (s : Brent) (x : Sampled W R) (rest : W → Float → Searched W R) → converged s ≡ false → ((w : W) (mean : Float) → CountsOn n (stepOf s mean) (rest w mean)) → CountsOn (suc n) s (tried (trial s .u) x rest)
+  count-trial : (n : ℕ) (s : Brent) (x : Sampled W R) (rest : W → Float → Searched W R) → converged s ≡ false
+      → ((w : W) (mean : Float) → CountsOn n (stepOf s mean) (rest w mean))
+      → CountsOn (suc n) s (tried (trial s .u) x rest)
   unfolding tried noted ended
-  count-trial n s (gives w mean) rest e h = count-more (s .done) (length (rest w mean .trials)) (rest w mean .answer) (subst (λ (z : ℕ). Counts z (length (rest w mean .trials)) (rest w mean .answer)) (step-done s mean) (h w mean))
+  count-trial n s (gives w mean) rest e h =
+      count-more (s .done) (length (rest w mean .trials)) (rest w mean .answer)
+      (subst (λ (z : ℕ). Counts z (length (rest w mean .trials)) (rest w mean .answer)) (step-done s mean) (h w mean))
   count-trial n s (refuses w why) rest e h = tt
 
-  pub one-more : (rounds : ℕ) (world : W) → OneMore (search run rounds world .answer) (length (search run rounds world .trials))
+  pub one-more : (rounds : ℕ) (world : W) → OneMore (search run rounds world .answer)
+      (length (search run rounds world .trials))
   unfolding search tried noted ended begun
   one-more rounds world = go (run world rMin)
     where
       on : (w : W) (s : Brent) → CountsOn rounds s (searchOn run rounds w s)
       on = by-rounds run CountsOn count-spent count-stop count-trial rounds
 
-      go : (x : Sampled W R) → OneMore (tried rMin x (λ after mean. searchOn run rounds after (begun mean)) .answer) (length (tried rMin x (λ after mean. searchOn run rounds after (begun mean)) .trials))
-      go (gives w mean) = count-first (length (searchOn run rounds w (begun mean) .trials)) (searchOn run rounds w (begun mean) .answer) (on w (begun mean))
+      go : (x : Sampled W R) → OneMore (tried rMin x (λ after mean. searchOn run rounds after (begun mean)) .answer)
+          (length (tried rMin x (λ after mean. searchOn run rounds after (begun mean)) .trials))
+      go (gives w mean) =
+          count-first (length (searchOn run rounds w (begun mean) .trials))
+          (searchOn run rounds w (begun mean) .answer) (on w (begun mean))
       go (refuses w why) = tt

@@ -56,18 +56,28 @@ to-nil x y h k = omega arith
 
 -- x / p is not below y / q, nor y / q below z / r
 module _ (x p y q z r : ℕ) (P : 0 < p) (Q : 0 < q) (C : 0 < r) where
-  chain : (s t v : Bool) → below s (x * q) t (y * p) ≡ false → below t (y * r) v (z * q) ≡ false → below s (x * r) v (z * p) ≡ false
-  chain false false false e f = le-ltb (x * r) (z * p) (through z y x r q p Q (ltb-false (y * r) (z * q) f) (ltb-false (x * q) (y * p) e))
+  chain : (s t v : Bool) → below s (x * q) t (y * p) ≡ false → below t (y * r) v (z * q) ≡ false
+      → below s (x * r) v (z * p) ≡ false
+  chain false false false e f =
+      le-ltb (x * r) (z * p) (through z y x r q p Q (ltb-false (y * r) (z * q) f) (ltb-false (x * q) (y * p) e))
   chain false t true e f = refl
-  chain false true false e f = le-ltb (x * r) (z * p) (under (z * p) (x * r) 0 (nil z q p Q (second (y * r) (z * q) (ltb-false 0 (y * r + z * q) f))))
+  chain false true false e f =
+      le-ltb (x * r) (z * p) (under (z * p) (x * r) 0
+      (nil z q p Q (second (y * r) (z * q) (ltb-false 0 (y * r + z * q) f))))
   chain true false false e f =
       let k : x * q + y * p ≤ 0 = ltb-false 0 (x * q + y * p) e in
-      le-ltb 0 (x * r + z * p) (both (x * r) (z * p) (nil x q r Q (first (x * q) (y * p) k)) (nil z q p Q (to-nil (z * q) (y * r) (ltb-false (y * r) (z * q) f) (nil y p r P (second (x * q) (y * p) k)))))
-  chain true false true e f = le-ltb (z * p) (x * r) (under (x * r) (z * p) 0 (nil x q r Q (first (x * q) (y * p) (ltb-false 0 (x * q + y * p) e))))
+      le-ltb 0 (x * r + z * p) (both (x * r) (z * p) (nil x q r Q (first (x * q) (y * p) k))
+      (nil z q p Q (to-nil (z * q) (y * r) (ltb-false (y * r) (z * q) f) (nil y p r P (second (x * q) (y * p) k)))))
+  chain true false true e f =
+      le-ltb (z * p) (x * r) (under (x * r) (z * p) 0
+      (nil x q r Q (first (x * q) (y * p) (ltb-false 0 (x * q + y * p) e))))
   chain true true false e f =
       let k : y * r + z * q ≤ 0 = ltb-false 0 (y * r + z * q) f in
-      le-ltb 0 (x * r + z * p) (both (x * r) (z * p) (nil x q r Q (to-nil (x * q) (y * p) (ltb-false (y * p) (x * q) e) (nil y r p C (first (y * r) (z * q) k)))) (nil z q p Q (second (y * r) (z * q) k)))
-  chain true true true e f = le-ltb (z * p) (x * r) (through x y z p q r Q (ltb-false (y * p) (x * q) e) (ltb-false (z * q) (y * r) f))
+      le-ltb 0 (x * r + z * p) (both (x * r) (z * p)
+      (nil x q r Q (to-nil (x * q) (y * p) (ltb-false (y * p) (x * q) e) (nil y r p C (first (y * r) (z * q) k))))
+      (nil z q p Q (second (y * r) (z * q) k)))
+  chain true true true e f =
+      le-ltb (z * p) (x * r) (through x y z p q r Q (ltb-false (y * p) (x * q) e) (ltb-false (z * q) (y * r) f))
 
 pub not-below-trans : (x y z : Float) → isNan y ≡ false → lt x y ≡ false → lt y z ≡ false → lt x z ≡ false
 unfolding lt isNan
@@ -95,7 +105,8 @@ not-below-trans (fin s l c) (fin t m d) (inf true) n e f = refl
 not-below-trans (fin s l c) (fin t m d) (inf false) n e f = absurd (true≢false f)
 not-below-trans (fin s l c) (inf true) (fin v k g) n e f = absurd (true≢false f)
 not-below-trans (fin s l c) (inf false) (fin v k g) n e f = absurd (true≢false e)
-not-below-trans (fin s l c) (fin t m d) (fin v k g) n e f = chain (l * up c) (down c) (m * up d) (down d) (k * up g) (down g) (down-pos c) (down-pos d) (down-pos g) s t v e f
+not-below-trans (fin s l c) (fin t m d) (fin v k g) n e f =
+    chain (l * up c) (down c) (m * up d) (down d) (k * up g) (down g) (down-pos c) (down-pos d) (down-pos g) s t v e f
 
 pub self : (x : Float) → lt x x ≡ false
 self x = go (lt x x) refl

@@ -1,4 +1,10 @@
--- The whole search, over anything that gives a retention its mean or refuses it. Definitions only.
+-- THE WHOLE SEARCH, over anything that gives a retention its mean or refuses it (docs/RULES.md, O5). Definitions only.
+--   Sampled W R, Tried, Answer R, Searched W R   what a trial gives, a trial in the list, the answer, the search
+--   tried u x rest            a trial, and the rest after it
+--   settled s                 the answer of a state that has converged
+--   searchOn run n world s    from a state with n rounds left
+--   search run rounds world   the search
+--   Each, Some, NotBelow, ..  for the laws
 use mathlib.Core.Path.{_≡_}
 use mathlib.Core.Logic.{_⊎_}
 use Prim.Native.Nat.{ℕ, zero, suc, _+_, _<_}
@@ -18,7 +24,8 @@ pub record Tried : Type 0 where
   pub retention : Float
   pub mean : Float
 
--- found: the retention, its mean, the rounds done. notFound: refusal 10, with the rounds done. refused: what the first refused trial says.
+-- found: the retention, its mean, the rounds done. notFound: refusal 10, with the rounds done. refused: what the first
+-- refused trial says.
 pub data Answer (R : Type 0) : Type 0 where
   found : Float → Float → ℕ → Answer R
   notFound : ℕ → Answer R
@@ -33,7 +40,8 @@ unfoldable pub ended : {W R : Type 0} → W → Answer R → Searched W R
 ended world answer = record { trials = []; left = world; answer = answer }
 
 unfoldable pub noted : {W R : Type 0} → Float → Float → Searched W R → Searched W R
-noted u mean rest = record { trials = record { retention = u; mean = mean } ∷ rest .trials; left = rest .left; answer = rest .answer }
+noted u mean rest =
+    record { trials = record { retention = u; mean = mean } ∷ rest .trials; left = rest .left; answer = rest .answer }
 
 -- a trial at u, and the rest of the search after it
 unfoldable pub tried : {W R : Type 0} → Float → Sampled W R → (W → Float → Searched W R) → Searched W R

@@ -1,4 +1,11 @@
--- Brent's method as simulation.rs has it, one step in its parts, in f32, operation by operation and in its order. Definitions only.
+-- BRENT'S METHOD as simulation.rs has it, one step in its parts, in f32, operation by operation and in its order
+-- (docs/RULES.md, O4). Definitions only.
+--   tol1, tol2, middle, converged   a state's measures
+--   golden, parabola, useful, fitted, moved   the ways of a step
+--   trial s                         the next retention to try
+--   begun mean                      the state after the first trial
+--   afterWorse, afterBetter, stepOf s mean   the state after a trial
+--   within x                        whether a retention may be given out
 use Prim.Native.Nat.{ℕ, _+_}
 use mathlib.Core.Bool.{Bool, cond, _&&_, _||_}
 use lib.Ieee.{Float, binary32, ofBits, neg, lt, le, eq}

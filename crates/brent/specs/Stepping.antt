@@ -1,4 +1,7 @@
--- The search one trial at a time: the next retention to try, its mean taken in, the answer. Definitions only.
+-- THE SEARCH ONE TRIAL AT A TIME. Definitions only.
+--   started rounds, nextRetention t, takeMean t mean, answer t   the stepper
+--   driven run n world t    a host that asks, tries and hands the mean in, at most n times
+--   fed t means             a stepper that was handed these means
 use Prim.Native.Nat.{ℕ, zero, suc}
 use mathlib.Core.Bool.{Bool, true, false, not, cond, _&&_}
 use mathlib.Core.List.{List, [], _∷_}
@@ -21,17 +24,27 @@ unfoldable pub goesOn : ℕ → Brent → Bool
 goesOn rounds s = ltb (s .done) rounds && not (converged s)
 
 unfoldable pub nextRetention : Stepper → Next
-nextRetention t = cond (t .begun) (cond (goesOn (t .rounds) (t .state)) (next.Retention (trial (t .state) .u)) next.Nothing) (next.Retention rMin)
+nextRetention t =
+    cond (t .begun) (cond (goesOn (t .rounds) (t .state)) (next.Retention (trial (t .state) .u)) next.Nothing)
+    (next.Retention rMin)
 
 -- a mean that nobody asked for changes nothing
 unfoldable pub takenIn : ℕ → Brent → Float → Brent
 takenIn rounds s mean = cond (goesOn rounds s) (stepOf s mean) s
 
 unfoldable pub takeMean : Stepper → Float → Stepper
-takeMean t mean = record { begun = true; rounds = t .rounds; state = cond (t .begun) (takenIn (t .rounds) (t .state) mean) (begun mean) }
+takeMean t mean =
+    record {
+      begun = true;
+      rounds = t .rounds;
+      state = cond (t .begun) (takenIn (t .rounds) (t .state) mean)
+          (begun mean);
+    }
 
 unfoldable pub judged : ℕ → Brent → Verdict
-judged rounds s = cond (ltb (s .done) rounds) (cond (converged s) (cond (within (s .x)) (verdict.Found (s .x)) verdict.NotFound) verdict.Open) verdict.NotFound
+judged rounds s =
+    cond (ltb (s .done) rounds) (cond (converged s)
+    (cond (within (s .x)) (verdict.Found (s .x)) verdict.NotFound) verdict.Open) verdict.NotFound
 
 unfoldable pub answer : Stepper → Verdict
 answer t = cond (t .begun) (judged (t .rounds) (t .state)) verdict.Open
@@ -55,7 +68,8 @@ asked next.Nothing go stop = stop
 unfoldable pub driven : {W R : Type 0} → (W → Float → Search.Sampled W R) → ℕ → W → Stepper → Search.Searched W R
 driven run zero world t = closing world t
 driven run (suc n) world t =
-    asked (nextRetention t) (λ u. Search.tried u (run world u) (λ after mean. driven run n after (takeMean t mean))) (closing world t)
+    asked (nextRetention t) (λ u. Search.tried u (run world u) (λ after mean. driven run n after (takeMean t mean)))
+    (closing world t)
 
 -- a stepper that was handed these means, asked for or not
 unfoldable pub fed : Stepper → List Float → Stepper

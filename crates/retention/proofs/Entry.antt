@@ -38,7 +38,8 @@ use Rattle.brent.proofs.Range.{within-finite}
 use Rattle.retention.specs.declared.SearchAnswer.{SearchAnswer}
 use Rattle.retention.specs.declared.SearchAnswer.the-variants as said
 use Rattle.retention.specs.SampleSize.{sampleSize}
-use Rattle.retention.specs.Trials.{firstSeed, runInputs, target, refusalIn, sampledAs, runOf, andThen, runsFrom, meanOf}
+use Rattle.retention.specs.Trials.{firstSeed, runInputs, target, refusalIn, sampledAs, runOf, andThen, runsFrom}
+use Rattle.retention.specs.Trials.{meanOf}
 use Rattle.retention.specs.Trials.{sample}
 use Rattle.retention.specs.Retention.{mostRounds, roundsOk, checkedSearch, optimalRetention, IsSearched}
 

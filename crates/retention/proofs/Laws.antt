@@ -24,9 +24,11 @@ use Rattle.brent.proofs.Range as Range
 use Rattle.brent.proofs.Asked.{refused-by}
 use Rattle.retention.specs.declared.SearchAnswer.{SearchAnswer}
 use Rattle.retention.specs.Trials.{sample}
-use Rattle.retention.specs.Retention.{checkedSearch, optimalRetention, answerOf, numberOf, IsSearched, SearchContract}
+use Rattle.retention.specs.Retention.{checkedSearch, optimalRetention, answerOf, numberOf, IsSearched}
+use Rattle.retention.specs.Retention.{SearchContract}
 use Rattle.retention.specs.Laws.{SearchLaws}
 use Rattle.retention.proofs.Entry.{SevenOrEight, trials-lawful}
+use Rattle.retention.proofs.Apart.{run-apart}
 
 all-alike : (l : Lent Float) → SameLengths l l
 all-alike l = record {
@@ -72,7 +74,8 @@ module _ (i : Inputs) (rounds : ℕ) (l : Lent Float) where
   run-refusal : checkedSearch rounds i l ≡ check.Passed → RefusedBy SevenOrEight (result .answer)
   run-refusal e =
       rw (passed-is e)
-      (refused-by (sample i) (SameLengths l) SevenOrEight (λ w u h t. trials-lawful rounds i l e w u h t) rounds l (all-alike l))
+      (refused-by (sample i) (SameLengths l) SevenOrEight (λ w u h t. trials-lawful rounds i l e w u h t) rounds l
+      (all-alike l))
 
   untouched : 0 < numberOf (answerOf (result .answer)) → numberOf (answerOf (result .answer)) ≤ 6 → result .left ≡ l
   unfolding ended
@@ -93,7 +96,8 @@ module _ (i : Inputs) (rounds : ℕ) (l : Lent Float) where
         (λ r. tt) (Range.trials-within (sample i) rounds l);
     found-within = by-entry (λ x. FoundWithin (x .answer))
         (λ r. tt) (Method.found-within (sample i) rounds l);
-    cheapest = by-entry (λ x. (Each (λ t. isNan (t .mean) ≡ false) (x .trials) → Each (λ t. NotBelow (x .answer) (t .mean)) (x .trials)))
+    cheapest = by-entry (λ x. (Each (λ t. isNan (t .mean) ≡ false) (x .trials) → Each
+        (λ t. NotBelow (x .answer) (t .mean)) (x .trials)))
         (λ r h. tt) (Method.cheapest (sample i) rounds l);
     was-tried = by-entry (λ x. WasTried (x .answer) (x .trials))
         (λ r. tt) (Method.was-tried (sample i) rounds l);
@@ -103,11 +107,13 @@ module _ (i : Inputs) (rounds : ℕ) (l : Lent Float) where
         (λ r. tt) (Range.only-spent (sample i) rounds l);
     never-ten = λ h. by-entry (λ x. NeverTen (x .answer))
         (λ r. tt) (Range.never-ten (sample i) rounds l h);
+    apart = λ e l′ h u w n. run-apart rounds i l l′ u n e h (all-alike l) w;
     stepper = λ e fuel h. driven-is (sample i) rounds fuel l h ∙ sym (passed-is e);
   }
 
   -- THE CONTRACT OF A CALL
-  pub search-contract : {r : SearchAnswer} {after : Lent Float} → IsSearched result r after → SearchContract i rounds l r after
+  pub search-contract : {r : SearchAnswer} {after : Lent Float} → IsSearched result r after
+      → SearchContract i rounds l r after
   search-contract c = record {
     result = c;
     untouched = λ p q. c .lists ∙ untouched (rw (c .answer) at p) (rw (c .answer) at q);

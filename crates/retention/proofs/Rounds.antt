@@ -1,4 +1,5 @@
--- The loop over trials drives the method's stepper (brent/proofs/Driven): after k trials what is left, from here, is the
+-- The loop over trials drives the method's stepper (brent/proofs/Driven): after k trials what is left, from here, is
+-- the
 -- whole search.
 --   trying-start, trying-on            as the loop begins, and after a trial
 --   trying-ends, trying-stops, trying-spent   where it returns
@@ -48,7 +49,8 @@ unfolding closing ended
 closed l t e = record { answer = e; lists = refl }
 
 -- a trial that was refused ends the search
-stopped : (u : Float) (l : Lent Float) (w : Refusal) (rest : Lent Float → Float → Searched (Lent Float) Refusal) {r : Trial}
+stopped : (u : Float) (l : Lent Float) (w : Refusal)
+    (rest : Lent Float → Float → Searched (Lent Float) Refusal) {r : Trial}
     {after : Lent Float} → TrialContract (refuses l w) r after → {x : SearchAnswer} → x ≡ refusedBy r
     → IsSearched (tried u (refuses l w) rest) x after
 unfolding tried ended
@@ -89,7 +91,8 @@ module _ (i : Inputs) (rounds : ℕ) (l₀ : Lent Float) where
       let none : rounds + 1 - k ≡ 0 = omega arith in
       is-searched (rw none at (g .left)) (closed l t e)
 
-  module _ {l : Lent Float} {t : Stepper} {k : ℕ} (g : Trying l t k) (h : k ≤ rounds) {x : Next} (a : x ≡ nextRetention t) where
+  module _ {l : Lent Float} {t : Stepper} {k : ℕ} (g : Trying l t k) (h : k ≤ rounds) {x : Next}
+      (a : x ≡ nextRetention t) where
     one-left : rounds + 1 - k ≡ suc (rounds + 1 - (k + 1))
     one-left = omega arith
 

@@ -1,4 +1,5 @@
--- WHAT IS CLAIMED OF EVERY SEARCH beside its contract: the record `SearchLaws`, whatever the runs give. Definitions only.
+-- WHAT IS CLAIMED OF EVERY SEARCH beside its contract: the record `SearchLaws`, whatever the runs give. Definitions
+-- only.
 use Prim.Native.Nat.{ℕ, _≤_, _<_}
 use mathlib.Core.Bool.{false}
 use mathlib.Core.Logic.{_⊎_}
@@ -12,16 +13,19 @@ use Rattle.simulation.specs.State.{Lent}
 use Rattle.simulation.specs.Entry.{Inputs}
 use Rattle.simulation.specs.Refusals as Refusals
 use Rattle.brent.specs.Step.{within}
-use Rattle.brent.specs.Search.{refused, ended, Each, NotBelow, WasTried, FoundWithin, OneMore, OnlySpent, NeverTen, RefusedBy}
+use Rattle.brent.specs.Search.{refused, ended, Each, NotBelow, WasTried, FoundWithin, OneMore, OnlySpent, NeverTen}
+use Rattle.brent.specs.Search.{RefusedBy}
 use Rattle.brent.specs.Stepping.{started, driven}
-use Rattle.retention.specs.Trials.{sample}
+use Rattle.simulation.specs.Frame.{SameLengths}
+use Rattle.retention.specs.Trials.{runOf, trialOf, sample}
 use Rattle.retention.specs.Retention.{checkedSearch, optimalRetention, answerOf, numberOf}
 
 pub record SearchLaws (i : Inputs) (rounds : ℕ) (l : Lent Float) : Type 0 where
   -- an entry refusal, exactly by the table, makes no trial and writes nothing
   pub entry-refusal : (r : Refusal) → checkedSearch rounds i l ≡ check.Failed r
       → optimalRetention i rounds l ≡ ended l (refused r)
-  -- no run of an accepted search is refused at its own entry: a search is refused by 7 or 8 of a run, by 10, or not at all
+  -- no run of an accepted search is refused at its own entry: a search is refused by 7 or 8 of a run, by 10, or not at
+  -- all
   pub run-refusal : checkedSearch rounds i l ≡ check.Passed
       → RefusedBy (λ r. (Refusals.numberOf r ≡ 7) ⊎ (Refusals.numberOf r ≡ 8)) (optimalRetention i rounds l .answer)
   -- so a search that answers 1 to 6 left every list as it was
@@ -41,6 +45,10 @@ pub record SearchLaws (i : Inputs) (rounds : ℕ) (l : Lent Float) : Type 0 wher
   pub only-spent : OnlySpent (optimalRetention i rounds l .answer) rounds
   -- with 57 rounds or more, and so with the Rust's 64, there is no refusal 10
   pub never-ten : 57 ≤ rounds → NeverTen (optimalRetention i rounds l .answer)
-  -- the stepper, driven by a host with trials of its own, gives the whole search
+  -- a run of an accepted search says the same in any lists of the same lengths, whatever they held: so a host may make
+  -- the runs of a trial in lists of their own, in any order
+  pub apart : checkedSearch rounds i l ≡ check.Passed → (l′ : Lent Float) → SameLengths l l′ → (u : Float) → T (within u)
+      → (n : ℕ) → trialOf (runOf i u n l′) ≡ trialOf (runOf i u n l)
+  -- and the stepper, driven with the trials' means, gives the whole search
   pub stepper : checkedSearch rounds i l ≡ check.Passed → (fuel : ℕ) → rounds < fuel
       → driven (sample i) fuel l (started rounds) ≡ optimalRetention i rounds l

@@ -67,8 +67,10 @@ pub record IsSearched (x : Searched (Lent Float) Refusal) (r : SearchAnswer) (l 
   pub answer : r ≡ answerOf (x .answer)
   pub lists : l ≡ x .left
 
--- WHAT A CALL OF THE SEARCH PROMISES: the answer and the lists are those of the definition; and a call that answers 1 to
+-- WHAT A CALL OF THE SEARCH PROMISES: the answer and the lists are those of the definition; and a call that answers 1
+-- to
 -- 6 left every list as it was
-pub record SearchContract (i : Inputs) (rounds : ℕ) (l : Lent Float) (r : SearchAnswer) (after : Lent Float) : Type 0 where
+pub record SearchContract (i : Inputs) (rounds : ℕ) (l : Lent Float) (r : SearchAnswer)
+    (after : Lent Float) : Type 0 where
   pub result : IsSearched (optimalRetention i rounds l) r after
   pub untouched : 0 < numberOf r → numberOf r ≤ 6 → after ≡ l

@@ -7,6 +7,7 @@ use crate::lent::{Call, Lengths, Lists, MARK};
 use crate::reference;
 use crate::rules::faults;
 use crate::runs::{Port, port, varied};
+use crate::searches;
 use crate::stored_runs;
 use oracle::drawn::{self, OWN, PORTS, Rule};
 use oracle::native;
@@ -381,5 +382,8 @@ pub fn main(n: u64) {
     let by_edges = [orders(), untested(), large()].into_iter().flatten().collect();
     seen += each_seen(by_edges, |wrong| edges::pass(wrong, &calls).is_err());
     let again = each_seen(in_stored(), |wrong| seen_in_stored(wrong, &stored));
-    println!("planted: {seen} wrong ports, rules and functions, each seen in at most {n} calls; {again} of them in the stored runs too");
+    let searches = searches::planted(n);
+    println!(
+        "planted: {seen} wrong ports, rules and functions, each seen in at most {n} calls, {again} of them in the stored runs too; {searches} wrong searches"
+    );
 }

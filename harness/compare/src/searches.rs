@@ -81,22 +81,24 @@ pub fn said(call: &Call, rounds: u32) -> Said {
     reference(call, rounds).0.said
 }
 
-/// The port's whole search; the answer tells no turns, cards and draws of its last run, so those are the Rust's.
-fn whole(call: &Call, rounds: u32, theirs: &Searched, last: Option<&Call>) -> (Said, Option<Result>) {
+/// A port's whole search: the lists are written, and the answer's numbers and floats returned.
+type Port<'a> = &'a dyn Fn(&Call, u32, &mut Lists) -> ([u32; 3], [f32; 2]);
+
+fn port_itself(call: &Call, rounds: u32, lists: &mut Lists) -> ([u32; 3], [f32; 2]) {
+    lists.search(call, rounds)
+}
+
+/// What a port's whole search says, and the lists that it left; the answer tells no turns, cards and draws of its last run, so those
+/// are the Rust's.
+fn whole(port: Port, call: &Call, rounds: u32, theirs: &Searched, last: Option<&Call>) -> (Said, Option<Result>) {
     let mut lists = Lists::of(call);
-    let ([number, second, done], [retention, mean]) = lists.search(call, rounds);
+    let ([number, second, done], [retention, mean]) = port(call, rounds, &mut lists);
     let said = if number == 0 { Said::found(retention, mean, done) } else { Said::refused(number, second) };
     let left = match (last, &theirs.last) {
-        (Some(last), Some(r)) => {
-            Some(lists.result(last, [r.number as u64, r.second as u64, r.turns, r.cards as u64, r.draws], r.queue.len()))
-        }
-        _ => {
-            let r = lists.result(call, [number as u64, second as u64, 0, 0, call.case.seed], 0);
-            assert!(r.spared, "an entry refusal wrote");
-            None
-        }
+        (Some(last), Some(r)) => lists.result(last, [r.number as u64, r.second as u64, r.turns, r.cards as u64, r.draws], r.queue.len()),
+        _ => lists.result(call, [number as u64, second as u64, 0, 0, call.case.seed], 0),
     };
-    (said, left)
+    (said, Some(left))
 }
 
 /// The targets of a trial's runs, in the order of their seeds, on so many threads; or the refusal of the first that was refused.
@@ -152,34 +154,55 @@ fn stepped(call: &Call, rounds: u32, threads: usize) -> (Said, Trials) {
     (said, trials)
 }
 
+/// What the program `search_points` must print of a search, by the Rust.
+pub fn told(call: &Call, rounds: u32) -> String {
+    let (theirs, _) = reference(call, rounds);
+    let (said, last) = (theirs.said, theirs.last);
+    match (said.number, last) {
+        (0, Some(r)) => {
+            let (retention, mean, cost, memorized) = (said.retention, said.mean, r.costs[0], r.memorized[0]);
+            format!("found {retention:08x} {mean:08x} {} {cost:08x} {memorized:08x}\n", said.rounds)
+        }
+        (number, _) => format!("refused {number} {}\n", said.second),
+    }
+}
+
 fn cores() -> usize {
     std::thread::available_parallelism().map_or(1, usize::from)
 }
 
-/// Whether the port and the Rust are alike; the Rust's answer.
-fn compare(call: &Call, rounds: u32) -> Searched {
+/// The Rust's search, where a port's whole search is the same; else what differs.
+fn compare(port: Port, call: &Call, rounds: u32) -> std::result::Result<Searched, String> {
     let (theirs, last) = reference(call, rounds);
-    let (said, left) = whole(call, rounds, &theirs, last.as_ref());
-    let mut ours = Searched { said, trials: theirs.trials.clone(), last: left };
-    if theirs.last.is_some() {
-        let (said, trials) = stepped(call, rounds, cores());
-        ours.trials = trials;
-        if said != ours.said {
-            println!("DIFFERENCE: by the stepper {said:?}, whole {:?}", ours.said);
-            std::process::exit(1)
-        }
+    let (said, left) = whole(port, call, rounds, &theirs, last.as_ref());
+    let expected = theirs.last.clone().unwrap_or_else(|| Result::refused(call.case.seed, theirs.said.number, theirs.said.second));
+    if said != theirs.said {
+        return Err(format!("port {said:?}, reference {:?}", theirs.said));
     }
-    if ours != theirs {
-        println!(
-            "DIFFERENCE in a search of {rounds} rounds: call {call:?}\nport {:?} {:?}\nreference {:?} {:?}",
-            ours.said, ours.trials, theirs.said, theirs.trials
-        );
-        if let (Some(a), Some(b)) = (&ours.last, &theirs.last) {
-            println!("lists: {}", a.differing(b).join(", "));
-        }
+    match left {
+        Some(left) if left != expected => Err(format!("lists: {}", left.differing(&expected).join(", "))),
+        _ => Ok(theirs),
+    }
+}
+
+/// The same by the stepper, with the trials on all cores.
+fn compare_stepped(call: &Call, rounds: u32, theirs: &Searched) -> std::result::Result<(), String> {
+    if theirs.last.is_none() {
+        return Ok(());
+    }
+    let (said, trials) = stepped(call, rounds, cores());
+    if said == theirs.said && trials == theirs.trials {
+        return Ok(());
+    }
+    Err(format!("by the stepper {said:?} {trials:?}, reference {:?} {:?}", theirs.said, theirs.trials))
+}
+
+fn both(call: &Call, rounds: u32) -> Searched {
+    let alike = compare(&port_itself, call, rounds).and_then(|s| compare_stepped(call, rounds, &s).map(|()| s));
+    alike.unwrap_or_else(|difference| {
+        println!("DIFFERENCE in a search of {rounds} rounds: {difference}\ncall {call:?}");
         std::process::exit(1)
-    }
-    theirs
+    })
 }
 
 /// Small decks over short spans, mostly: a trial of a short span has 180 runs.
@@ -223,12 +246,12 @@ pub fn main(n: u64, seed: u64) {
     let mut tally = Tally::default();
     for _ in 0..n {
         let call = small(&mut words);
-        tally.count(&compare(&call, rounds(&mut words)));
+        tally.count(&both(&call, rounds(&mut words)));
     }
     if n >= 2000 {
         let few = usual(400, 365);
         for call in [Call::exact("400 cards, a year", few), Call::exact("the usual rate", usual(4000, 365))] {
-            tally.count(&compare(&call, 64));
+            tally.count(&both(&call, 64));
         }
     }
     let ends = tally.ends.iter().map(|(k, n)| if *k == 0 { format!("{n} found") } else { format!("{n} refused {k}") });
@@ -288,4 +311,52 @@ pub fn bench(rounds: u64) {
         b / a
     );
     println!("  on two threads the published Rust's runs {c:.2} s, the port's stepper {d:.2} s ({:.2})", d / c);
+}
+
+type Wrong = (&'static str, fn(&Call, u32, &mut Lists) -> ([u32; 3], [f32; 2]));
+
+/// Right, but for what is changed afterwards.
+fn after(call: &Call, rounds: u32, lists: &mut Lists, change: impl Fn(&mut Lists, &mut [u32; 3], &mut [f32; 2])) -> ([u32; 3], [f32; 2]) {
+    let (mut numbers, mut floats) = lists.search(call, rounds);
+    change(lists, &mut numbers, &mut floats);
+    (numbers, floats)
+}
+
+fn flip(x: &mut f32) {
+    *x = f32::from_bits(x.to_bits() ^ 1);
+}
+
+/// Wrong searches, each wrong in one thing.
+const WRONG: [Wrong; 10] = [
+    ("the number", |c, n, l| after(c, n, l, |_, numbers, _| numbers[0] ^= 1)),
+    ("the second number", |c, n, l| after(c, n, l, |_, numbers, _| numbers[1] += 1)),
+    ("the rounds done", |c, n, l| after(c, n, l, |_, numbers, _| numbers[2] += 1)),
+    ("the retention", |c, n, l| after(c, n, l, |_, _, floats| flip(&mut floats[0]))),
+    ("the mean", |c, n, l| after(c, n, l, |_, _, floats| flip(&mut floats[1]))),
+    ("a cost that is left", |c, n, l| after(c, n, l, |lists, _, _| lists.costs.places_mut().iter_mut().take(1).for_each(flip))),
+    ("a card that is left", |c, n, l| {
+        after(c, n, l, |lists, _, _| lists.cards.places_mut().iter_mut().take(1).for_each(|x| flip(&mut x[4])))
+    }),
+    ("65 rounds taken", |c, n, l| l.search(c, n.min(64))),
+    ("a round more", |c, n, l| l.search(c, n.saturating_add(1))),
+    ("convergence tested before the rounds", |c, n, l| {
+        let (numbers, floats) = l.search(c, n);
+        if numbers[0] == 10 { l.search(c, 64) } else { (numbers, floats) }
+    }),
+];
+
+/// Each wrong search must be seen in at most n varied ones; how many there are.
+pub fn planted(n: u64) -> usize {
+    for (name, wrong) in WRONG {
+        let mut words = Words::new(0x706C);
+        let seen = (0..n).any(|_| {
+            let call = small(&mut words);
+            compare(&wrong, &call, rounds(&mut words)).is_err()
+        });
+        if !seen {
+            println!("planted: NOT SEEN in {n} searches: {name}");
+            std::process::exit(1)
+        }
+    }
+    WRONG.len()
 }

@@ -1,5 +1,5 @@
-//! Writes every stored answer of the reference: stdin and stdout of the program `replay`, and of `text_points`, and
-//! what `points`, `run_points` and `cheapest` print of it.
+//! Writes every stored answer of the reference: stdin and stdout of the programs `replay` and `text_points`, and what `points`,
+//! `run_points`, `search_points` and `cheapest` print of it.
 use crate::{stored_leaves, stored_points, stored_runs, stored_texts};
 use std::fmt::Write;
 
@@ -38,6 +38,7 @@ pub fn main(crates: &str) {
     let before = std::fs::read_to_string(&points).unwrap_or_else(|e| panic!("{points} cannot be read: {e}"));
     write(&points, &stored_points::points(&before));
     write(&format!("{crates}/run_points/stdout"), &stored_points::run_points());
+    write(&format!("{crates}/search_points/stdout"), &stored_points::search_points());
     let (texts, answers) = stored_texts::put();
     let path = format!("{crates}/text_points/stdin");
     std::fs::write(&path, texts).unwrap_or_else(|e| panic!("{path} cannot be written: {e}"));

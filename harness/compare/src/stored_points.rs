@@ -1,8 +1,9 @@
-//! The reference's part in what the programs `points` and `run_points` must print.
+//! The reference's part in what the programs `points`, `run_points` and `search_points` must print.
 use crate::cases::{USUAL, usual};
 use crate::floats::pattern;
 use crate::lent::Call;
 use crate::reference;
+use crate::searches;
 use oracle::ours::model::model_v7::probe as model;
 use oracle::ours::simulation::probe;
 
@@ -82,4 +83,18 @@ pub fn run_points() -> String {
         text += &forecast(deck, span, 20_000, &[]);
     }
     text
+}
+
+fn search(deck: u32, span: u32, learn_limit: u32, rounds: u32) -> String {
+    let mut c = usual(deck, span);
+    c.learn_limit = learn_limit;
+    c.places = 4096;
+    searches::told(&Call::exact("", c), rounds)
+}
+
+pub fn search_points() -> String {
+    let none = u32::MAX;
+    [(1, 40, none, 64), (2, 5, 1, 64), (4, 5, 0, 57), (8, 10, none, 1), (8, 10, none, 65)]
+        .map(|(deck, span, limit, rounds)| search(deck, span, limit, rounds))
+        .concat()
 }

@@ -174,6 +174,18 @@ fn form<'a>(case: &mut Case, seen: &mut Vec<&'a [u8]>, parts: &[Part<'a>], wrong
     }
 }
 
+/// Lines, each with those that follow it up to its closing bracket.
+fn joined(text: &[u8]) -> Vec<Vec<u8>> {
+    let mut all: Vec<Vec<u8>> = Vec::new();
+    for line in text.split(|&b| b == b'\n') {
+        match all.last_mut().filter(|last| last.contains(&b'(') && !last.contains(&b')')) {
+            Some(last) => last.extend([b"\n", line].concat()),
+            None => all.push(line.to_vec()),
+        }
+    }
+    all
+}
+
 /// The case that a text says, or the line of its refusal 11.
 pub fn read(text: &[u8], wrong: Wrong) -> Result<Case, u32> {
     let long = text.len() > 32_768;
@@ -181,9 +193,8 @@ pub fn read(text: &[u8], wrong: Wrong) -> Result<Case, u32> {
         return Err(0);
     }
     let (mut case, mut seen, mut n) = (default_case(wrong), Vec::new(), 0u32);
-    let lines: Vec<&[u8]> =
-        if wrong == Wrong::OverTwoLines && !text.contains(&b')') { vec![text] } else { text.split(|&b| b == b'\n').collect() };
-    for line in lines {
+    let lines = if wrong == Wrong::OverTwoLines { joined(text) } else { text.split(|&b| b == b'\n').map(<[u8]>::to_vec).collect() };
+    for line in &lines {
         let parts = parts(line, wrong);
         if parts.is_empty() && wrong == Wrong::BlankLinesNotCounted {
             continue;

@@ -80,6 +80,7 @@ pub fn telling() -> Vec<Vec<u8>> {
         b"(parameters all 3F000000)\n(deck 600)\n(span 800)".to_vec(),
         b"(parameters all 3F000000)\n(deck 5)\n(span 800)\n(cost all BF800000)".to_vec(),
         b"(parameters all 3F000000)\n(deck 5)\n(span 9)\n(cost all BF800000)".to_vec(),
+        b"(parameters all 0DA24260)\n(deck 3)\n(span 4)".to_vec(),
         b"(parameters all C2C80000)\n(deck 5)\n(span 9)".to_vec(),
         with("(deck 512)\n(span 2)"),
         with("(deck 513)\n(span 2)"),

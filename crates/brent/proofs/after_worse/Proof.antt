@@ -42,7 +42,19 @@ add-t19 c = search needs
 
 returns : tie.Need-returns
 unfolding afterWorse
-returns c = rw (c .before .choose8 .ensures, c .before .before .choose7 .ensures, c .before .before .before .choose6 .ensures, c .before .before .before .before .choose5 .ensures, c .before .before .before .before .before .choose4 .ensures, c .before .before .before .before .before .before .choose3 .ensures, c .before .before .before .before .before .before .before .choose2 .ensures, c .before .before .before .before .before .before .before .before .choose .ensures, c .before .before .before .before .before .before .before .before .before .before .before .either3 .ensures, c .before .before .before .before .before .before .before .before .before .before .before .before .either2 .ensures, c .before .before .before .before .before .before .before .before .before .before .before .before .before .before .before .before .either .ensures)
+returns c = rw (
+  c .before .choose8 .ensures,
+  c .before .before .choose7 .ensures,
+  c .before .before .before .choose6 .ensures,
+  c .before .before .before .before .choose5 .ensures,
+  c .before .before .before .before .before .choose4 .ensures,
+  c .before .before .before .before .before .before .choose3 .ensures,
+  c .before .before .before .before .before .before .before .choose2 .ensures,
+  c .before .before .before .before .before .before .before .before .choose .ensures,
+  c .before .before .before .before .before .before .before .before .before .before .before .either3 .ensures,
+  c .before .before .before .before .before .before .before .before .before .before .before .before .either2 .ensures,
+  c .before .before .before .before .before .before .before .before .before .before .before .before .before .before .before .before .either .ensures,
+)
 
 pub after-worse-spec : {M : Type 1} → statement M
 after-worse-spec =

@@ -18,7 +18,13 @@ mul-add-requires c κs = search needs
 
 returns : tie.Need-returns
 unfolding converged
-returns c = rw (c .before .before .before .abs .ensures, c .before .before .before .before .before .middle .ensures, c .mul-add .ensures, c .before .tol2 .ensures)
+returns c =
+    rw (
+      c .before .before .before .abs .ensures,
+      c .before .before .before .before .before .middle .ensures,
+      c .mul-add .ensures,
+      c .before .tol2 .ensures,
+    )
 
 pub converged-spec : {M : Type 1} → statement M
 converged-spec =

@@ -13,11 +13,25 @@ within-requires c κs = search needs
 
 returns : tie.Need-returns
 unfolding judged
-returns c = rw (lt-ltb _ _ (c .before .before .before .before .if1 .taken), ← c .before .before .before .converged .ensures, c .before .before .if2 .taken, ← c .before .within .ensures, c .if3 .taken)
+returns c =
+    rw (
+      lt-ltb _ _ (c .before .before .before .before .if1 .taken),
+      ← c .before .before .before .converged .ensures,
+      c .before .before .if2 .taken,
+      ← c .before .within .ensures,
+      c .if3 .taken,
+    )
 
 returns-2 : tie.Need-returns-2
 unfolding judged
-returns-2 c = rw (lt-ltb _ _ (c .before .before .before .before .if1 .taken), ← c .before .before .before .converged .ensures, c .before .before .if2 .taken, ← c .before .within .ensures, c .if3 .left)
+returns-2 c =
+    rw (
+      lt-ltb _ _ (c .before .before .before .before .if1 .taken),
+      ← c .before .before .before .converged .ensures,
+      c .before .before .if2 .taken,
+      ← c .before .within .ensures,
+      c .if3 .left,
+    )
 
 returns-3 : tie.Need-returns-3
 unfolding judged

@@ -21,11 +21,20 @@ parabolic-requires c κs = search needs
 
 returns : tie.Need-returns
 unfolding moved
-returns c = rw (← c .before .before .before .abs .ensures, ← c .before .before .tol1 .ensures, c .before .if1 .taken) (c .golden .ensures)
+returns c =
+    rw (← c .before .before .before .abs .ensures, ← c .before .before .tol1 .ensures, c .before .if1 .taken)
+    (c .golden .ensures)
 
 returns-2 : tie.Need-returns-2
 unfolding moved
-returns-2 c = rw (← c .before .before .before .before .abs .ensures, ← c .before .before .before .tol1 .ensures, c .before .before .if1 .left, c .parabolic .ensures, c .before .fit .ensures)
+returns-2 c =
+    rw (
+      ← c .before .before .before .before .abs .ensures,
+      ← c .before .before .before .tol1 .ensures,
+      c .before .before .if1 .left,
+      c .parabolic .ensures,
+      c .before .fit .ensures,
+    )
 
 pub moved-spec : {M : Type 1} → statement M
 moved-spec =

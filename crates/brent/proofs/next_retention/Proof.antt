@@ -12,7 +12,13 @@ next-trial-requires c κs = search needs
 
 returns : tie.Need-returns
 unfolding nextRetention
-returns c = rw (c .before .before .before .before .if1 .taken, ← c .before .before .goes-on .ensures, c .before .if2 .taken, c .next-trial .ensures)
+returns c =
+    rw (
+      c .before .before .before .before .if1 .taken,
+      ← c .before .before .goes-on .ensures,
+      c .before .if2 .taken,
+      c .next-trial .ensures,
+    )
 
 returns-2 : tie.Need-returns-2
 unfolding nextRetention

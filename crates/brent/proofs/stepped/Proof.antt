@@ -18,7 +18,13 @@ choose-requires-2 c κs = search needs
 
 returns : tie.Need-returns
 unfolding stepped
-returns c = rw (c .choose2 .ensures, c .before .choose .ensures, c .before .before .abs .ensures, c .before .before .before .tol1 .ensures)
+returns c =
+    rw (
+      c .choose2 .ensures,
+      c .before .choose .ensures,
+      c .before .before .abs .ensures,
+      c .before .before .before .tol1 .ensures,
+    )
 
 pub stepped-spec : {M : Type 1} → statement M
 stepped-spec =

@@ -21,7 +21,14 @@ returns c = rw (lt-ltb _ _ (c .before .before .if1 .taken), ← c .before .conve
 
 returns-2 : tie.Need-returns-2
 unfolding takenIn goesOn stepOf
-returns-2 c = rw (lt-ltb _ _ (c .before .before .before .before .if1 .taken), ← c .before .before .before .converged .ensures, c .before .before .if2 .left, c .after-trial .ensures, c .before .next-trial .ensures)
+returns-2 c =
+    rw (
+      lt-ltb _ _ (c .before .before .before .before .if1 .taken),
+      ← c .before .before .before .converged .ensures,
+      c .before .before .if2 .left,
+      c .after-trial .ensures,
+      c .before .next-trial .ensures,
+    )
 
 returns-3 : tie.Need-returns-3
 unfolding takenIn goesOn stepOf

@@ -18,7 +18,13 @@ both-requires-2 c κs = search needs
 
 returns : tie.Need-returns
 unfolding useful
-returns c = rw (c .both2 .ensures, c .before .both .ensures, c .before .before .before .before .before .abs .ensures, c .before .before .abs2 .ensures)
+returns c =
+    rw (
+      c .both2 .ensures,
+      c .before .both .ensures,
+      c .before .before .before .before .before .abs .ensures,
+      c .before .before .abs2 .ensures,
+    )
 
 pub useful-spec : {M : Type 1} → statement M
 useful-spec =

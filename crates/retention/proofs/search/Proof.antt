@@ -1,4 +1,5 @@
--- The invariant of its loop, `Trying`: after so many trials what is left is the whole search; `SameLengths`: the lists are
+-- The invariant of its loop, `Trying`: after so many trials what is left is the whole search; `SameLengths`: the lists
+-- are
 -- as long as they came. The measure is the trials that are left.
 use Prim.Native.Nat.{_+_, _-_}
 use native.Mathlib.Omega.{arith}
@@ -13,7 +14,8 @@ use borrow.Author.Needs.{needs}
 
 abbrev Inv-loop : tie.InvT-loop
 Inv-loop cards₀ counts₀ rows₀ days₀ costs₀ memorized₀ due₀ keys₀ intervals₀ parameters existing existing-counts config rounds stepper₀ made₀ cards counts rows days costs memorized due keys intervals stepper made = Trying (searchInputs config parameters existing existing-counts) rounds (lent cards₀ counts₀ rows₀ days₀ costs₀ memorized₀ due₀ keys₀ intervals₀) (lent cards counts rows days costs memorized due keys intervals) stepper made
-    × SameLengths (lent cards₀ counts₀ rows₀ days₀ costs₀ memorized₀ due₀ keys₀ intervals₀) (lent cards counts rows days costs memorized due keys intervals)
+    × SameLengths (lent cards₀ counts₀ rows₀ days₀ costs₀ memorized₀ due₀ keys₀ intervals₀)
+    (lent cards counts rows days costs memorized due keys intervals)
 
 abbrev μ-loop : tie.MeasureT-loop
 μ-loop cards₀ counts₀ rows₀ days₀ costs₀ memorized₀ due₀ keys₀ intervals₀ parameters existing existing-counts config rounds stepper₀ made₀ cards counts rows days costs memorized due keys intervals stepper made = rounds + 1 - made
@@ -110,7 +112,8 @@ returns c =
     let i = searchInputs (a .config) (a .parameters .now) (a .existing .now) (a .existing-counts .now) in
     let l = lent (a .cards .now) (a .counts .now) (a .rows .now) (a .days .now) (a .costs .now) (a .memorized .now)
     (a .due .now) (a .keys .now) (a .intervals .now) in
-    trying-ends i (a .rounds) l (at-loop .loop .inv .0) (at-loop-test .loop-test .taken) (at-next .next-retention .ensures)
+    trying-ends i (a .rounds) l (at-loop .loop .inv .0) (at-loop-test .loop-test .taken)
+    (at-next .next-retention .ensures)
     (at-match .match .keys2) (c .ended .ensures)
 
 sample-requires : tie.Need-sample-requires Inv-loop μ-loop
@@ -192,7 +195,8 @@ returns-2 c =
     let i = searchInputs (a .config) (a .parameters .now) (a .existing .now) (a .existing-counts .now) in
     let l = lent (a .cards .now) (a .counts .now) (a .rows .now) (a .days .now) (a .costs .now) (a .memorized .now)
     (a .due .now) (a .keys .now) (a .intervals .now) in
-    trying-stops i (a .rounds) l (at-loop .loop .inv .0) (at-loop-test .loop-test .taken) (at-next .next-retention .ensures)
+    trying-stops i (a .rounds) l (at-loop .loop .inv .0) (at-loop-test .loop-test .taken)
+    (at-next .next-retention .ensures)
     (at-asks .next .given .1) (at-sample .sample .ensures) (at-match .match2 .keys2) (c .refused .ensures)
 
 take-mean-requires : tie.Need-take-mean-requires Inv-loop μ-loop
@@ -222,7 +226,8 @@ loop-again c =
     let i = searchInputs (a .config) (a .parameters .now) (a .existing .now) (a .existing-counts .now) in
     let l = lent (a .cards .now) (a .counts .now) (a .rows .now) (a .days .now) (a .costs .now) (a .memorized .now)
     (a .due .now) (a .keys .now) (a .intervals .now) in (
-      trying-on i (a .rounds) l (at-loop .loop .inv .0) (at-loop-test .loop-test .taken) (at-next .next-retention .ensures)
+      trying-on i (a .rounds) l (at-loop .loop .inv .0) (at-loop-test .loop-test .taken)
+          (at-next .next-retention .ensures)
           (at-asks .next .given .1) (at-sample .sample .ensures) _ (at-trial .trial .given .1) (c .take-mean .ensures),
       record {
         cards = at-sample .sample .kept .0 ∙ at-loop .loop .inv .1 .cards;

@@ -1,4 +1,5 @@
--- The loop over a trial's runs follows the definition: after k runs, those that are left from here, with the sum so far,
+-- The loop over a trial's runs follows the definition: after k runs, those that are left from here, with the sum so
+-- far,
 -- are the whole trial's.
 --   run-is                               one run
 --   going-start, going-on, going-stops, going-spent   the loop
@@ -34,7 +35,8 @@ tells : (a : Answer) (span : ℕ) (after : Lent Float) {x : Float} {r : Trial}
 tells (answer.Finished p) span after e f = record { trial = f ∙ ap trial.Mean e; lists = refl }
 tells (answer.Refused w p) span after e f = record { trial = f; lists = refl }
 
-pub run-is : (i : Inputs) (u : Float) (n : ℕ) (l : Lent Float) {z : ℕ} → z ≡ firstSeed + n → {a : Answer} {after : Lent Float}
+pub run-is : (i : Inputs) (u : Float) (n : ℕ) (l : Lent Float) {z : ℕ} → z ≡ firstSeed + n
+    → {a : Answer} {after : Lent Float}
     → RunContract (inputs (i .config) (i .parameters) u z (i .existing) (i .existing-counts)) (state l 0 z) a after
     → {x : Float} → x ≡ target (i .config .«learn_span») (after .costs) (after .memorized)
     → {r : Trial} → r ≡ trialFrom a x → TrialContract (runOf i u n l) r after
@@ -107,11 +109,13 @@ module _ (i : Inputs) (u : Float) (n : ℕ) (l₀ : Lent Float) where
   unfolding runsFrom
   going-spent {l} {sum} {k} g h e =
       let none : n - k ≡ 0 = omega arith in
-      let s : gives l sum ≡ runsFrom i u n 0 (neg 0ᶠ) l₀ = ap (λ (m : ℕ). runsFrom i u m k sum l) (sym none) ∙ g .left in
+      let s : gives l sum ≡ runsFrom i u n 0 (neg 0ᶠ) l₀ = ap (λ (m : ℕ). runsFrom i u m k sum l) (sym none)
+      ∙ g .left in
       rw (← s) (record { trial = ap trial.Mean e; lists = refl })
 
 -- the whole loop is the trial
 pub sample-is : (i : Inputs) (u : Float) (l : Lent Float) {r : Trial} {after : Lent Float} (n : ℕ)
-    → n ≡ sampleSize (i .config .«learn_span») → TrialContract (whole i u n l) r after → TrialContract (sample i l u) r after
+    → n ≡ sampleSize (i .config .«learn_span») → TrialContract (whole i u n l) r after
+    → TrialContract (sample i l u) r after
 unfolding sample
 sample-is i u l n e c = rw e at c

@@ -20,9 +20,16 @@ returns c =
     let at-take-mean = at-state-floats .before .before in
     let at-stepper-of = at-take-mean .before in
     record {
-      floats-are = rw
-          (at-state-floats .state-floats .ensures, at-take-mean .take-mean .ensures, at-stepper-of .stepper-of .ensures);
-      counts-are = rw (c .stepper-counts .ensures, at-take-mean .take-mean .ensures, at-stepper-of .stepper-of .ensures);
+      floats-are = rw (
+        at-state-floats .state-floats .ensures,
+        at-take-mean .take-mean .ensures,
+        at-stepper-of .stepper-of .ensures,
+      );
+      counts-are = rw (
+        c .stepper-counts .ensures,
+        at-take-mean .take-mean .ensures,
+        at-stepper-of .stepper-of .ensures,
+      );
     }
 
 pub drill-search-take-spec : {M : Type 1} → statement M

@@ -17,7 +17,13 @@ returns c = rw (le-leb _ _ (c .if1 .taken))
 
 returns-2 : tie.Need-returns-2
 unfolding sampleSize
-returns-2 c = rw (lt-leb _ _ (c .before .before .before .if1 .left), lt-ltb _ _ (c .before .before .if2 .taken), c .sampled-by .ensures, c .before .from-u32 .ensures)
+returns-2 c =
+    rw (
+      lt-leb _ _ (c .before .before .before .if1 .left),
+      lt-ltb _ _ (c .before .before .if2 .taken),
+      c .sampled-by .ensures,
+      c .before .from-u32 .ensures,
+    )
 
 returns-3 : tie.Need-returns-3
 unfolding sampleSize

@@ -1,4 +1,5 @@
--- The invariant of its loop, `Going`: after so many runs what is left is the whole trial; `SameLengths`: the lists are as
+-- The invariant of its loop, `Going`: after so many runs what is left is the whole trial; `SameLengths`: the lists are
+-- as
 -- long as they came. The measure is the runs that are left.
 use Prim.Native.Nat.{_-_}
 use native.Mathlib.Omega.{arith}
@@ -16,7 +17,8 @@ use borrow.Author.Needs.{needs}
 
 abbrev Inv-loop : tie.InvT-loop
 Inv-loop cards₀ counts₀ rows₀ days₀ costs₀ memorized₀ due₀ keys₀ intervals₀ parameters existing existing-counts config retention n sum₀ made₀ cards counts rows days costs memorized due keys intervals sum made = Going (searchInputs config parameters existing existing-counts) retention n (lent cards₀ counts₀ rows₀ days₀ costs₀ memorized₀ due₀ keys₀ intervals₀) (lent cards counts rows days costs memorized due keys intervals) sum made
-    × SameLengths (lent cards₀ counts₀ rows₀ days₀ costs₀ memorized₀ due₀ keys₀ intervals₀) (lent cards counts rows days costs memorized due keys intervals)
+    × SameLengths (lent cards₀ counts₀ rows₀ days₀ costs₀ memorized₀ due₀ keys₀ intervals₀)
+    (lent cards counts rows days costs memorized due keys intervals)
 
 abbrev μ-loop : tie.MeasureT-loop
 μ-loop cards₀ counts₀ rows₀ days₀ costs₀ memorized₀ due₀ keys₀ intervals₀ parameters existing existing-counts config retention n sum₀ made₀ cards counts rows days costs memorized due keys intervals sum made = n - made
@@ -122,7 +124,8 @@ returns c =
     (a .due .now) (a .keys .now) (a .intervals .now) in
     let n = at-sample-size .sample-size .result in
     sample-is i (a .retention) l n (at-sample-size .sample-size .ensures)
-    (going-stops i (a .retention) n l (at-loop .loop .inv .0) (at-loop-test .loop-test .taken) (at-run-of .run-of .ensures)
+    (going-stops i (a .retention) n l (at-loop .loop .inv .0) (at-loop-test .loop-test .taken)
+    (at-run-of .run-of .ensures)
     (at-match .match .keys2))
 
 add-made : tie.Need-add-made Inv-loop μ-loop
@@ -147,7 +150,8 @@ loop-again c =
     let l = lent (a .cards .now) (a .counts .now) (a .rows .now) (a .days .now) (a .costs .now) (a .memorized .now)
     (a .due .now) (a .keys .now) (a .intervals .now) in
     let n = at-sample-size .sample-size .result in (
-      going-on i (a .retention) n l (at-loop .loop .inv .0) (at-loop-test .loop-test .taken) (at-run-of .run-of .ensures) _
+      going-on i (a .retention) n l (at-loop .loop .inv .0) (at-loop-test .loop-test .taken)
+          (at-run-of .run-of .ensures) _
           (at-trial .trial .given .1),
       record {
         cards = at-run-of .run-of .kept .0 ∙ at-loop .loop .inv .1 .cards;

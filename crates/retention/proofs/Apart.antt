@@ -1,0 +1,106 @@
+-- EACH RUN APART: a run of an accepted search says the same in any lists of the same lengths, whatever they held, so a
+-- host may make the runs of a trial in lists of their own.
+--   target-first   a target reads the first places only
+--   run-apart      a run in other lists
+use mathlib.Core.Path.{_≡_, refl, sym, ap, _∙_, subst}
+use mathlib.Core.Bool.{Bool, true, false, not, _&&_, _||_}
+use mathlib.Core.List.{List}
+use mathlib.Core.Option.{Option, none, some}
+use Prim.Native.Nat.{ℕ, zero, suc, _+_, _-_, _≤_, _<_}
+use native.Mathlib.Omega.{arith}
+use borrow.Author.Tests.{eqb-false}
+use lib.Dec.{T, eqb, ltb}
+use lib.ListN.{length, getD, take}
+use lib.Seq.{getD-take}
+use lib.Ieee.{Float, nan}
+use Rattle.float32.specs.Float32.{isFinite}
+use Rattle.float32.specs.Ops.{_+ᶠ_, _/ᶠ_}
+use Rattle.turns.proofs.Logic.{not-one, neither, not-false}
+use Rattle.draws.specs.Draws.{splitMix}
+use Rattle.cards.specs.Config.{configOk}
+use Rattle.simulation.specs.declared.Refusal.{Refusal}
+use Rattle.simulation.specs.declared.Check.{Check}
+use Rattle.simulation.specs.declared.Check.the-variants as check
+use Rattle.simulation.specs.declared.Answer.{Answer}
+use Rattle.simulation.specs.State.{State, Lent, state, listsOf, mostCards, mostDays}
+use Rattle.simulation.specs.Entry.{Inputs, firstWhere, notFinite, failIf, checkParameters, listsOk, checkedWith, checked}
+use Rattle.simulation.specs.Frame.{SameLengths}
+use Rattle.simulation.specs.Simulate.{simulated}
+use Rattle.simulation.proofs.Demands.{demands}
+use Rattle.brent.specs.Step.{within}
+use Rattle.retention.specs.declared.Trial.{Trial}
+use Rattle.retention.specs.Trials.{firstSeed, runInputs, total, target, refusalIn, sampledAs, runOf, trialOf}
+use Rattle.retention.specs.Retention.{checkedSearch}
+use Rattle.retention.proofs.Entry.{passes-again}
+
+-- ---- a target reads the first places only
+total-first : (xs : List Float) (n m : ℕ) → m ≤ n → total (take n xs) m ≡ total xs m
+unfolding total
+total-first xs n zero h = refl
+total-first xs n (suc m) h =
+    rw (total-first xs n m (omega (arith, h)), getD-take n xs m nan (omega (arith, h)))
+
+target-first : (span : ℕ) (costs memorized : List Float) → 0 < span
+    → target span (take span costs) (take span memorized) ≡ target span costs memorized
+unfolding target
+target-first span costs memorized h =
+    rw (total-first costs span span (omega arith), getD-take span memorized (span - 1) nan (omega (arith, h)))
+
+same-target : (span : ℕ) (a b c d : List Float) → 0 < span → take span a ≡ take span b → take span c ≡ take span d
+    → target span a c ≡ target span b d
+same-target span a b c d h p q =
+    sym (target-first span a c h) ∙ ap (λ (z : List Float). target span z (take span c)) p
+    ∙ ap (λ (z : List Float). target span (take span b) z) q ∙ target-first span b d h
+
+-- ---- of a call that passes the entry
+passes : (b : Bool) (r : Refusal) (next : Check) → failIf b r next ≡ check.Passed → (b ≡ false) × (next ≡ check.Passed)
+passes true r next e = absurd (not-one cc)
+passes false r next e = (refl, e)
+
+lists-and-span : (ok : Bool) (i : Inputs) (s : State Float) → checkedWith ok i s ≡ check.Passed
+    → (listsOk i s ≡ true) × (0 < i .config .«learn_span»)
+unfolding checkedWith checkParameters
+lists-and-span ok i s e =
+    let w = i .parameters in
+    let g = i .config in
+    let p₁ = passes (ltb (length w) 34) _ _ e in
+    let p₂ = passes (ltb (firstWhere (notFinite w) 34 0) 34) _ _ (p₁ .1) in
+    let p₃ = passes (eqb (g .«deck_size») 0 || ltb mostCards (g .«deck_size»)) _ _ (p₂ .1) in
+    let p₄ = passes (eqb (g .«learn_span») 0 || ltb mostDays (g .«learn_span»)) _ _ (p₃ .1) in
+    let p₅ = passes (not (configOk g && ok)) _ _ (p₄ .1) in
+    let p₆ = passes (not (listsOk i s)) _ _ (p₅ .1) in
+    let some-days = eqb-false (g .«learn_span») 0
+    (neither (eqb (g .«learn_span») 0) (ltb mostDays (g .«learn_span»)) (p₄ .0) .0) in
+    (not-false (listsOk i s) (p₆ .0), omega (arith, some-days))
+
+-- what a run says hangs on its refusal and its target alone
+same-said : (r r′ : Option Refusal) (x x′ : Float) (l l′ : Lent Float) → r′ ≡ r → x′ ≡ x
+    → trialOf (sampledAs r′ x′ l′) ≡ trialOf (sampledAs r x l)
+same-said r r′ x x′ l l′ e f = rw (e, f) (go r)
+  where
+    go : (z : Option Refusal) → trialOf (sampledAs z x l′) ≡ trialOf (sampledAs z x l)
+    go none = refl
+    go (some w) = refl
+
+pub run-apart : (rounds : ℕ) (i : Inputs) (l l′ : Lent Float) (u : Float) (n : ℕ)
+    → checkedSearch rounds i l ≡ check.Passed → SameLengths l l′ → SameLengths l l → T (within u)
+    → trialOf (runOf i u n l′) ≡ trialOf (runOf i u n l)
+unfolding runOf
+run-apart rounds i l l′ u n e h same w =
+    let j = runInputs i u n in
+    let s = state l 0 (firstSeed + n) in
+    let s′ = state l′ 0 (firstSeed + n) in
+    let pass = passes-again rounds i l l u n e same w in
+    let pass′ = passes-again rounds i l l′ u n e h w in
+    let d = demands splitMix j s in
+    let d′ = demands splitMix j s′ in
+    let span = i .config .«learn_span» in
+    let both = lists-and-span (isFinite u) j s′ pass′ in
+    let run = d .same-run s′ pass (both .0) (h .keys) in
+    let places = run .places-are in
+    same-said (refusalIn (simulated j s .answer)) (refusalIn (simulated j s′ .answer)) _ _ _ _
+    (ap refusalIn (run .answers))
+    (same-target span (listsOf (simulated j s′ .state) .costs) (listsOf (simulated j s .state) .costs)
+    (listsOf (simulated j s′ .state) .memorized) (listsOf (simulated j s .state) .memorized) (both .1)
+    (rw (d .run-leaves pass, d′ .run-leaves pass′) (ap (λ (z : State Float). z .costs) places))
+    (rw (d .run-leaves pass, d′ .run-leaves pass′) (ap (λ (z : State Float). z .memorized) places)))
