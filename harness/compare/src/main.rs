@@ -20,6 +20,10 @@ mod stored;
 mod stored_leaves;
 mod stored_points;
 mod stored_runs;
+mod stored_texts;
+mod text;
+mod text_cases;
+mod texts;
 
 fn number(words: &[String], i: usize, default: u64) -> u64 {
     words.get(i).map_or(default, |w| w.parse().unwrap_or_else(|_| panic!("not a number: {w}")))
@@ -37,6 +41,9 @@ fn main() {
         ["bench", _, "search"] => searches::bench(number(&words, 1, 3)),
         ["bench", _, "tables"] => bench::tables(number(&words, 1, 5)),
         ["bench", ..] => bench::main(number(&words, 1, 5)),
+        ["texts", program, ..] => texts::main(program, number(&words, 2, 1000), number(&words, 3, 1)),
+        ["cheapest", program, ..] => texts::searched(program, number(&words, 2, 100), number(&words, 3, 1)),
+        ["short", program] => texts::short(program),
         ["store", crates] => stored::main(crates),
         _ => panic!("a command of harness/run is needed"),
     }

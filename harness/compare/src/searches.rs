@@ -15,12 +15,12 @@ use std::time::Instant;
 
 /// What a search says: number, second number, rounds done, the retention found and its mean.
 #[derive(Clone, Debug, PartialEq)]
-struct Said {
-    number: u32,
-    second: u32,
-    rounds: u32,
-    retention: u64,
-    mean: u64,
+pub struct Said {
+    pub number: u32,
+    pub second: u32,
+    pub rounds: u32,
+    pub retention: u64,
+    pub mean: u64,
 }
 
 impl Said {
@@ -74,6 +74,11 @@ fn reference(call: &Call, rounds: u32) -> (Searched, Option<Call>) {
     let result = reference::result(&last);
     let trials = trials.iter().map(|t| (bits(t.0), bits(t.1))).collect();
     (Searched { said, trials, last: Some(result) }, Some(last))
+}
+
+/// What the Rust's search says.
+pub fn said(call: &Call, rounds: u32) -> Said {
+    reference(call, rounds).0.said
 }
 
 /// A port's whole search: the lists are written, and the answer's numbers and floats returned.

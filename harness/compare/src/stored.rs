@@ -1,6 +1,6 @@
-//! Writes every stored answer of the reference: stdin and stdout of the program `replay`, and what `points`, `run_points` and
-//! `search_points` print of it.
-use crate::{stored_leaves, stored_points, stored_runs};
+//! Writes every stored answer of the reference: stdin and stdout of the programs `replay` and `text_points`, and what `points`,
+//! `run_points`, `search_points` and `cheapest` print of it.
+use crate::{stored_leaves, stored_points, stored_runs, stored_texts};
 use std::fmt::Write;
 
 /// The lines that the program `replay` reads, and those that it must print.
@@ -39,4 +39,11 @@ pub fn main(crates: &str) {
     write(&points, &stored_points::points(&before));
     write(&format!("{crates}/run_points/stdout"), &stored_points::run_points());
     write(&format!("{crates}/search_points/stdout"), &stored_points::search_points());
+    let (texts, answers) = stored_texts::put();
+    let path = format!("{crates}/text_points/stdin");
+    std::fs::write(&path, texts).unwrap_or_else(|e| panic!("{path} cannot be written: {e}"));
+    write(&format!("{crates}/text_points/stdout"), &answers);
+    let path = format!("{crates}/cheapest/stdin");
+    let text = std::fs::read(&path).unwrap_or_else(|e| panic!("{path} cannot be read: {e}"));
+    write(&format!("{crates}/cheapest/stdout"), &crate::text::cheapest(&text));
 }

@@ -1,0 +1,4 @@
+pub mod Maps
+pub mod Texts
+pub mod Call
+pub mod Laws
