@@ -1,5 +1,6 @@
-//! Searches: the port beside the Rust, on varied calls from a seed. The whole search: answer, rounds, mean, and the lists as the
-//! last run made leaves them; by the stepper: every trial's retention and mean, with the runs of a trial on all cores.
+//! Searches: the port beside the Rust, on varied calls from a seed and on each two faults at once. The whole search: answer, rounds,
+//! mean, and the lists as the last run made leaves them; by the stepper: every trial's retention and mean, with the runs of a trial
+//! on all cores.
 use crate::calls::generated;
 use crate::cases::usual;
 use crate::floats::bits;
@@ -9,6 +10,7 @@ use crate::port;
 use crate::reference;
 use crate::result::Result;
 use crate::rules::search_faults;
+use crate::spoils::pairs;
 use oracle::ours::simulation::probe;
 use oracle::trace;
 use std::time::Instant;
@@ -242,6 +244,9 @@ pub fn main(n: u64, seed: u64) {
     for _ in 0..n {
         let call = small(&mut words);
         tally.count(&both(&call, rounds(&mut words)));
+    }
+    for call in pairs() {
+        [64, 0, 65, u32::MAX].iter().for_each(|&rounds| tally.count(&both(&call, rounds)));
     }
     if n >= 2000 {
         let few = usual(400, 365);
