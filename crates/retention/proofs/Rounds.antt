@@ -1,6 +1,5 @@
 -- The loop over trials drives the method's stepper (brent/proofs/Driven): after k trials what is left, from here, is
--- the
--- whole search.
+-- the whole search.
 --   trying-start, trying-on            as the loop begins, and after a trial
 --   trying-ends, trying-stops, trying-spent   where it returns
 use mathlib.Core.Path.{_≡_, refl, sym, ap, _∙_}

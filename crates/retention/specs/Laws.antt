@@ -1,5 +1,4 @@
--- WHAT IS CLAIMED OF EVERY SEARCH beside its contract: the record `SearchLaws`, whatever the runs give. Definitions
--- only.
+-- WHAT IS CLAIMED OF EVERY SEARCH beside its contract, whatever the runs give: `SearchLaws`. Definitions only.
 use Prim.Native.Nat.{ℕ, _≤_, _<_}
 use mathlib.Core.Bool.{false}
 use mathlib.Core.Logic.{_⊎_}
@@ -24,8 +23,8 @@ pub record SearchLaws (i : Inputs) (rounds : ℕ) (l : Lent Float) : Type 0 wher
   -- an entry refusal, exactly by the table, makes no trial and writes nothing
   pub entry-refusal : (r : Refusal) → checkedSearch rounds i l ≡ check.Failed r
       → optimalRetention i rounds l ≡ ended l (refused r)
-  -- no run of an accepted search is refused at its own entry: a search is refused by 7 or 8 of a run, by 10, or not at
-  -- all
+  -- no run of an accepted search is refused at its own entry: a search is refused by 7 or 8 of a run, by 10, or not
+  -- at all
   pub run-refusal : checkedSearch rounds i l ≡ check.Passed
       → RefusedBy (λ r. (Refusals.numberOf r ≡ 7) ⊎ (Refusals.numberOf r ≡ 8)) (optimalRetention i rounds l .answer)
   -- so a search that answers 1 to 6 left every list as it was

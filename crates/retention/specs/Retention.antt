@@ -57,7 +57,7 @@ abbrev pub secondOf : SearchAnswer → ℕ
 secondOf (said.Found x) = 0
 secondOf (said.Refused r) = Refusals.secondOf r
 
--- of a trial that has no mean
+-- of a trial that has no mean; for one that has, which is not asked for, any answer does
 abbrev pub refusedBy : Trial → SearchAnswer
 refusedBy (trial.Mean x) = said.Refused (refusal.NotFound 0)
 refusedBy (trial.Refused r) = said.Refused r
@@ -68,8 +68,7 @@ pub record IsSearched (x : Searched (Lent Float) Refusal) (r : SearchAnswer) (l 
   pub lists : l ≡ x .left
 
 -- WHAT A CALL OF THE SEARCH PROMISES: the answer and the lists are those of the definition; and a call that answers 1
--- to
--- 6 left every list as it was
+-- to 6 left every list as it was
 pub record SearchContract (i : Inputs) (rounds : ℕ) (l : Lent Float) (r : SearchAnswer)
     (after : Lent Float) : Type 0 where
   pub result : IsSearched (optimalRetention i rounds l) r after

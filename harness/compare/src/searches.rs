@@ -1,5 +1,6 @@
-//! Searches: the port beside the Rust, on varied calls from a seed. The whole search: answer, rounds, mean, and the lists as the
-//! last run made leaves them; by the stepper: every trial's retention and mean, with the runs of a trial on all cores.
+//! Searches: the port beside the Rust, on varied calls from a seed and on each two faults at once. The whole search: answer, rounds,
+//! mean, and the lists as the last run made leaves them; by the stepper: every trial's retention and mean, with the runs of a trial
+//! on all cores.
 use crate::calls::generated;
 use crate::cases::usual;
 use crate::floats::bits;
@@ -9,6 +10,7 @@ use crate::port;
 use crate::reference;
 use crate::result::Result;
 use crate::rules::search_faults;
+use crate::spoils::pairs;
 use oracle::ours::simulation::probe;
 use oracle::trace;
 use std::time::Instant;
@@ -248,6 +250,9 @@ pub fn main(n: u64, seed: u64) {
         let call = small(&mut words);
         tally.count(&both(&call, rounds(&mut words)));
     }
+    for call in pairs() {
+        [64, 0, 65, u32::MAX].iter().for_each(|&rounds| tally.count(&both(&call, rounds)));
+    }
     if n >= 2000 {
         let few = usual(400, 365);
         for call in [Call::exact("400 cards, a year", few), Call::exact("the usual rate", usual(4000, 365))] {
@@ -283,34 +288,44 @@ fn published_on_two(call: &Call, retentions: &[f32]) {
     }
 }
 
-fn seconds(run: &mut dyn FnMut()) -> f64 {
-    let start = Instant::now();
+/// Seconds of processor time that this process has used, of all its threads.
+fn processor() -> f64 {
+    let text = std::fs::read_to_string("/proc/self/stat").expect("Linux has this file");
+    let after_name = text.rsplit(')').next().unwrap();
+    let ticks = |i: usize| after_name.split_whitespace().nth(i).unwrap().parse::<f64>().unwrap();
+    (ticks(11) + ticks(12)) / 100.0
+}
+
+/// Seconds by the clock, and of processor time.
+fn seconds(run: &mut dyn FnMut()) -> [f64; 2] {
+    let (start, used) = (Instant::now(), processor());
     run();
-    start.elapsed().as_secs_f64()
+    [start.elapsed().as_secs_f64(), processor() - used]
 }
 
 /// A search at the usual rate: the published Rust and the port on one thread, then both on two.
 pub fn bench(rounds: u64) {
     let call = Call::exact("the usual rate", usual(4000, 365));
-    let mut times = [f64::MAX; 4];
+    let mut times = [[f64::MAX; 2]; 4];
+    let mut least = |i: usize, t: [f64; 2]| times[i] = [times[i][0].min(t[0]), times[i][1].min(t[1])];
     trace::set_rounds(64);
     trace::trials();
     for _ in 0..rounds {
         let mut found = 0.0;
-        times[0] = times[0].min(seconds(&mut || found = oracle::published::simulation::probe::search(&call.case).unwrap()));
+        least(0, seconds(&mut || found = oracle::published::simulation::probe::search(&call.case).unwrap()));
         let retentions: Vec<f32> = trace::trials().iter().map(|t| t.0).collect();
         let mut lists = Lists::of(&call);
-        times[1] = times[1].min(seconds(&mut || _ = lists.search(&call, 64)));
-        times[2] = times[2].min(seconds(&mut || published_on_two(&call, &retentions)));
-        times[3] = times[3].min(seconds(&mut || drop(stepped(&call, 64, 2))));
+        least(1, seconds(&mut || _ = lists.search(&call, 64)));
+        least(2, seconds(&mut || published_on_two(&call, &retentions)));
+        least(3, seconds(&mut || drop(stepped(&call, 64, 2))));
         println!("  {} trials, the published Rust found {found}", retentions.len());
     }
-    let [a, b, c, d] = times;
-    println!(
-        "bench: a search at the usual rate, least of {rounds}: on one thread the published Rust {a:.2} s, the port {b:.2} s ({:.2});",
-        b / a
-    );
-    println!("  on two threads the published Rust's runs {c:.2} s, the port's stepper {d:.2} s ({:.2})", d / c);
+    println!("bench: a search at the usual rate, by the clock and of processor time, least of {rounds}");
+    let names = ["the published Rust", "the port", "the published Rust's runs on two threads", "the port's stepper on two threads"];
+    for (i, name) in names.iter().enumerate() {
+        let [[clock, used], rust] = [times[i], times[i / 2 * 2]];
+        println!("  {name:<44} {clock:>7.2} s {:>5.2} {used:>9.2} s {:>5.2}", clock / rust[0], used / rust[1]);
+    }
 }
 
 type Wrong = (&'static str, fn(&Call, u32, &mut Lists) -> ([u32; 3], [f32; 2]));

@@ -1,6 +1,5 @@
 -- The invariant of its loop, `Trying`: after so many trials what is left is the whole search; `SameLengths`: the lists
--- are
--- as long as they came. The measure is the trials that are left.
+-- are as long as they came. The measure is the trials that are left.
 use Prim.Native.Nat.{_+_, _-_}
 use native.Mathlib.Omega.{arith}
 use mathlib.Core.Path.{refl, _∙_}

@@ -1,6 +1,5 @@
 -- The loop over a trial's runs follows the definition: after k runs, those that are left from here, with the sum so
--- far,
--- are the whole trial's.
+-- far, are the whole trial's.
 --   run-is                               one run
 --   going-start, going-on, going-stops, going-spent   the loop
 use mathlib.Core.Path.{_≡_, refl, sym, ap, _∙_}

@@ -1,6 +1,5 @@
 -- The invariant of its loop, `Going`: after so many runs what is left is the whole trial; `SameLengths`: the lists are
--- as
--- long as they came. The measure is the runs that are left.
+-- as long as they came. The measure is the runs that are left.
 use Prim.Native.Nat.{_-_}
 use native.Mathlib.Omega.{arith}
 use mathlib.Core.Path.{refl, ap, _∙_}
