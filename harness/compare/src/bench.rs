@@ -106,7 +106,7 @@ fn shapes(rounds: u64) {
             times[2] = times[2].min(timed(&mut || drop(oracle::hoisted::simulation::probe::run(c).unwrap())));
         }
         let [a, b, h] = times;
-        println!("  {cards:>6} cards x {days:>6} days {a:>9.2} {b:>9.2} {h:>9.2} {:>6.2} {:>6.2}", a / b, a / h);
+        println!("  {cards:>6} cards x {days:>6} days {a:>9.3} {b:>9.3} {h:>9.3} {:>6.2} {:>6.2}", a / b, a / h);
     }
 }
 
