@@ -1,0 +1,91 @@
+//! What crosses to the C functions: a call's inputs as rows and numbers, and the lists that it is lent, at their needed lengths.
+use crate::config::{Card, SimulatorConfig};
+
+const MOST_CARDS: usize = 65_536;
+const MOST_DAYS: usize = 36_500;
+
+/// How long the interval table is at first. A run keeps an interval for each thousandth of ln(stability), and stabilities from
+/// 0.0001 to 36,500 days have some 19,700 of them: so a deck with one retention does not fill it.
+pub const FIRST_PLACES: usize = 32_768;
+
+/// A number as the u32 that the library takes. One that is too great for it is refused as the greatest u32 is (deck, span), or is
+/// as good as that one: a limit above the largest deck is none, and of learning steps no event makes more than five.
+fn number(x: usize) -> u32 {
+    u32::try_from(x).unwrap_or(u32::MAX)
+}
+
+/// A call's inputs.
+pub struct Inputs<'a> {
+    pub config: &'a SimulatorConfig,
+    pub parameters: &'a [f32],
+    pub numbers: [u32; 8],
+    pub existing_cards: Vec<[f32; 6]>,
+    pub existing_counts: Vec<[u32; 2]>,
+}
+
+impl Inputs<'_> {
+    pub fn new<'a>(config: &'a SimulatorConfig, parameters: &'a [f32], existing: &[Card]) -> Inputs<'a> {
+        let numbers = [
+            number(config.deck_size),
+            number(config.learn_span),
+            number(config.learn_limit),
+            number(config.review_limit),
+            u32::from(config.new_cards_ignore_review_limit),
+            config.suspend_after_lapses.unwrap_or(u32::MAX),
+            number(config.learning_step_count),
+            number(config.relearning_step_count),
+        ];
+        let row = |c: &Card| [c.difficulty, c.stability, c.last_date, c.due, c.interval, c.desired_retention];
+        Inputs {
+            config,
+            parameters,
+            numbers,
+            existing_cards: existing.iter().map(row).collect(),
+            existing_counts: existing.iter().map(|c| [c.reps, c.lapses]).collect(),
+        }
+    }
+
+    pub fn span(&self) -> u32 {
+        self.numbers[1]
+    }
+}
+
+/// The lists that a run writes.
+pub struct Lists {
+    pub cards: Vec<[f32; 6]>,
+    pub counts: Vec<[u32; 2]>,
+    pub queue: Vec<[u64; 2]>,
+    pub days: Vec<[u32; 4]>,
+    pub costs: Vec<f32>,
+    pub memorized: Vec<f32>,
+    pub due: Vec<u32>,
+    pub keys: Vec<[u32; 2]>,
+    pub intervals: Vec<f32>,
+}
+
+impl Lists {
+    /// As long as a run needs them, with so many places in the interval table. A deck or a span above the library's limits is
+    /// refused before the lists are looked at, so none is longer than these limits ask.
+    pub fn new(config: &SimulatorConfig, places: usize) -> Lists {
+        let deck = config.deck_size.min(MOST_CARDS);
+        let span = config.learn_span.min(MOST_DAYS);
+        Lists {
+            cards: vec![[0.0; 6]; deck],
+            counts: vec![[0; 2]; deck],
+            queue: vec![[0; 2]; deck],
+            days: vec![[0; 4]; span],
+            costs: vec![0.0; span],
+            memorized: vec![0.0; span],
+            due: vec![0; span + span / 2],
+            keys: vec![[0; 2]; places],
+            intervals: vec![0.0; places],
+        }
+    }
+
+    /// An interval table of twice the length. What it held plays no part in the next run, which empties it.
+    pub fn lengthen(&mut self) {
+        let places = (2 * self.intervals.len()).max(1);
+        self.keys = vec![[0; 2]; places];
+        self.intervals = vec![0.0; places];
+    }
+}
