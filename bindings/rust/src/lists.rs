@@ -5,7 +5,7 @@ const MOST_CARDS: usize = 65_536;
 const MOST_DAYS: usize = 36_500;
 
 /// How long the interval table is at first. A run keeps an interval for each thousandth of ln(stability), and stabilities from
-/// 0.0001 to 36,500 days have some 19,700 of them: so a deck with one retention does not fill it.
+/// 0.0001 to 36,500 days have some 19,700 of them: so it is enough where all cards have one retention.
 pub const FIRST_PLACES: usize = 32_768;
 
 /// A number as the u32 that the library takes. One that is too great for it is refused as the greatest u32 is (deck, span), or is
@@ -23,8 +23,8 @@ pub struct Inputs<'a> {
     pub existing_counts: Vec<[u32; 2]>,
 }
 
-impl Inputs<'_> {
-    pub fn new<'a>(config: &'a SimulatorConfig, parameters: &'a [f32], existing: &[Card]) -> Inputs<'a> {
+impl<'a> Inputs<'a> {
+    pub fn new(config: &'a SimulatorConfig, parameters: &'a [f32], existing: &[Card]) -> Inputs<'a> {
         let numbers = [
             number(config.deck_size),
             number(config.learn_span),

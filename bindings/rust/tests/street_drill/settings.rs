@@ -7,7 +7,7 @@ fn forecast(config: &SimulatorConfig, existing: &[Card]) -> Forecast {
 }
 
 fn small() -> SimulatorConfig {
-    SimulatorConfig { deck_size: 40, learn_span: 60, ..SimulatorConfig::default() }
+    SimulatorConfig { deck_size: 40, learn_span: 61, ..SimulatorConfig::default() }
 }
 
 /// A card that is due behind the span is retired as it is.
@@ -24,7 +24,7 @@ fn a_card_comes_back() {
         lapses: 3,
     };
     let left = forecast(&small(), &[card]);
-    assert_eq!((left.cards[0], left.due[70], left.due.len()), (card, 1, 90));
+    assert_eq!((left.cards[0], left.due[70], left.due.len()), (card, 1, 91));
 }
 
 /// The retention of a new card is the run's, that of an existing one its own.
