@@ -28,7 +28,7 @@ pub struct SimulatorConfig {
     pub new_cards_ignore_review_limit: bool,
     /// A card with so many lapses is retired, so with `Some(0)` every card is; `None` is no limit.
     pub suspend_after_lapses: Option<u32>,
-    /// Weights of a learning's next rating (again, hard, good, easy), a row for each rating before it: again, hard, good.
+    /// Weights of a learning's next rating (again, hard, good, easy), a row by the one before it: again, hard, good.
     pub learning_step_transitions: [[f32; 4]; 3],
     /// The same after a lapse.
     pub relearning_step_transitions: [[f32; 4]; 3],
@@ -74,8 +74,8 @@ impl Default for SimulatorConfig {
     }
 }
 
-/// A card. Dates are in days, and the run begins on day 0, so a date before the run is below 0. Of existing cards those are
-/// kept whose stability is above 1e-9; the default card, which was never learned, is not.
+/// A card. Dates are in days, and the run begins on day 0, so a date before the run is below 0. Of existing cards those
+/// are kept whose stability is above 1e-9; the default card, which was never learned, is not.
 #[derive(Clone, Copy, Debug, PartialEq)]
 pub struct Card {
     /// Difficulty, 1 to 10 where the model gave it.

@@ -1,10 +1,10 @@
 //! Refusals, with the numbers of the table in docs/RULES.md.
 use std::fmt;
 
-/// Why a call was refused. Where more than one reason holds, a call tells the first in the order of the table: 1, 2, 3, 4, 2 for
-/// too many existing cards, 5; then what a run meets. No call of this crate is refused with [`Error::Lists`],
-/// [`Error::TableFull`] or [`Error::DueCount`]: lists are lent at their needed lengths, a full table is made longer, and no run
-/// comes to 9, which is proved.
+/// Why a call was refused. Where more than one reason holds, a call tells the first in the order of the table: 1, 2, 3,
+/// 4, 2 for too many existing cards, 5; then what a run meets. No call of this crate is refused with [`Error::Lists`],
+/// [`Error::TableFull`] or [`Error::DueCount`]: lists are lent at their needed lengths, a full table is made longer,
+/// and no run comes to 9, which is proved.
 ///
 /// ```
 /// use street_drill::{Error, SimulatorConfig, simulate};
@@ -77,7 +77,7 @@ impl Error {
         }
     }
 
-    /// The second number of the table: which parameter, which card, how many rounds; 0 where there is nothing more to tell.
+    /// The second number of the table: which parameter, which card, how many rounds; 0 where there is no more to tell.
     pub fn second(&self) -> u32 {
         match *self {
             Error::TooFewParameters => 34,
@@ -121,15 +121,15 @@ impl fmt::Display for Error {
             Error::LearnSpan => write!(f, "the span is not 1 to 36,500 days"),
             Error::Config => write!(
                 f,
-                "a weight is negative or not finite, or a row of weights sums to 0 or to infinity; or a cost is negative or not \
-                 finite, the most that a day may cost is no number, the longest interval is not 1 to 36,500 days, the \
-                 retention is not finite, or the most rounds are not 1 to 64"
+                "a weight is negative or not finite, or a row of weights sums to 0 or to infinity; or a cost is \
+                 negative or not finite, the most that a day may cost is no number, the longest interval is not 1 to \
+                 36,500 days, the retention is not finite, or the most rounds are not 1 to 64"
             ),
             Error::ExistingCard { place } => write!(
                 f,
-                "existing card {place}, from 0, has a stability, due date or retention that is not finite, a date beyond \
-                 16,777,216 days, a last date that is no number, a last date with a difficulty that is not finite, or more than \
-                 4,000,000,000 lapses"
+                "existing card {place}, from 0, has a stability, due date or retention that is not finite, a date \
+                 beyond 16,777,216 days, a last date that is no number, a last date with a difficulty that is not \
+                 finite, or more than 4,000,000,000 lapses"
             ),
             Error::Lists => write!(f, "a list that was lent is too short"),
             Error::ChanceOutOfRange { card } => {

@@ -36,15 +36,14 @@ pub struct Day {
     pub memorized: f32,
 }
 
-/// Simulates the drill. The parameters are FSRS-7's, the first 34 of the list; new cards are reviewed at the desired retention,
-/// existing ones at their own.
+/// Simulates the drill. The parameters are FSRS-7's, the first 34 of the list; new cards are reviewed at the desired
+/// retention, existing ones at their own.
 ///
 /// ```
 /// use street_drill::{Card, SimulatorConfig, simulate};
 ///
 /// let config = SimulatorConfig { deck_size: 50, learn_span: 30, learn_limit: 2, ..Default::default() };
-/// let known =
-///     Card { difficulty: 5.0, stability: 20.0, last_date: -8.0, due: 3.0, interval: 11.0, reps: 4, ..Card::default() };
+/// let known = Card { difficulty: 5.0, stability: 20.0, last_date: -8.0, due: 3.0, reps: 4, ..Card::default() };
 /// let forecast = simulate(&config, &[0.5; 34], 0.9, 42, &[known])?;
 /// assert_eq!((forecast.days.len(), forecast.due.len(), forecast.cards.len()), (30, 45, 50));
 /// assert_eq!(forecast.days[0].introduced, 3);
@@ -70,8 +69,8 @@ pub struct Ended {
     draws: u64,
 }
 
-/// A run, made again with a longer interval table for as long as it is full. The length plays no part in what it forecasts
-/// (docs/RULES.md, D6), and a table with a place for each turn is never full, so there is an end.
+/// A run, made again with a longer interval table for as long as it is full. The length plays no part in what it
+/// forecasts (docs/RULES.md, D6), and a table with a place for each turn is never full, so there is an end.
 pub fn run(inputs: &Inputs, desired_retention: f32, seed: u64, lists: &mut Lists) -> Result<Ended, Error> {
     loop {
         let [number, second, turns, cards, draws] = native::simulate(inputs, desired_retention, seed, lists);
@@ -107,8 +106,8 @@ fn forecast_of(lists: Lists, ended: Ended) -> Forecast {
 mod tests {
     use super::*;
 
-    /// A run from a table that is too short must be refused by 8 when it is made once, and end like one with a long table
-    /// when it is made again.
+    /// A run from a table that is too short must be refused by 8 when it is made once, and end like one with a long
+    /// table when it is made again.
     fn from_short(config: &SimulatorConfig, existing: &[Card], places: usize, enough: usize) {
         let inputs = Inputs::new(config, &[0.5; 34], existing);
         let mut lists = Lists::new(config, places);

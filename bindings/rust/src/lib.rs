@@ -1,8 +1,8 @@
-//! The street drill forecast for Rust: how many streets a sorter learns, reviews and holds in memory each day, and what that
-//! costs, by the FSRS-7 memory model. The work is done by the proved library behind include/street_drill.h; this crate lends
-//! it lists of the needed lengths and gives back what they hold.
+//! The street drill forecast for Rust: how many streets a sorter learns, reviews and holds in memory each day, and what
+//! that costs, by the FSRS-7 memory model. The work is done by the proved library behind include/street_drill.h; this
+//! crate lends it lists of the needed lengths and gives back what they hold.
 //!
-//! - [`simulate`]: a [`Forecast`] from a [`SimulatorConfig`], 34 parameters, a retention, a seed and existing [`Card`]s;
+//! - [`simulate`]: a [`Forecast`] from a [`SimulatorConfig`], 34 parameters, a retention, a seed and known [`Card`]s;
 //! - [`optimal_retention`]: the retention at which a street held in the end costs least, as an [`Optimum`];
 //! - [`optimal_retention_on_threads`]: the same search with the same answer, a trial's runs on threads;
 //! - [`Error`]: why a call was refused.

@@ -1,15 +1,16 @@
-//! What crosses to the C functions: a call's inputs as rows and numbers, and the lists that it is lent, at their needed lengths.
+//! What crosses to the C functions: a call's inputs as rows and numbers, and lists of the needed lengths.
 use crate::config::{Card, SimulatorConfig};
 
 const MOST_CARDS: usize = 65_536;
 const MOST_DAYS: usize = 36_500;
 
-/// How long the interval table is at first. A run keeps an interval for each thousandth of ln(stability), and stabilities from
-/// 0.0001 to 36,500 days have some 19,700 of them: so it is enough where all cards have one retention.
+/// How long the interval table is at first. A run keeps an interval for each thousandth of ln(stability), and
+/// stabilities from 0.0001 to 36,500 days have some 19,700 of them: so it is enough where all cards have one retention.
 pub const FIRST_PLACES: usize = 32_768;
 
-/// A number as the u32 that the library takes. One that is too great for it is refused as the greatest u32 is (deck, span), or is
-/// as good as that one: a limit above the largest deck is none, and of learning steps no event makes more than five.
+/// A number as the u32 that the library takes. One that is too great for it is refused as the greatest u32 is (deck,
+/// span), or is as good as that one: a limit above the largest deck is none, and of learning steps no event makes more
+/// than five.
 fn number(x: usize) -> u32 {
     u32::try_from(x).unwrap_or(u32::MAX)
 }
@@ -64,8 +65,8 @@ pub struct Lists {
 }
 
 impl Lists {
-    /// As long as a run needs them, with so many places in the interval table. A deck or a span above the library's limits is
-    /// refused before the lists are looked at, so none is longer than these limits ask.
+    /// As long as a run needs them, with so many places in the interval table. A deck or a span above the library's
+    /// limits is refused before the lists are looked at, so none is longer than these limits ask.
     pub fn new(config: &SimulatorConfig, places: usize) -> Lists {
         let deck = config.deck_size.min(MOST_CARDS);
         let span = config.learn_span.min(MOST_DAYS);

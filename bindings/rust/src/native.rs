@@ -2,9 +2,9 @@
 #![allow(unsafe_code)]
 use crate::lists::{Inputs, Lists};
 
-// SAFETY: the declarations are those of include/street_drill.h. A reference to an array stands for its pointer to an array of
-// as many numbers (a table of three rows of four lies in memory as its twelve numbers), a usize for its size_t. The functions
-// marked safe take numbers and references only, and by their contracts take every value of these.
+// SAFETY: the declarations are those of include/street_drill.h. A reference to an array stands for its pointer to an
+// array of as many numbers (a table of three rows of four lies in memory as its twelve numbers), a usize for its
+// size_t. The functions marked safe take numbers and references only, and by their contracts take every value of these.
 unsafe extern "C" {
     fn drill_simulate(
         parameters: *const f32,
@@ -94,8 +94,8 @@ unsafe extern "C" {
 pub fn simulate(inputs: &Inputs, desired_retention: f32, seed: u64, lists: &mut Lists) -> [u64; 5] {
     let config = inputs.config;
     let mut answer = [0; 5];
-    // SAFETY: each list is given with its own length, by a pointer that is not null even where it is empty; the lists that are
-    // written are vectors of their own, borrowed for the call alone, and so overlap nothing.
+    // SAFETY: each list is given with its own length, by a pointer that is not null even where it is empty; the lists
+    // that are written are vectors of their own, borrowed for the call alone, and so overlap nothing.
     unsafe {
         drill_simulate(
             inputs.parameters.as_ptr(),

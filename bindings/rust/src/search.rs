@@ -6,8 +6,8 @@ use crate::lists::{FIRST_PLACES, Inputs, Lists};
 use crate::native;
 use std::num::NonZeroUsize;
 
-/// The most rounds that a search may be given. With so many it is the search of fsrs-rs, and never refused for their number: it
-/// ends before them, which is proved.
+/// The most rounds that a search may be given. With so many it is the search of fsrs-rs, and never refused for their
+/// number: it ends before them, which is proved.
 pub const MOST_ROUNDS: u32 = 64;
 
 /// The seed of a trial's first run.
@@ -18,8 +18,8 @@ const FIRST_SEED: u64 = 42;
 pub struct Optimum {
     /// The retention, from 0.70 to 0.95.
     pub retention: f32,
-    /// Its mean cost: seconds of the span for each card memorized on the last day. **Look at it**: a NaN or an infinity says that
-    /// some trial memorized nothing, and then the retention means nothing.
+    /// Its mean cost: seconds of the span for each card memorized on the last day. **Look at it**: a NaN or an infinity
+    /// says that some trial memorized nothing, and then the retention means nothing.
     pub mean: f32,
     /// The rounds done.
     pub rounds: u32,
@@ -58,7 +58,7 @@ fn whole(inputs: &Inputs, rounds: u32, places: usize) -> Result<Optimum, Error> 
     }
 }
 
-/// The same search with the same answer, the runs of each trial on so many threads; it panics where one cannot be started.
+/// The same search with the same answer, the runs of a trial on so many threads; it panics where one does not start.
 ///
 /// ```
 /// use street_drill::{MOST_ROUNDS, SimulatorConfig, optimal_retention, optimal_retention_on_threads};
@@ -95,8 +95,8 @@ fn stepped(inputs: &Inputs, rounds: u32, threads: NonZeroUsize, places: usize) -
     search.answer()
 }
 
-/// The targets of a trial's runs in the order of their seeds, or the refusal of the first that is refused; a thread for each
-/// of the lists, with neighbouring seeds.
+/// The targets of a trial's runs in the order of their seeds, or the refusal of the first that is refused; a thread for
+/// each of the lists, with neighbouring seeds.
 fn trial(inputs: &Inputs, retention: f32, runs: usize, lists: &mut [Lists]) -> Result<Vec<f32>, Error> {
     let part = runs.div_ceil(lists.len());
     let mut targets = vec![Ok(0.0); runs];

@@ -10,6 +10,17 @@ fn small() -> SimulatorConfig {
     SimulatorConfig { deck_size: 40, learn_span: 61, ..SimulatorConfig::default() }
 }
 
+/// What the texts of examples/ do not show of the default; its tables are in what the programs print.
+#[test]
+fn defaults() {
+    let config = SimulatorConfig::default();
+    assert_eq!((config.deck_size, config.learn_span), (10_000, 365));
+    assert_eq!((config.max_cost_perday, config.max_ivl), (1800.0, 36_500.0));
+    assert_eq!((config.learn_limit, config.review_limit), (usize::MAX, usize::MAX));
+    assert_eq!((config.new_cards_ignore_review_limit, config.suspend_after_lapses), (true, None));
+    assert_eq!((Card::default().desired_retention, Card::default().last_date), (0.9, f32::NEG_INFINITY));
+}
+
 /// A card that is due behind the span is retired as it is.
 #[test]
 fn a_card_comes_back() {
@@ -78,11 +89,20 @@ fn step_counts() {
     assert_eq!(of(6, 5), of(usize::MAX, 1 << 40), "an event has at most five steps");
 }
 
-/// The state of the draws goes on from the seed, and another seed forecasts something else.
+/// Another seed forecasts something else.
 #[test]
 fn seeds() {
     let of = |seed| simulate(&small(), &USUAL, 0.9, seed, &[]).unwrap();
     assert_eq!(of(7), of(7));
-    assert_ne!(of(7), of(8));
-    assert_ne!(of(7).draws, 7);
+    assert_ne!(of(7).days, of(8).days);
+}
+
+/// A learning that is rated easy draws once, and a draw adds SplitMix64's number to the state, which began as the seed.
+#[test]
+fn state_of_the_draws() {
+    let config = SimulatorConfig { learn_span: 1, first_rating_prob: [0.0, 0.0, 0.0, 1.0], ..small() };
+    let of = |seed| simulate(&config, &USUAL, 0.9, seed, &[]).unwrap();
+    for seed in [0, 7, u64::MAX] {
+        assert_eq!(of(seed).draws, seed.wrapping_add(0x9E37_79B9_7F4A_7C15u64.wrapping_mul(40)));
+    }
 }
