@@ -9,7 +9,8 @@ use crate::native;
 pub struct Forecast {
     /// A row for each day of the span.
     pub days: Vec<Day>,
-    /// How many cards are due on each day, from day 0 on, for the span and half of it again.
+    /// How many cards are due on each day, from day 0 on, for the span and half of it again; a new card is counted once
+    /// it is learned.
     pub due: Vec<u32>,
     /// The run's cards as it left them: the existing ones that were kept, in their order, then the new ones.
     pub cards: Vec<Card>,
