@@ -1,4 +1,4 @@
-"""The planner's command: `python3 -m street_drill forecast|cheapest SETTINGS.toml ..`. Exit status: 0, or 2 with a line that says why."""
+"""The planner's command: `python3 -m street_drill forecast|cheapest|page ..`. Exit status: 0, or 2 with a line that says why."""
 
 import argparse
 import math
@@ -7,14 +7,16 @@ import sys
 from collections.abc import Sequence
 from concurrent.futures import ThreadPoolExecutor
 from dataclasses import replace
+from pathlib import Path
 
-from . import course, deck, files, settings
+from . import course, deck, files, listing, settings
 from .course import Course
 from .deck import NO_DECK, Deck
 from .decimals import shortest
 from .errors import Mistake, Refusal
 from .library import LibraryMissing
 from .model import Forecast, Runner
+from .page import page
 from .search import Trial, optimal_retention
 from .settings import Settings
 
@@ -41,8 +43,13 @@ def _parser() -> argparse.ArgumentParser:
     forecast.add_argument("--open", type=_positive, metavar="STREETS", help="tell the first day on which so many are held")
     forecast.add_argument("--rows", metavar="ROWS.csv", help="write a row a day")
     forecast.add_argument("--cards", metavar="CARDS.csv", help="write the streets as the drill leaves them, for the next --deck")
+    forecast.add_argument("--page", metavar="PAGE.html", help="write pictures and a table, for a browser")
     cheapest = commands.add_parser("cheapest", parents=[read], help="the retention that costs least for each street held")
     cheapest.add_argument("settings", metavar="SETTINGS.toml")
+    drawn = commands.add_parser("page", help="the page of what the program forecast printed")
+    drawn.add_argument("listings", nargs="+", metavar="LISTING.txt")
+    drawn.add_argument("--open", type=_positive, metavar="STREETS", help="mark the first day on which so many are held")
+    drawn.add_argument("--page", metavar="PAGE.html", help="default: the first listing's name with .html")
     return parser
 
 
@@ -84,6 +91,8 @@ def _forecast(options: argparse.Namespace) -> None:
             texts[options.cards] = deck.updated(known, forecasts[0].cards, given.config.learn_span)
     if options.rows:
         _add(texts, options.rows, course.rows_csv(courses[0]))
+    if options.page:
+        _add(texts, options.page, page(courses, options.open))
     files.write_all(texts)
     for drawn in courses:
         sys.stdout.write(course.summary(drawn, options.open))
@@ -113,7 +122,15 @@ def _cheapest(options: argparse.Namespace) -> None:
           f"{shortest(found.mean)} seconds for each street held ({found.rounds} rounds)")
 
 
-_COMMANDS = {"forecast": _forecast, "cheapest": _cheapest}
+def _page(options: argparse.Namespace) -> None:
+    courses = [listing.read(path) for path in options.listings]
+    path = options.page or str(Path(options.listings[0]).with_suffix(".html"))
+    files.write_all({path: page(courses, options.open)})
+    for drawn in courses:
+        sys.stdout.write(course.summary(drawn, options.open))
+
+
+_COMMANDS = {"forecast": _forecast, "cheapest": _cheapest, "page": _page}
 
 
 def main(arguments: Sequence[str] | None = None) -> int:

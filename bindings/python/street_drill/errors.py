@@ -17,6 +17,7 @@ _SENTENCES = {
     8: "the interval table is full",
     9: "a due count would fall below 0",
     10: "no retention was found within the rounds",
+    11: "a line is no form, or its name stood on an earlier line, or the input is over 32,768 bytes",
 }
 _SECONDS = {
     1: "parameter {} from 0",
@@ -25,6 +26,7 @@ _SECONDS = {
     8: "card {} from 0, of the run's",
     9: "card {} from 0, of the run's",
     10: "{} rounds done",
+    11: "line {}, 0 for the input",
 }
 
 
