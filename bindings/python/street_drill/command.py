@@ -1,24 +1,21 @@
-"""The planner's command: `python3 -m street_drill forecast|cheapest|page ..`. Exit status: 0, or 2 with a line that says why."""
+"""The planner's command: `python3 -m street_drill forecast|cheapest|page|region ..`. Exit status: 0, or 2 with a line that says why."""
 
 import argparse
 import math
 import os
 import sys
 from collections.abc import Sequence
-from concurrent.futures import ThreadPoolExecutor
-from dataclasses import replace
+from concurrent.futures import ProcessPoolExecutor
 from pathlib import Path
 
-from . import course, deck, files, listing, settings
+from . import course, deck, files, listing, region, runs, settings
 from .course import Course
-from .deck import NO_DECK, Deck
+from .deck import NO_DECK
 from .decimals import shortest
-from .errors import Mistake, Refusal
+from .errors import Mistake, Mistakes, Refusal
 from .library import LibraryMissing
-from .model import Forecast, Runner
 from .page import page
 from .search import Trial, optimal_retention
-from .settings import Settings
 
 
 def _positive(text: str) -> int:
@@ -34,9 +31,10 @@ _positive.__name__ = "whole number from 1"
 def _parser() -> argparse.ArgumentParser:
     parser = argparse.ArgumentParser(prog="street_drill", description="Forecasts a street drill.")
     commands = parser.add_subparsers(dest="command", required=True)
-    read = argparse.ArgumentParser(add_help=False)
+    made = argparse.ArgumentParser(add_help=False)
+    made.add_argument("--workers", type=_positive, default=os.cpu_count(), help="runs made at once (default: all cores)")
+    read = argparse.ArgumentParser(add_help=False, parents=[made])
     read.add_argument("--deck", metavar="DECK.csv", help="the streets known already")
-    read.add_argument("--workers", type=_positive, default=os.cpu_count(), help="runs made at once (default: all cores)")
     forecast = commands.add_parser("forecast", parents=[read], help="what the drill costs and holds each day")
     forecast.add_argument("settings", nargs="+", metavar="SETTINGS.toml")
     forecast.add_argument("--runs", type=_positive, default=1, help="seeds to forecast, from the given one on")
@@ -50,31 +48,12 @@ def _parser() -> argparse.ArgumentParser:
     drawn.add_argument("listings", nargs="+", metavar="LISTING.txt")
     drawn.add_argument("--open", type=_positive, metavar="STREETS", help="mark the first day on which so many are held")
     drawn.add_argument("--page", metavar="PAGE.html", help="default: the first listing's name with .html")
+    depots = commands.add_parser("region", parents=[made], help="a forecast of each settings file of a folder")
+    depots.add_argument("folder", metavar="DIR", help="has NAME.toml for each depot, and NAME.csv where it has a deck")
+    depots.add_argument("--open", type=_positive, metavar="STREETS", help="tell each depot's first day on which so many are held")
+    depots.add_argument("--summary", metavar="SUMMARY.csv", default="region.csv", help="a row a depot (default: region.csv)")
+    depots.add_argument("--page", metavar="PAGE.html", default="region.html", help="all depots as one (default: region.html)")
     return parser
-
-
-def _place(given: Settings, known: Deck, refusal: Refusal) -> Mistake:
-    """A refusal as a mistake: of a card by its line in the deck, of all else by the settings' name."""
-    if refusal.number == 5:
-        return Mistake(f"{known.path}: line {known.lines[refusal.second]}", str(refusal))
-    return Mistake(given.path, str(refusal))
-
-
-def _runs(given: Settings, known: Deck, runs: int, workers: int) -> list[Forecast]:
-    """Forecasts of so many seeds from the given one on. Only the first keeps its cards: the others' are not asked for."""
-    runner = Runner(given.config, given.parameters, known.cards)
-
-    def forecast(number: int) -> Forecast:
-        made = runner.forecast(given.desired_retention, (given.seed + number) % 2**64)
-        return made if number == 0 else replace(made, cards=())
-
-    try:
-        # A refusal at the entry is the same for every seed, so the first run goes before the threads.
-        first = forecast(0)
-        with ThreadPoolExecutor(workers) as threads:
-            return [first, *threads.map(forecast, range(1, runs))]
-    except Refusal as refusal:
-        raise _place(given, known, refusal) from refusal
 
 
 def _forecast(options: argparse.Namespace) -> None:
@@ -85,12 +64,12 @@ def _forecast(options: argparse.Namespace) -> None:
     courses: list[Course] = []
     texts: dict[str, str] = {}
     for given in asked:
-        forecasts = _runs(given, known, options.runs, options.workers)
-        courses.append(course.of_runs(given.name, forecasts))
+        made = runs.forecasts(given, known, options.runs, options.workers)
+        courses.append(course.of_runs(given.name, made))
         if options.cards:
-            texts[options.cards] = deck.updated(known, forecasts[0].cards, given.config.learn_span)
+            texts[options.cards] = deck.updated(known, made[0].cards, given.config.learn_span)
     if options.rows:
-        _add(texts, options.rows, course.rows_csv(courses[0]))
+        _add(texts, options.rows, course.as_csv(*course.table(courses[0])))
     if options.page:
         _add(texts, options.page, page(courses, options.open))
     files.write_all(texts)
@@ -115,7 +94,7 @@ def _cheapest(options: argparse.Namespace) -> None:
     try:
         found = optimal_retention(given.config, given.parameters, known.cards, workers=options.workers, progress=progress)
     except Refusal as refusal:
-        raise _place(given, known, refusal) from refusal
+        raise runs.placed(given, known, refusal) from refusal
     if not math.isfinite(found.mean):
         raise Mistake(given.path, "a trial held no street at its end, so no retention is the cheapest")
     print(f"{given.name}: retention {shortest(found.retention)} costs least, "
@@ -130,14 +109,33 @@ def _page(options: argparse.Namespace) -> None:
         sys.stdout.write(course.summary(drawn, options.open))
 
 
-_COMMANDS = {"forecast": _forecast, "cheapest": _cheapest, "page": _page}
+def _region(options: argparse.Namespace) -> None:
+    depots = region.read(options.folder)
+    with ProcessPoolExecutor(min(options.workers, len(depots))) as executor:
+        made = region.courses(options.folder, depots, executor)
+    mistakes = [each for each in made if isinstance(each, Mistake)]
+    if mistakes:
+        raise Mistakes(mistakes)
+    head, rows = region.rows(made, options.open)
+    whole = region.total(made)
+    texts = {options.summary: course.as_csv(head, rows)}
+    _add(texts, options.page, page([whole], tables=[("Depots", head, rows)]))
+    files.write_all(texts)
+    sys.stdout.write(course.summary(whole, None))
+
+
+_COMMANDS = {"forecast": _forecast, "cheapest": _cheapest, "page": _page, "region": _region}
 
 
 def main(arguments: Sequence[str] | None = None) -> int:
     options = _parser().parse_args(arguments)
     try:
         _COMMANDS[options.command](options)
-    except (Mistake, LibraryMissing) as error:
-        print(f"street_drill: {error}", file=sys.stderr)
+    except (Mistakes, Mistake, LibraryMissing) as error:
+        for each in error.args[0] if isinstance(error, Mistakes) else [error]:
+            print(f"street_drill: {each}", file=sys.stderr)
+        return 2
+    except MemoryError:
+        print("street_drill: there is not enough memory", file=sys.stderr)
         return 2
     return 0

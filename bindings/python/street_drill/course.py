@@ -2,7 +2,7 @@
 
   Course      columns by name, with bands where there were several runs
   of_runs     from forecasts; the first is the course, the others make the band
-  rows_csv    as CSV
+  table       a row a day; as_csv: rows as CSV
   summary     some lines for the terminal
 """
 
@@ -90,9 +90,8 @@ def table(course: Course) -> tuple[list[str], list[list[str]]]:
     return names, [[_text(value) for value in row] for row in zip(*columns)]
 
 
-def rows_csv(course: Course) -> str:
+def as_csv(head: Sequence[str], rows: Sequence[Sequence[str]]) -> str:
     out = io.StringIO()
-    head, rows = table(course)
     csv.writer(out, lineterminator="\n").writerows([head, *rows])
     return out.getvalue()
 

@@ -1,7 +1,7 @@
 """What a call or a command may be turned away with.
 
   Refusal   the library's, by the number of its table
-  Mistake   in what the planner wrote: settings, a deck, a listing, a file's name
+  Mistake   in what the planner wrote: settings, a deck, a listing, a file's name; Mistakes: several at once
 """
 
 _SENTENCES = {
@@ -63,3 +63,7 @@ class Mistake(Exception):
 
     def __str__(self) -> str:
         return f"{self.place}: {self.sentence}"
+
+
+class Mistakes(Exception):
+    """Several mistakes, of the depots of a region."""

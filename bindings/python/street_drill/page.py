@@ -14,6 +14,9 @@ from pathlib import Path
 
 from .course import Course, opening, summary, table
 
+# A name, a head and rows.
+Table = tuple[str, Sequence[str], Sequence[Sequence[str]]]
+
 _PICTURES = {
     "cost": "Time a day",
     "memorized": "Streets held in memory",
@@ -183,11 +186,10 @@ def _names(courses: Sequence[Course]) -> str:
     return f'<ul class="names">{"".join(items)}</ul>'
 
 
-def _table(course: Course) -> str:
-    head, rows = table(course)
-    cells = "".join(f"<th>{name}</th>" for name in head)
-    lines = "\n".join("<tr>" + "".join(f"<td>{text}</td>" for text in row) + "</tr>" for row in rows)
-    return (f"<h2>{escape(course.name)}</h2>\n<div class=\"scroll\"><table><thead><tr>{cells}</tr></thead>\n"
+def _table(name: str, head: Sequence[str], rows: Sequence[Sequence[str]]) -> str:
+    cells = "".join(f"<th>{title}</th>" for title in head)
+    lines = "\n".join("<tr>" + "".join(f"<td>{escape(text)}</td>" for text in row) + "</tr>" for row in rows)
+    return (f"<h2>{escape(name)}</h2>\n<div class=\"scroll\"><table><thead><tr>{cells}</tr></thead>\n"
             f"<tbody>\n{lines}\n</tbody></table></div>")
 
 
@@ -216,8 +218,9 @@ def _beside(name: str) -> str:
     return Path(__file__).with_name(name).read_text(encoding="utf-8")
 
 
-def page(courses: Sequence[Course], streets: int | None = None) -> str:
-    """The page of one or more courses; `streets` is what --open asks for."""
+def page(courses: Sequence[Course], streets: int | None = None, tables: Sequence[Table] = ()) -> str:
+    """The page of one or more courses; `streets` is what --open asks for. Without tables it has those of the courses' days."""
+    tables = tables or [(course.name, *table(course)) for course in courses]
     columns = [column for column in _PICTURES if any(column in course.columns for course in courses)]
     pictures = "\n".join(_picture(courses, column, streets) for column in columns)
     title = escape("Street drill forecast: " + ", ".join(course.name for course in courses))
@@ -229,7 +232,7 @@ def page(courses: Sequence[Course], streets: int | None = None) -> str:
         f"<pre>{escape(''.join(summary(course, streets) for course in courses))}</pre>",
         _names(courses),
         f'<div class="pictures">\n{pictures}\n</div>',
-        (band if any(course.bands for course in courses) else "") + "\n".join(map(_table, courses)),
+        (band if any(course.bands for course in courses) else "") + "\n".join(_table(*each) for each in tables),
         f'<script id="values" type="application/json">{_values(courses)}</script>',
         f"<script>\n{_beside('page.js')}</script>\n</body>\n</html>\n",
     ])
