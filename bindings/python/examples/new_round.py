@@ -1,4 +1,4 @@
-"""Prints what `target/bin/forecast < examples/new_round.txt` prints: python3 examples/new_round.py, in bindings/python."""
+"""Prints what the program `forecast` prints for examples/new_round.txt of the repository."""
 
 import struct
 import sys
@@ -8,9 +8,9 @@ sys.path.insert(0, str(Path(__file__).parents[1]))
 from street_drill import settings, simulate
 
 bits = lambda value: struct.pack(">f", value).hex().upper()
-new_round = settings.read(str(Path(__file__).with_suffix(".toml")))
-forecast = simulate(new_round.config, new_round.parameters, desired_retention=new_round.desired_retention, seed=new_round.seed)
+given = settings.read(str(Path(__file__).with_suffix(".toml")))
+forecast = simulate(given.config, given.parameters, desired_retention=given.desired_retention, seed=given.seed)
 print(f"(forecast {len(forecast.rows)} (turns {forecast.turns}) (cards {len(forecast.cards)}))")
 for number, day in enumerate(forecast.rows):
-    print(f"(day {number} (learn {day.learned}) (review {day.reviewed}) (correct {day.correct}) (introduced {day.introduced}) "
-          f"(cost {bits(day.cost)}) (held {bits(day.memorized)}))")
+    print(f"(day {number} (learn {day.learned}) (review {day.reviewed}) (correct {day.correct}) "
+          f"(introduced {day.introduced}) (cost {bits(day.cost)}) (held {bits(day.memorized)}))")

@@ -1,4 +1,7 @@
-"""The planner's command: `python3 -m street_drill forecast|cheapest|page|region ..`. Exit status: 0, or 2 with a line that says why."""
+"""The planner's command: `python3 -m street_drill forecast|cheapest|page|region ..`.
+
+Exit status: 0, or 2 with a line that says what is wrong and where.
+"""
 
 import argparse
 import math
@@ -32,27 +35,27 @@ def _parser() -> argparse.ArgumentParser:
     parser = argparse.ArgumentParser(prog="street_drill", description="Forecasts a street drill.")
     commands = parser.add_subparsers(dest="command", required=True)
     made = argparse.ArgumentParser(add_help=False)
-    made.add_argument("--workers", type=_positive, default=os.cpu_count(), help="runs made at once (default: all cores)")
+    made.add_argument("--workers", type=_positive, default=os.cpu_count(), help="runs at once (default: all cores)")
     read = argparse.ArgumentParser(add_help=False, parents=[made])
     read.add_argument("--deck", metavar="DECK.csv", help="the streets known already")
     forecast = commands.add_parser("forecast", parents=[read], help="what the drill costs and holds each day")
     forecast.add_argument("settings", nargs="+", metavar="SETTINGS.toml")
     forecast.add_argument("--runs", type=_positive, default=1, help="seeds to forecast, from the given one on")
-    forecast.add_argument("--open", type=_positive, metavar="STREETS", help="tell the first day on which so many are held")
+    forecast.add_argument("--open", type=_positive, metavar="STREETS", help="tell the first day that holds so many")
     forecast.add_argument("--rows", metavar="ROWS.csv", help="write a row a day")
-    forecast.add_argument("--cards", metavar="CARDS.csv", help="write the streets as the drill leaves them, for the next --deck")
+    forecast.add_argument("--cards", metavar="CARDS.csv", help="write the deck after the drill, for the next --deck")
     forecast.add_argument("--page", metavar="PAGE.html", help="write pictures and a table, for a browser")
-    cheapest = commands.add_parser("cheapest", parents=[read], help="the retention that costs least for each street held")
+    cheapest = commands.add_parser("cheapest", parents=[read], help="the retention that costs least for a street held")
     cheapest.add_argument("settings", metavar="SETTINGS.toml")
     drawn = commands.add_parser("page", help="the page of what the program forecast printed")
     drawn.add_argument("listings", nargs="+", metavar="LISTING.txt")
-    drawn.add_argument("--open", type=_positive, metavar="STREETS", help="mark the first day on which so many are held")
+    drawn.add_argument("--open", type=_positive, metavar="STREETS", help="mark the first day that holds so many")
     drawn.add_argument("--page", metavar="PAGE.html", help="default: the first listing's name with .html")
     depots = commands.add_parser("region", parents=[made], help="a forecast of each settings file of a folder")
     depots.add_argument("folder", metavar="DIR", help="has NAME.toml for each depot, and NAME.csv where it has a deck")
-    depots.add_argument("--open", type=_positive, metavar="STREETS", help="tell each depot's first day on which so many are held")
-    depots.add_argument("--summary", metavar="SUMMARY.csv", default="region.csv", help="a row a depot (default: region.csv)")
-    depots.add_argument("--page", metavar="PAGE.html", default="region.html", help="all depots as one (default: region.html)")
+    depots.add_argument("--open", type=_positive, metavar="STREETS", help="tell the first day that holds so many")
+    depots.add_argument("--summary", metavar="SUMMARY.csv", default="region.csv", help="a row a depot (region.csv)")
+    depots.add_argument("--page", metavar="PAGE.html", default="region.html", help="all as one (region.html)")
     return parser
 
 
@@ -84,7 +87,8 @@ def _add(texts: dict[str, str], path: str, text: str) -> None:
 
 
 def _show(trial: Trial) -> None:
-    print(f"trial {trial.number}: retention {shortest(trial.retention)}, mean {trial.mean:.2f}, {trial.seconds:.1f} s", file=sys.stderr)
+    retention = shortest(trial.retention)
+    print(f"trial {trial.number}: retention {retention}, mean {trial.mean:.2f}, {trial.seconds:.1f} s", file=sys.stderr)
 
 
 def _cheapest(options: argparse.Namespace) -> None:
@@ -92,7 +96,8 @@ def _cheapest(options: argparse.Namespace) -> None:
     known = deck.read(options.deck) if options.deck else NO_DECK
     progress = _show if sys.stderr.isatty() else None
     try:
-        found = optimal_retention(given.config, given.parameters, known.cards, workers=options.workers, progress=progress)
+        found = optimal_retention(given.config, given.parameters, known.cards,
+                                  workers=options.workers, progress=progress)
     except Refusal as refusal:
         raise runs.placed(given, known, refusal) from refusal
     if not math.isfinite(found.mean):

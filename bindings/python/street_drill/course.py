@@ -62,7 +62,8 @@ def _mean(values: Sequence[float]) -> float:
 
 def _band(runs: Sequence[Sequence[float]]) -> Band:
     days = [sorted(day) for day in zip(*runs)]
-    return Band(tuple(map(_mean, days)), tuple(percentile(day, 0.1) for day in days), tuple(percentile(day, 0.9) for day in days))
+    lows, highs = [tuple(percentile(day, share) for day in days) for share in (0.1, 0.9)]
+    return Band(tuple(map(_mean, days)), lows, highs)
 
 
 def of_runs(name: str, forecasts: Sequence[Forecast]) -> Course:

@@ -53,7 +53,8 @@ def _with_digits(value: float, digits: int) -> Decimal | None:
 
 @functools.lru_cache(maxsize=65_536)
 def _written(value: float) -> str:
-    fewest = bisect.bisect_left(range(1, _MOST_DIGITS), True, key=lambda digits: _with_digits(value, digits) is not None) + 1
+    digits = range(1, _MOST_DIGITS + 1)
+    fewest = digits[bisect.bisect_left(digits[:-1], True, key=lambda count: _with_digits(value, count) is not None)]
     written = _with_digits(value, fewest).normalize()
     return f"{written:f}" if 1e-6 <= abs(value) < 1e16 else f"{written:e}"
 

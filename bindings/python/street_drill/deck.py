@@ -1,4 +1,4 @@
-"""A deck as CSV: the fields of `Card` by name in its head, in any order, and other columns, which are carried through."""
+"""A deck as CSV: its head names the fields of `Card`, in any order, and other columns, which are carried through."""
 
 import csv
 import ctypes
@@ -107,8 +107,8 @@ def _row(head: Sequence[str], row: Sequence[str], card: Card) -> list[str]:
 def updated(deck: Deck, cards: Sequence[Card], span: int) -> str:
     """The deck after a forecast, as the next one's: its day 0 is the day after the span.
 
-    The run's cards are the kept ones in their order and then the new ones, which take the other columns of the rows that were
-    not kept, in their order; rows that no new card came for stay as they were.
+    The run's cards are the kept ones in their order and then the new ones, which take the other columns of the rows
+    that were not kept, in their order; rows that no new card came for stay as they were.
     """
     order = sorted(range(len(deck.cards)), key=lambda place: not deck.cards[place].stability > _KEPT_ABOVE)
     rows = [deck.rows[place] for place in order]

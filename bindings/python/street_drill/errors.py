@@ -8,10 +8,11 @@ _SENTENCES = {
     1: "a parameter is not finite",
     2: "deck_size is 0 or above 65,536",
     3: "learn_span is not 1 to 36,500",
-    4: "a row of weights has an entry below 0 or not finite, or a sum that is 0 or not finite; or a cost is below 0 or not finite; "
-       "or max_cost_perday is no number, max_ivl is not 1 to 36,500, the retention is not finite, or the rounds are not 1 to 64",
-    5: "an existing card has a stability, due date, last date, difficulty or retention that is not finite, a date beyond "
-       "±16,777,216, or more than 4,000,000,000 lapses",
+    4: "a row of weights has an entry below 0 or not finite, or a sum that is 0 or not finite; or a cost is below 0 or "
+       "not finite, max_cost_perday is no number, max_ivl is not 1 to 36,500, the retention is not finite, or the "
+       "rounds are not 1 to 64",
+    5: "an existing card has a stability, due date, last date, difficulty or retention that is not finite, a date "
+       "beyond ±16,777,216, or more than 4,000,000,000 lapses",
     6: "a list is too short, or two that belong together differ in length",
     7: "a chance of recall is not 0 to 1: the parameters make no sense for this card",
     8: "the interval table is full",

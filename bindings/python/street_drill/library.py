@@ -73,12 +73,14 @@ class Inputs:
     """What a run only reads, as lists of numbers: floats are rounded to f32 here.
 
     numbers: deck_size, learn_span, learn_limit, review_limit, new_cards_ignore_review_limit, suspend_after_lapses,
-    learning_step_count, relearning_step_count. tables: first_rating_prob, review_rating_prob, learning_step_transitions,
-    relearning_step_transitions, state_rating_costs, each row by row. cards: six floats each; counts: two each.
+    learning_step_count, relearning_step_count. tables: first_rating_prob, review_rating_prob,
+    learning_step_transitions, relearning_step_transitions, state_rating_costs, each row by row. cards: six floats each;
+    counts: two each.
     """
 
-    def __init__(self, parameters: Sequence[float], cards: Sequence[float], counts: Sequence[int], numbers: Sequence[int],
-                 max_cost_perday: float, max_ivl: float, tables: Sequence[Sequence[float]]) -> None:
+    def __init__(self, parameters: Sequence[float], cards: Sequence[float], counts: Sequence[int],
+                 numbers: Sequence[int], max_cost_perday: float, max_ivl: float,
+                 tables: Sequence[Sequence[float]]) -> None:
         self._lengths = len(parameters), len(cards) // 6, len(counts) // 2
         self._parameters = array("f", parameters or [0.0])
         self._cards = array("f", cards or [0.0])
@@ -91,11 +93,12 @@ class Inputs:
     def _arguments(self) -> list[float]:
         parameters, cards, counts = self._lengths
         return [*_lent(self._parameters, length=parameters), *_lent(self._cards, length=cards),
-                *_lent(self._counts, length=counts), _pointer(self._numbers), *self._amounts, *map(_pointer, self._tables)]
+                *_lent(self._counts, length=counts), _pointer(self._numbers), *self._amounts,
+                *map(_pointer, self._tables)]
 
 
 class Lists:
-    """What a run writes. A deck or a span above the limits is refused before a list is looked at, so it is given no room."""
+    """What a run writes. A deck or a span above the limits is refused before a list is looked at, so it has no room."""
 
     def __init__(self, inputs: Inputs, table: int) -> None:
         deck, span = min(inputs.deck_size, MOST_CARDS), min(inputs.learn_span, MOST_DAYS)
@@ -146,7 +149,8 @@ class Found:
 def optimal_retention(inputs: Inputs, rounds: int, lists: Lists) -> Found:
     """The whole search in one call, on one thread."""
     answer, found = _zeros("I", 3), _zeros("f", 2)
-    _library().drill_optimal_retention(*inputs._arguments(), rounds, *lists._arguments(), _pointer(answer), _pointer(found))
+    _library().drill_optimal_retention(*inputs._arguments(), rounds, *lists._arguments(),
+                                       _pointer(answer), _pointer(found))
     return Found(*answer, *found)
 
 

@@ -42,7 +42,8 @@ def of_text(path: str, text: str) -> Course:
     first, *days = text.replace("\r\n", "\n").removesuffix("\n").split("\n")
     span = _span(path, first)
     if len(days) != span:
-        raise Mistake(f"{path}: line {min(len(days), span) + 2}", f"{span} days were forecast, and {len(days)} lines follow")
+        line = min(len(days), span) + 2
+        raise Mistake(f"{path}: line {line}", f"{span} days were forecast, and {len(days)} lines follow")
     rows = [_day(path, number, line) for number, line in enumerate(days)]
     names = ("learned", "reviewed", "correct", "introduced", "cost", "memorized")
     return Course(Path(path).stem, dict(zip(names, zip(*rows))), {})

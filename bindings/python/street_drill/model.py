@@ -30,8 +30,8 @@ class SimulatorConfig:
     """How the drill goes, by the Rust's names and defaults. Floats are rounded to f32.
 
     Rows of weights and costs are by rating: again, hard, good, easy (of a review: hard, good, easy). The rows of the
-    transitions are by the rating before, those of the costs by learning, review and relearning. A limit of `NO_LIMIT` is
-    none; `suspend_after_lapses` 0 retires every card at once, and `learn_limit` 0 makes no new card.
+    transitions are by the rating before, those of the costs by learning, review and relearning. A limit of `NO_LIMIT`
+    is none; `suspend_after_lapses` 0 retires every card at once, and `learn_limit` 0 makes no new card.
     """
 
     deck_size: int = 10_000
@@ -55,7 +55,7 @@ class SimulatorConfig:
 
 
 class Card(NamedTuple):
-    """A street. Days count from the forecast's first, which is 0; `last_date` is minus infinity where it was never drilled."""
+    """A street. Days count from the forecast's first, which is 0; `last_date` is -inf before the first drill."""
 
     difficulty: float
     stability: float
@@ -80,7 +80,7 @@ class Day(NamedTuple):
 
 @dataclass(frozen=True)
 class Forecast:
-    """A run that ended. `due` counts the cards due each day, for half a span beyond the last; `draws` is the draws' state."""
+    """A run that ended. `due` counts the cards due each day, to half a span beyond; `draws` is the draws' state."""
 
     rows: tuple[Day, ...]
     due: tuple[int, ...]
@@ -103,8 +103,8 @@ def _flat(name: str, table: Iterable[Sequence[float]], rows: int, columns: int) 
 
 
 def _inputs(config: SimulatorConfig, parameters: Sequence[float], cards: Sequence[Card]) -> library.Inputs:
-    names = ["deck_size", "learn_span", "learn_limit", "review_limit", "new_cards_ignore_review_limit", "suspend_after_lapses",
-             "learning_step_count", "relearning_step_count"]
+    names = ["deck_size", "learn_span", "learn_limit", "review_limit", "new_cards_ignore_review_limit",
+             "suspend_after_lapses", "learning_step_count", "relearning_step_count"]
     tables = [_flat("first_rating_prob", [config.first_rating_prob], 1, 4),
               _flat("review_rating_prob", [config.review_rating_prob], 1, 3),
               _flat("learning_step_transitions", config.learning_step_transitions, 3, 4),
@@ -168,7 +168,7 @@ def simulate(config: SimulatorConfig, parameters: Sequence[float], cards: Sequen
              desired_retention: float = DESIRED_RETENTION, seed: int = SEED, table: int = FIRST_TABLE) -> Forecast:
     """The forecast of a drill, from 34 parameters of FSRS-7 and the streets known already.
 
-    `table` is the interval table's first length; where it is full the run is made again with a longer one. Raises `Refusal`
-    where the library turns the call away, and `ValueError` where a number does not fit its type.
+    `table` is the interval table's first length; where it is full the run is made again with a longer one. Raises
+    `Refusal` where the library turns the call away, and `ValueError` where a number does not fit its type.
     """
     return Runner(config, parameters, cards, table).forecast(desired_retention, seed)

@@ -73,7 +73,9 @@ def _mark(value: float, time: bool) -> str:
     if value < 60:
         return f"{value:g} s" if value else "0"
     minutes = round(value / 60)
-    return f"{minutes} min" if minutes < 60 else f"{minutes // 60} h {minutes % 60:02}" if minutes % 60 else f"{minutes // 60} h"
+    if minutes < 60:
+        return f"{minutes} min"
+    return f"{minutes // 60} h {minutes % 60:02}" if minutes % 60 else f"{minutes // 60} h"
 
 
 def _grid(scale: _Scale, marks: Sequence[float], time: bool) -> Iterator[str]:
@@ -162,7 +164,8 @@ def _picture(courses: Sequence[Course], column: str, streets: int | None) -> str
     parts.append(f'<line class="pointer" x1="0" x2="0" y1="{_TOP}" y2="{_BOTTOM}"/>')
     title = _PICTURES[column]
     return (f'<figure data-column="{column}"><figcaption>{title}</figcaption>'
-            f'<svg viewBox="0 0 {_WIDTH} {_HEIGHT}" role="img" aria-label="{title}">{"".join(parts)}</svg><output></output></figure>')
+            f'<svg viewBox="0 0 {_WIDTH} {_HEIGHT}" role="img" aria-label="{title}">{"".join(parts)}</svg>'
+            "<output></output></figure>")
 
 
 # ---- the page
@@ -182,7 +185,8 @@ def _names(courses: Sequence[Course]) -> str:
     for colour, course in enumerate(courses):
         line = "".join(_line(scale, (0.5, 0.5), colour))
         box = f"{_LEFT} {scale.y(0.5) - 10} {_RIGHT - _LEFT} 20"
-        items.append(f'<li><svg viewBox="{box}" preserveAspectRatio="none" aria-hidden="true">{line}</svg>{escape(course.name)}</li>')
+        items.append(f'<li><svg viewBox="{box}" preserveAspectRatio="none" aria-hidden="true">{line}</svg>'
+                     f"{escape(course.name)}</li>")
     return f'<ul class="names">{"".join(items)}</ul>'
 
 
@@ -219,7 +223,7 @@ def _beside(name: str) -> str:
 
 
 def page(courses: Sequence[Course], streets: int | None = None, tables: Sequence[Table] = ()) -> str:
-    """The page of one or more courses; `streets` is what --open asks for. Without tables it has those of the courses' days."""
+    """The page of courses; `streets` is what --open asks for. Without tables it has those of the courses' days."""
     tables = tables or [(course.name, *table(course)) for course in courses]
     columns = [column for column in _PICTURES if any(column in course.columns for course in courses)]
     pictures = "\n".join(_picture(courses, column, streets) for column in columns)

@@ -77,14 +77,14 @@ def _sum(values: Sequence[float]) -> float:
 
 def rows(depots: Sequence[Course], streets: int | None) -> tuple[list[str], list[list[str]]]:
     """The head, and a row a depot; `opens` is empty where so many streets are held on no day."""
-    head = ["depot", "days", "seconds", "busiest_day", "busiest_seconds", "introduced", "memorized", *(["opens"] if streets else [])]
-    return head, [_row(depot, streets) for depot in depots]
+    head = ["depot", "days", "seconds", "busiest_day", "busiest_seconds", "introduced", "memorized"]
+    return [*head, "opens"] if streets else head, [_row(depot, streets) for depot in depots]
 
 
 def _row(depot: Course, streets: int | None) -> list[str]:
     costs, busiest = depot.columns["cost"], course.busiest(depot)
-    row = [depot.name, str(depot.span), shortest(ctypes.c_float(_sum(costs)).value), str(busiest), shortest(costs[busiest]),
-           str(depot.columns["introduced"][-1]), shortest(depot.columns["memorized"][-1])]
+    row = [depot.name, str(depot.span), shortest(ctypes.c_float(_sum(costs)).value), str(busiest),
+           shortest(costs[busiest]), str(depot.columns["introduced"][-1]), shortest(depot.columns["memorized"][-1])]
     if streets is None:
         return row
     day = course.opening(depot, streets)

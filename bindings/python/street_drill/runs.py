@@ -3,6 +3,7 @@
 from concurrent.futures import ThreadPoolExecutor
 from dataclasses import replace
 
+from .config_check import wrong_setting
 from .deck import Deck
 from .errors import Mistake, Refusal
 from .model import Forecast, Runner
@@ -10,10 +11,11 @@ from .settings import Settings
 
 
 def placed(given: Settings, known: Deck, refusal: Refusal) -> Mistake:
-    """A refusal as a mistake: of a card by its line in the deck, of all else by the settings' name."""
+    """A refusal as a mistake: of a card by its line in the deck, of all else by the settings, and key if known."""
     if refusal.number == 5:
         return Mistake(f"{known.path}: line {known.lines[refusal.second]}", str(refusal))
-    return Mistake(given.path, str(refusal))
+    key = wrong_setting(given.config, given.desired_retention) if refusal.number == 4 else None
+    return Mistake(f"{given.path}: {key}" if key else given.path, str(refusal))
 
 
 def forecasts(given: Settings, known: Deck, runs: int, workers: int) -> list[Forecast]:

@@ -54,8 +54,8 @@ def optimal_retention(config: SimulatorConfig, parameters: Sequence[float], card
                       progress: Callable[[Trial], None] | None = None, table: int = FIRST_TABLE) -> Optimum:
     """The cheapest retention, each trial's runs on `workers` threads (all cores where it is None).
 
-    `progress` is told each trial; what it raises ends the search. Raises `Refusal` as `simulate` does, 10 where the rounds
-    were not enough.
+    `progress` is told each trial; what it raises ends the search. Raises `Refusal` as `simulate` does, 10 where the
+    rounds were not enough.
     """
     runner = Runner(config, parameters, cards, table)
     if not 1 <= rounds <= MOST_ROUNDS:

@@ -1,4 +1,4 @@
-"""Settings of a forecast, read from a TOML file: the fields of `SimulatorConfig`, and parameters, desired_retention and seed.
+"""Settings from a TOML file: the fields of `SimulatorConfig`, and parameters, desired_retention and seed.
 
 A missing key takes its default; parameters have none, which the library refuses. Each error names its key.
 """
@@ -42,7 +42,8 @@ class _Wrong(Exception):
     """A value that is not as it must be: its place below the key, and what is wrong."""
 
 
-_KINDS = {bool: "true or false", str: "a text", int: "a whole number", _Written: "a decimal number", list: "a list", dict: "a table"}
+_KINDS = {bool: "true or false", str: "a text", int: "a whole number", _Written: "a decimal number", list: "a list",
+          dict: "a table"}
 
 
 def _is(value: Any) -> str:
@@ -108,7 +109,7 @@ def _parsed(path: str, text: str) -> dict[str, Any]:
         sentence, _, place = str(error).rpartition(" (at ")
         raise Mistake(f"{path}: {place.rstrip(')')}", sentence) from error
     except (ValueError, RecursionError) as error:
-        # tomllib tells no place of a number of thousands of digits, of a date that is none, or of lists too deep in lists.
+        # tomllib tells no place of a number of thousands of digits, of a date that is none, or of lists too deep.
         raise Mistake(path, "a number is too long" if "digits" in str(error) else f"is no TOML: {error}") from error
 
 

@@ -75,8 +75,8 @@ class Command(unittest.TestCase):
         status, said, _ = run("forecast", EXAMPLE, "--deck", cards, "--cards", later)
         self.assertEqual(status, 0)
         self.assertIn("of 120 introduced", said)
-        self.assertEqual([int(row["reps"]) >= int(before["reps"]) for row, before in zip(rows_of(later), rows_of(cards), strict=True)],
-                         [True] * 120)
+        for row, before in zip(rows_of(later), rows_of(cards), strict=True):
+            self.assertGreaterEqual(int(row["reps"]), int(before["reps"]))
 
     def test_summary(self) -> None:
         held = [day.memorized for day in self.forecast(7).rows]
@@ -88,6 +88,16 @@ class Command(unittest.TestCase):
         status, said, errors = run("cheapest", EXAMPLE)
         self.assertEqual((status, errors), (0, ""))
         self.assertIn("retention 0.7 costs least, 86.59116 seconds", said)
+
+    def test_cheapest_tells_a_terminal_its_trials(self) -> None:
+        class Terminal(io.StringIO):
+            def isatty(self) -> bool:
+                return True
+
+        errors = Terminal()
+        with contextlib.redirect_stdout(io.StringIO()), contextlib.redirect_stderr(errors):
+            self.assertEqual(main(["cheapest", str(EXAMPLE)]), 0)
+        self.assertRegex(errors.getvalue(), r"^(trial \d: retention 0\.\d+, mean \d+\.\d\d, \d+\.\d s\n){4}$")
 
     def test_nothing_is_written(self) -> None:
         rows, blocked = self.folder / "rows.csv", self.folder / "no folder" / "cards.csv"
@@ -115,7 +125,8 @@ class Command(unittest.TestCase):
 
 class Processes(unittest.TestCase):
     def python(self, *arguments: object, **options) -> subprocess.CompletedProcess:
-        return subprocess.run([sys.executable, *map(str, arguments)], cwd=PACKAGE, capture_output=True, text=True, **options)
+        command = [sys.executable, *map(str, arguments)]
+        return subprocess.run(command, cwd=PACKAGE, capture_output=True, text=True, **options)
 
     def test_example_prints_the_program_s_text(self) -> None:
         self.assertEqual(self.python("examples/new_round.py").stdout, printed("forecast", LISTING))
@@ -126,7 +137,8 @@ class Processes(unittest.TestCase):
         self.assertEqual((wrong.returncode, wrong.stdout, len(wrong.stderr.splitlines())), (2, "", 1))
 
     def test_no_library(self) -> None:
-        missing = self.python("-m", "street_drill", "forecast", EXAMPLE, env={**os.environ, "STREET_DRILL_LIBRARY": "/none.so"})
+        elsewhere = {**os.environ, "STREET_DRILL_LIBRARY": "/none.so"}
+        missing = self.python("-m", "street_drill", "forecast", EXAMPLE, env=elsewhere)
         self.assertEqual((missing.returncode, len(missing.stderr.splitlines())), (2, 1))
         self.assertIn("bindings/python/build", missing.stderr)
 

@@ -33,7 +33,7 @@ class Decimals(unittest.TestCase):
                 exact(text)
 
     def test_written_short(self) -> None:
-        for text in ["0.9", "0.1", "1800", "36500", "0.0001", "16777216", "-0", "0", "inf", "-inf", "nan", "1e-45", "3e+38"]:
+        for text in ["0.9", "0.1", "1800", "36500", "0.0001", "16777216", "-0", "0", "inf", "-inf", "1e-45", "3e+38"]:
             self.assertEqual(shortest(nearest(exact(text))), text)
 
     def test_written_reads_back(self) -> None:

@@ -44,7 +44,8 @@ class Runs(unittest.TestCase):
         self.assertEqual(simulate(ROUND, PARAMETERS, table=3), forecast)
 
     def test_same_on_threads(self) -> None:
-        self.assertEqual(optimal_retention(SMALL, PARAMETERS, workers=1), optimal_retention(SMALL, PARAMETERS, workers=4))
+        found = [optimal_retention(SMALL, PARAMETERS, workers=workers) for workers in (1, 4)]
+        self.assertEqual(found[0], found[1])
 
 
 class Refusals(unittest.TestCase):
@@ -71,9 +72,9 @@ class Refusals(unittest.TestCase):
             self.assertEqual(refusal_of(lambda: optimal_retention(SMALL, [], rounds=rounds)), (1, 34))
 
     def test_numbers_that_do_not_fit(self) -> None:
-        for config in [replace(SMALL, deck_size=-1), replace(SMALL, learn_limit=2**32), replace(SMALL, first_rating_prob=(1.0,))]:
+        for field, value in [("deck_size", -1), ("learn_limit", 2**32), ("first_rating_prob", (1.0,))]:
             with self.assertRaises(ValueError):
-                simulate(config, PARAMETERS)
+                simulate(replace(SMALL, **{field: value}), PARAMETERS)
         with self.assertRaises(ValueError):
             simulate(SMALL, PARAMETERS, seed=2**64)
 

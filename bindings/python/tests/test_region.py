@@ -25,11 +25,13 @@ class Region(unittest.TestCase):
         self.depots = self.out / "depots"
         self.depots.mkdir()
         for number, span in enumerate([30, 20, 30]):
-            (self.depots / f"depot {number}.toml").write_text(EXAMPLE.replace("learn_span = 30", f"learn_span = {span}"))
+            text = EXAMPLE.replace("learn_span = 30", f"learn_span = {span}")
+            (self.depots / f"depot {number}.toml").write_text(text)
         (self.depots / "depot 1.csv").write_bytes(damage.DECK)
 
     def region(self, name: str, *options: object) -> tuple[int, str, str]:
-        return run("region", self.depots, "--summary", self.out / f"{name}.csv", "--page", self.out / f"{name}.html", *options)
+        outputs = ["--summary", self.out / f"{name}.csv", "--page", self.out / f"{name}.html"]
+        return run("region", self.depots, *outputs, *options)
 
     def test_rows(self) -> None:
         self.assertEqual(self.region("a", "--open", 100)[0], 0)

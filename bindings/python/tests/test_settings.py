@@ -19,14 +19,16 @@ def mistake_of(text: str) -> str:
 class Reading(unittest.TestCase):
     def test_defaults(self) -> None:
         given = of_text("s.toml", "")
-        self.assertEqual((given.config, given.parameters, given.desired_retention, given.seed), (SimulatorConfig(), (), 0.9, 42))
+        self.assertEqual((given.config, given.parameters), (SimulatorConfig(), ()))
+        self.assertEqual((given.desired_retention, given.seed), (0.9, 42))
 
     def test_example(self) -> None:
         text = (PACKAGE / "examples" / "new_round.toml").read_text()
         self.assertEqual(list(of_text("s.toml", text).parameters), PARAMETERS)
 
     def test_numbers(self) -> None:
-        given = of_text("s.toml", "max_cost_perday = 600\nmax_ivl = 1_000.5\nseed = 18446744073709551615\ndesired_retention = 0.85")
+        lines = ["max_cost_perday = 600", "max_ivl = 1_000.5", f"seed = {2**64 - 1}", "desired_retention = 0.85"]
+        given = of_text("s.toml", "\n".join(lines))
         self.assertEqual((given.config.max_cost_perday, given.config.max_ivl, given.seed), (600.0, 1000.5, 2**64 - 1))
         self.assertEqual(given.desired_retention, 14260634 / 2**24)
 
@@ -42,7 +44,7 @@ class Reading(unittest.TestCase):
             "max_ivl = 1e99999999999999999999": "s.toml: max_ivl: has an exponent",
             "max_ivl = 2020-01-01": "s.toml: max_ivl: must be a number and is a date",
             "first_rating_prob = [1, 2, 3]": "s.toml: first_rating_prob: must have 4 entries and has 3",
-            "state_rating_costs = [[1, 2, 3, 4], [1, 2, 3, 'x'], [1, 2, 3, 4]]": "s.toml: state_rating_costs[1][3]: must be a number",
+            "state_rating_costs = [[1, 2, 3, 4], [1, 2, 3, ''], [1, 2, 3, 4]]": "s.toml: state_rating_costs[1][3]: ",
             "parameters = [0.5, []]": "s.toml: parameters[1]: must be a number and is a list",
             "[deck_size]": "s.toml: deck_size: must be a whole number and is a table",
             "seed = 1\nseed = 2\nreps = 3": "s.toml: line 2, column",
