@@ -75,7 +75,9 @@ def _forecast(options: argparse.Namespace) -> None:
         _add(texts, options.rows, course.as_csv(*course.table(courses[0])))
     if options.page:
         _add(texts, options.page, page(courses, options.open))
-    files.write_all(texts)
+    # The deck may be followed by its next one under the same name.
+    sources = [*options.settings, *([options.deck] if options.deck and options.deck != options.cards else [])]
+    files.write_all(texts, sources)
     for drawn in courses:
         sys.stdout.write(course.summary(drawn, options.open))
 
@@ -109,7 +111,7 @@ def _cheapest(options: argparse.Namespace) -> None:
 def _page(options: argparse.Namespace) -> None:
     courses = [listing.read(path) for path in options.listings]
     path = options.page or str(Path(options.listings[0]).with_suffix(".html"))
-    files.write_all({path: page(courses, options.open)})
+    files.write_all({path: page(courses, options.open)}, options.listings)
     for drawn in courses:
         sys.stdout.write(course.summary(drawn, options.open))
 
@@ -125,7 +127,7 @@ def _region(options: argparse.Namespace) -> None:
     whole = region.total(made)
     texts = {options.summary: course.as_csv(head, rows)}
     _add(texts, options.page, page([whole], tables=[("Depots", head, rows)]))
-    files.write_all(texts)
+    files.write_all(texts, [path for depot in depots for path in (depot.path, depot.deck_path)])
     sys.stdout.write(course.summary(whole, None))
 
 

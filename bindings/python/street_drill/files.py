@@ -2,7 +2,7 @@
 
 import contextlib
 import os
-from collections.abc import Mapping
+from collections.abc import Iterable, Mapping
 
 from .errors import Mistake
 
@@ -49,12 +49,15 @@ def _write_beside(path: str, text: str) -> str:
     return beside
 
 
-def write_all(texts: Mapping[str, str]) -> None:
-    """Writes each text to its path. No path is touched before all texts lie on the disk."""
+def write_all(texts: Mapping[str, str], sources: Iterable[str] = ()) -> None:
+    """Writes each text to its path. No path is touched before all texts lie on the disk, and none of the sources is."""
+    kept = {os.path.realpath(source) for source in sources}
     written: list[tuple[str, str]] = []
     try:
         for path, text in texts.items():
             real = _destination(path)
+            if real in kept:
+                raise Mistake(path, "was read, and is not written over")
             if real in [other for _, other in written]:
                 raise Mistake(path, "is named for two files")
             written.append((_write_beside(real, text), real))

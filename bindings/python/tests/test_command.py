@@ -2,12 +2,14 @@
 
 import contextlib
 import csv
+import errno
 import io
 import os
 import subprocess
 import sys
 import tempfile
 import unittest
+import unittest.mock
 from pathlib import Path
 
 from street_drill import settings, simulate
@@ -106,6 +108,26 @@ class Command(unittest.TestCase):
             self.assertEqual((status, said, os.listdir(self.folder)), (2, "", []), other)
             self.assertTrue(errors.startswith("street_drill: "))
             self.assertTrue(os.path.exists("/dev/null") and not os.path.isfile("/dev/null"))
+
+    def test_sources_are_not_written_over(self) -> None:
+        deck, own = self.folder / "deck.csv", self.folder / "own.toml"
+        deck.write_bytes(damage.DECK)
+        own.write_bytes(EXAMPLE.read_bytes())
+        for option, path in [("--rows", own), ("--page", deck), ("--rows", deck)]:
+            errors = run("forecast", own, "--deck", deck, option, path)[2]
+            self.assertIn(f"{path.name}: was read, and is not written over", errors)
+        self.assertEqual((deck.read_bytes(), own.read_bytes()), (damage.DECK, EXAMPLE.read_bytes()))
+        self.assertEqual(run("forecast", own, "--deck", deck, "--cards", deck)[0], 0)
+        self.assertEqual(len(rows_of(deck)), 120)
+
+    def test_full_disk(self) -> None:
+        rows, page = self.folder / "rows.csv", self.folder / "page.html"
+        rows.write_text("before")
+        full = [None, OSError(errno.ENOSPC, "No space left on device")]
+        with unittest.mock.patch("os.fsync", side_effect=full):
+            errors = run("forecast", EXAMPLE, "--rows", rows, "--page", page)[2]
+        self.assertEqual(errors, f"street_drill: {page}: No space left on device\n")
+        self.assertEqual((os.listdir(self.folder), rows.read_text()), (["rows.csv"], "before"))
 
     def test_missing_files(self) -> None:
         self.assertEqual(run("forecast", "none.toml"), (2, "", "street_drill: none.toml: No such file or directory\n"))
