@@ -47,7 +47,8 @@ class Decimals(unittest.TestCase):
                 self.assertEqual(bits_of(nearest(exact(text))), f"{pattern:08X}", text)
 
     def test_fewest_at_a_power_of_two(self) -> None:
-        # Of eight digits the nearest to 2^-44 does not read back, and the next above does.
+        # Of eight digits the nearest to 2^90, 1.2379400e+27, does not read back, and the next above does.
+        self.assertEqual(shortest(2.0**90), "1.2379401e+27")
         for exponent in range(-126, 128):
             value = 2.0**exponent
             digits = len(shortest(value).split("e")[0].replace(".", "").strip("0"))
