@@ -1,0 +1,91 @@
+"""A region: a folder with a settings file for each depot, NAME.toml, and its deck NAME.csv where there is one.
+
+  read      the folder's files
+  courses   the forecast of each, on several processes
+  total     all depots as one course
+  rows      a row a depot
+"""
+
+import ctypes
+import math
+from collections.abc import Sequence
+from concurrent.futures import BrokenExecutor, Executor
+from dataclasses import dataclass
+from pathlib import Path
+
+from . import course, deck, files, runs, settings
+from .course import COLUMNS, Course
+from .decimals import shortest
+from .errors import Mistake
+
+
+@dataclass(frozen=True)
+class Depot:
+    """A depot's files as texts, so that a worker needs none of the files itself."""
+
+    path: str
+    settings: str
+    deck_path: str
+    deck: str | None
+
+
+def read(folder: str) -> list[Depot]:
+    """The depots in the order of their names."""
+    depots = []
+    for path in sorted(Path(folder).glob("*.toml")):
+        beside = path.with_suffix(".csv")
+        known = files.read(str(beside)) if beside.exists() else None
+        depots.append(Depot(str(path), files.read(str(path)), str(beside), known))
+    if not depots:
+        raise Mistake(folder, "has no settings file, NAME.toml")
+    return depots
+
+
+def _course(depot: Depot) -> Course | Mistake:
+    # A mistake is given back and not raised, so that one depot's does not hide the others'.
+    try:
+        given = settings.of_text(depot.path, depot.settings)
+        known = deck.NO_DECK if depot.deck is None else deck.of_text(depot.deck_path, depot.deck)
+        return course.of_runs(given.name, runs.forecasts(given, known, 1, 1))
+    except Mistake as mistake:
+        return mistake
+
+
+def courses(folder: str, depots: Sequence[Depot], executor: Executor) -> list[Course | Mistake]:
+    """The forecast of each depot, in their order. The executor may be of any kind that `concurrent.futures` knows."""
+    try:
+        return list(executor.map(_course, depots))
+    except BrokenExecutor as error:
+        raise Mistake(folder, "a worker ended before its forecast") from error
+
+
+def total(depots: Sequence[Course]) -> Course:
+    """Each day's sum over the depots whose span has that day."""
+    days = max(depot.span for depot in depots)
+
+    def sums(column: str) -> tuple[float, ...]:
+        values = [[depot.columns[column][day] for depot in depots if day < depot.span] for day in range(days)]
+        # Counts stay whole numbers; fsum rounds once, whatever the order.
+        return tuple(sum(day) if all(isinstance(value, int) for value in day) else _sum(day) for day in values)
+
+    return Course(f"region of {len(depots)} depots", {column: sums(column) for column in COLUMNS}, {})
+
+
+def _sum(values: Sequence[float]) -> float:
+    return math.fsum(values) if all(map(math.isfinite, values)) else sum(values)
+
+
+def rows(depots: Sequence[Course], streets: int | None) -> tuple[list[str], list[list[str]]]:
+    """The head, and a row a depot; `opens` is empty where so many streets are held on no day."""
+    head = ["depot", "days", "seconds", "busiest_day", "busiest_seconds", "introduced", "memorized"]
+    return [*head, "opens"] if streets else head, [_row(depot, streets) for depot in depots]
+
+
+def _row(depot: Course, streets: int | None) -> list[str]:
+    costs, busiest = depot.columns["cost"], course.busiest(depot)
+    row = [depot.name, str(depot.span), shortest(ctypes.c_float(_sum(costs)).value), str(busiest),
+           shortest(costs[busiest]), str(depot.columns["introduced"][-1]), shortest(depot.columns["memorized"][-1])]
+    if streets is None:
+        return row
+    day = course.opening(depot, streets)
+    return [*row, "" if day is None else str(day)]
