@@ -1,4 +1,5 @@
 -- `retention::sizes::factor_of` meets its contract.
+use lib.Ieee.{ofBits, ofFields, round}
 use borrow.Author.Needs.{needs}
 use Rattle.retention.specs.SampleSize.{factorOf}
 use Rattle.retention.proofs.sizes.factor_of.Statement.{statement}
@@ -11,7 +12,7 @@ mul-add-requires : tie.Need-mul-add-requires
 mul-add-requires c κs = search needs
 
 returns : tie.Need-returns
-unfolding factorOf
+unfolding factorOf ofBits ofFields round
 returns c = rw (c .mul-add .ensures, c .before .powf-f32 .ensures .0)
 
 pub factor-of-spec : {M : Type 1} → statement M

@@ -1,4 +1,5 @@
 -- `retention::sizes::sampled_by` meets its contract.
+use lib.Ieee.{ofBits, ofFields, round}
 use borrow.Author.Needs.{needs}
 use Rattle.retention.specs.SampleSize.{sampledBy}
 use Rattle.retention.proofs.sizes.sampled_by.Statement.{statement}
@@ -14,7 +15,7 @@ to-u32-requires : tie.Need-to-u32-requires
 to-u32-requires c κs = search needs
 
 returns : tie.Need-returns
-unfolding sampledBy
+unfolding sampledBy ofBits ofFields round
 returns c = rw (c .to-u32 .ensures, c .before .round .ensures, c .before .before .factor-of .ensures)
 
 pub sampled-by-spec : {M : Type 1} → statement M
