@@ -59,7 +59,7 @@ passes false r next e = (refl, e)
 
 lists-and-span : (ok : Bool) (i : Inputs) (s : State Float) → checkedWith ok i s ≡ check.Passed
     → (listsOk i s ≡ true) × (0 < i .config .«learn_span»)
-unfolding checkedWith checkParameters
+unfolding checkSettings checkParameters
 lists-and-span ok i s e =
     let w = i .parameters in
     let g = i .config in
