@@ -23,7 +23,7 @@ use Rattle.simulation.specs.declared.Answer.{Answer}
 use Rattle.simulation.specs.declared.Answer.the-variants as answer
 use Rattle.simulation.specs.Refusals.{numberOf, secondOf}
 use Rattle.simulation.specs.State.{mostCards, mostDays}
-use Rattle.simulation.specs.Entry.{firstWhere, listsOk, checkFirst, checkedWith, checked}
+use Rattle.simulation.specs.Entry.{firstWhere, lengthsOk, listsOk, checkFirst, checkSettings, checked}
 use Rattle.simulation.specs.Simulate.{simulatedBy}
 use Rattle.forecast_text.specs.Settings.{mostDeck, mostSpan, within, configOf, inputsOf, defaultSettings}
 use Rattle.forecast_text.specs.Forecast.{lists, lentLists, runWith, forecastRun, room, answerText, runText}

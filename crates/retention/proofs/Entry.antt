@@ -26,7 +26,7 @@ use Rattle.simulation.specs.declared.Answer.{Answer}
 use Rattle.simulation.specs.declared.Progress.{Progress}
 use Rattle.simulation.specs.declared.Answer.the-variants as answer
 use Rattle.simulation.specs.State.{State, Lent, state, listsOf}
-use Rattle.simulation.specs.Entry.{Inputs, inputs, listsOk, checkedWith, checked}
+use Rattle.simulation.specs.Entry.{Inputs, inputs, lengthsOk, listsOk, checkSettings, checkedWith, checked}
 use Rattle.simulation.specs.Refusals.{numberOf}
 use Rattle.simulation.specs.Frame.{SameLengths}
 use Rattle.simulation.specs.Simulate.{Result, simulated}
