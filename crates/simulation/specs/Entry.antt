@@ -2,6 +2,7 @@
 --   Inputs, inputs, withParameters   what a run is given besides the lists that it writes
 --   firstWhere p n i                 the first number that passes a test
 --   checkParameters, lengthsOk, listsOk, checkFirst   refusals 1, 6 and 5
+--   shortList g n m x                which list refusal 6 is about
 --   checkSettings ok lists w g n next   all tests before 5, with ok among those of refusal 4
 --   checkEntry ok i x, checkedWith ok i s   all tests, in their order, by the lists' lengths
 --   checked i s                      those of a run
@@ -98,6 +99,22 @@ lengthsOk g n m x =
     && (leb span (x .costs)
     && (leb span (x .memorized)
     && leb (dueDays span) (x .due))))))))
+
+-- which list is the first that fails 6, by its number in the order of the tests; 0 where none does (`lists-told`,
+-- proofs/entry/Settings)
+unfoldable pub shortList : SimulatorConfig → ℕ → ℕ → Lengths → ℕ
+shortList g n m x =
+    let deck = g .«deck_size» in
+    let span = g .«learn_span» in
+    cond (not (eqb n m)) 1
+    (cond (not (eqb (x .keys) (x .intervals))) 2
+    (cond (not (eqb (x .cards) (x .counts))) 3
+    (cond (not (leb deck (x .cards))) 4
+    (cond (not (leb deck (x .rows))) 5
+    (cond (not (leb span (x .days))) 6
+    (cond (not (leb span (x .costs))) 7
+    (cond (not (leb span (x .memorized))) 8
+    (cond (not (leb (dueDays span) (x .due))) 9 0))))))))
 
 abbrev pub listsOk : {C : Type 0} → Inputs → State C → Bool
 listsOk i s = lengthsOk (i .config) (length (i .existing)) (length (i .existing-counts)) (lengthsOf s)

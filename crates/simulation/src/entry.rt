@@ -5,7 +5,7 @@ use super::Refusal;
 use cards::Card;
 use cards::SimulatorConfig;
 ghost use mathlib.Core.Path.{_≡_};
-ghost use mathlib.Core.Bool.{not, _&&_};
+ghost use mathlib.Core.Bool.{not, cond, _&&_};
 ghost use Prim.Native.Nat.{_+_, _/_};
 ghost use mathlib.Core.List.{List};
 ghost use lib.ListN.{getD};
@@ -14,7 +14,7 @@ ghost use Rattle.float32.specs.Numbers.{0ᶠ};
 ghost use Rattle.cards.specs.Cards.{isKept, cardOk};
 ghost use Rattle.simulation.specs.State.{lent, state};
 ghost use Rattle.simulation.specs.declared.Check.the-variants as check;
-ghost use Rattle.simulation.specs.Entry.{inputs, firstWhere, notFinite, notOk, failIf, checkParameters, lengthsOk, checkFirst, checkSettings, checkEntry};
+ghost use Rattle.simulation.specs.Entry.{inputs, firstWhere, notFinite, notOk, failIf, checkParameters, lengthsOk, shortList, checkFirst, checkSettings, checkEntry};
 
 fn parameter(w: &[f32], i: u32) -> f32
     ensures { λ r. ⌜ r ≡ getD (now (w .entry)) i nan ⌝ }
@@ -103,6 +103,34 @@ pub fn lists_ok(
         & ((span <= x.costs) & ((span <= x.memorized) & (due_days(config.learn_span) <= x.due)));
     let cards_long = (deck <= x.cards) & ((deck <= x.rows) & days_long);
     (existing == existing_counts) & ((x.keys == x.intervals) & ((x.cards == x.counts) & cards_long))
+}
+
+fn number_if(test: bool, number: u32, next: u32) -> u32
+    ensures { λ r. ⌜ r ≡ cond test number next ⌝ }
+{
+    if test { number } else { next }
+}
+
+// Which list refusal 6 is about, for callers who would know; 0 where it is about none.
+pub fn short_list(
+    config: SimulatorConfig,
+    existing: usize,
+    existing_counts: usize,
+    x: Lengths,
+) -> u32
+    ensures { λ r. ⌜ r ≡ shortList config existing «existing_counts» x ⌝ }
+{
+    let deck = config.deck_size as usize;
+    let span = config.learn_span as usize;
+    let due = number_if(!(due_days(config.learn_span) <= x.due), 9, 0);
+    let memorized = number_if(!(span <= x.memorized), 8, due);
+    let costs = number_if(!(span <= x.costs), 7, memorized);
+    let days = number_if(!(span <= x.days), 6, costs);
+    let rows = number_if(!(deck <= x.rows), 5, days);
+    let cards = number_if(!(deck <= x.cards), 4, rows);
+    let counts = number_if(!(x.cards == x.counts), 3, cards);
+    let intervals = number_if(!(x.keys == x.intervals), 2, counts);
+    number_if(!(existing == existing_counts), 1, intervals)
 }
 
 // The tests before that of the cards, of n existing ones; `setting_ok` is the test of what a run and a search each have of their own,

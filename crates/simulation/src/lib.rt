@@ -13,6 +13,7 @@ mod turn;
 pub use entry::check_entry;
 pub use entry::check_settings;
 pub use entry::lists_ok;
+pub use entry::short_list;
 
 // Why a call is turned away; `refusals::number_of` and `second_of` give the numbers of each.
 pub enum Refusal {

@@ -3,26 +3,30 @@
 --   settings-on       the tests of the settings are so
 --   settings-pass, settings-fail   what passes with nothing behind it, and what fails
 --   settings-few      the existing cards of a call that passes
+--   lists-told        refusal 6 is about no list exactly where the lists pass
 use mathlib.Core.Path.{_≡_, refl, sym, _∙_}
-use mathlib.Core.Bool.{Bool, true, false, not, _||_, _&&_}
+use mathlib.Core.Bool.{Bool, true, false, not, cond, _||_, _&&_}
 use mathlib.Core.List.{List, [], _∷_}
-use Prim.Native.Nat.{ℕ, _≤_}
+use Prim.Native.Nat.{ℕ, suc, _≤_}
 use native.Mathlib.Omega.{arith}
-use borrow.Author.Tests.{ltb-false}
+use borrow.Author.Tests.{ltb-false, ne-eqb}
 use types.Run.{OneOf}
 use denote.Enum.Declared.{tagOf}
-use lib.Dec.{eqb, ltb}
+use lib.Dec.{eqb, leb, ltb}
 use lib.ListN.{length}
 use lib.Ieee.{Float}
 use Rattle.cards.specs.declared.SimulatorConfig.{SimulatorConfig}
 use Rattle.cards.specs.Config.{configOk}
+use Rattle.days.specs.Due.{dueDays}
 use Rattle.simulation.proofs.Check as check-type
 use Rattle.simulation.specs.declared.Refusal.{Refusal}
 use Rattle.simulation.specs.declared.Refusal.the-variants as refusal
 use Rattle.simulation.specs.declared.Check.{Check}
 use Rattle.simulation.specs.declared.Check.the-variants as check
+use Rattle.simulation.specs.declared.Lengths.{Lengths}
 use Rattle.simulation.specs.State.{mostCards, mostDays}
-use Rattle.simulation.specs.Entry.{firstWhere, notFinite, failIf, checkParameters, checkSettings}
+use Rattle.simulation.specs.Entry.{firstWhere, notFinite, failIf, checkParameters, lengthsOk}
+use Rattle.simulation.specs.Entry.{shortList, checkSettings}
 use Rattle.turns.proofs.Logic.{not-one, neither}
 use Rattle.simulation.proofs.entry.Accepted.{passes}
 
@@ -88,3 +92,26 @@ module _ (ok lists : Bool) (w : List Float) (g : SimulatorConfig) (n : ℕ) wher
       let p₇ = passes (ltb (g .«deck_size») n) _ _ (p₆ .1) in
       let deck = ltb-false mostCards (g .«deck_size») (neither (eqb (g .«deck_size») 0) _ (p₃ .0) .1) in
       omega (arith, deck, ltb-false (g .«deck_size») n (p₇ .0))
+
+told : (b : Bool) (k : ℕ) {rest : Bool} (n : ℕ) → rest ≡ eqb n 0 → (b && rest) ≡ eqb (cond (not b) (suc k) n) 0
+told true k n e = e
+told false k n e = sym (ne-eqb (suc k) 0 (λ z. omega (arith, z)))
+
+pub lists-told : (g : SimulatorConfig) (n m : ℕ) (x : Lengths) → lengthsOk g n m x ≡ eqb (shortList g n m x) 0
+unfolding lengthsOk shortList
+lists-told g n m x =
+    let deck = g .«deck_size» in
+    let span = g .«learn_span» in
+    told (eqb n m) 0 _
+    (told (eqb (x .keys) (x .intervals)) 1 _
+    (told (eqb (x .cards) (x .counts)) 2 _
+    (told (leb deck (x .cards)) 3 _
+    (told (leb deck (x .rows)) 4 _
+    (told (leb span (x .days)) 5 _
+    (told (leb span (x .costs)) 6 _
+    (told (leb span (x .memorized)) 7 _
+    (last (leb (dueDays span) (x .due))))))))))
+  where
+    last : (b : Bool) → b ≡ eqb (cond (not b) 9 0) 0
+    last true = refl
+    last false = refl
