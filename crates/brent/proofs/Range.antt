@@ -494,7 +494,18 @@ rMax-at = (refl, refl)
 pub begun-ranged : (mean : Float) → Ranged (begun mean)
 unfolding begun
 begun-ranged mean =
-    record { i = kMin; k = kMin; j = kMax; A = rMin-at; X = rMin-at; B = rMax-at; low = omega arith; ik = omega arith; kj = omega arith; high = omega arith }
+    record {
+      i = kMin;
+      k = kMin;
+      j = kMax;
+      A = rMin-at;
+      X = rMin-at;
+      B = rMax-at;
+      low = omega arith;
+      ik = omega arith;
+      kj = omega arith;
+      high = omega arith;
+    }
 
 both : (a b : Bool) → T a → T b → T (a && b)
 both true b p q = q

@@ -7,7 +7,8 @@ ghost use Prim.Native.Nat.{_<_};
 ghost use Rattle.brent.specs.Step as Step;
 ghost use Rattle.brent.specs.Stepping as Stepping;
 
-// The ends a and b, the best retention x, the two before it, w and v, their means, the last two moves, and the rounds done.
+// The ends a and b, the best retention x, the two before it, w and v, their means, the last two moves, and the rounds
+// done.
 #[repr(C)]
 pub struct Brent {
     pub a: f32,

@@ -1,6 +1,7 @@
 -- A run's answer as numbers. Definitions only.
 --   listIn         the list that refusal 6 is about, 0 for any other refusal
---   numbersOf      the refusal's number and second number, 0 and 0 where there is none, its list, and how far the run came
+--   numbersOf      the refusal's number and second number, 0 and 0 where there is none, its list, and how far the run
+--   came
 --   CallContract   what `drill_simulate` promises
 use Prim.Native.Nat.{ℕ}
 use mathlib.Core.Bool.{cond}

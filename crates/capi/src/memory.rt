@@ -94,7 +94,8 @@ pub extern "C" fn drill_forgetting_curve_and_derivative(
     derivative: &mut f32,
 ) -> f32
     ensures { λ r. ⌜ r ≡ Model.solverRetention (Model.curveOf (now (w .entry)) (stateOf stability difficulty fast)) t ⌝ }
-    ensures { λ _. ⌜ now (derivative .exit) ≡ Model.derivative (Model.curveOf (now (w .entry)) (stateOf stability difficulty fast)) t ⌝ }
+    ensures { λ _. ⌜ now (derivative .exit)
+        ≡ Model.derivative (Model.curveOf (now (w .entry)) (stateOf stability difficulty fast)) t ⌝ }
 {
     let slope = Fsrs7Runtime::new(w)
         .curve_for_state(state_of(stability, difficulty, fast))
@@ -111,7 +112,8 @@ pub extern "C" fn drill_next_interval_bisection(
     fast: f32,
     desired: f32,
 ) -> f32
-    ensures { λ r. ⌜ r ≡ Model.nextIntervalBisection (Model.curveOf (now (w .entry))) (stateOf stability difficulty fast) desired ⌝ }
+    ensures { λ r. ⌜ r ≡ Model.nextIntervalBisection (Model.curveOf (now (w .entry)))
+        (stateOf stability difficulty fast) desired ⌝ }
 {
     Fsrs7Runtime::new(w).next_interval_bisection(state_of(stability, difficulty, fast), desired)
 }
@@ -124,7 +126,8 @@ pub extern "C" fn drill_next_interval_for_state(
     fast: f32,
     desired: f32,
 ) -> f32
-    ensures { λ r. ⌜ r ≡ Model.nextIntervalForState (Model.curveOf (now (w .entry))) (stateOf stability difficulty fast) desired ⌝ }
+    ensures { λ r. ⌜ r ≡ Model.nextIntervalForState (Model.curveOf (now (w .entry))) (stateOf stability difficulty fast)
+        desired ⌝ }
 {
     Fsrs7Runtime::new(w).next_interval_for_state(state_of(stability, difficulty, fast), desired)
 }

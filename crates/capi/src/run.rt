@@ -9,7 +9,8 @@ ghost use Rattle.simulation.specs.Entry.{inputs};
 ghost use Rattle.capi.specs.Answer.{listIn, numbersFrom, numbersOf, CallContract};
 ghost use mathlib.Core.Path.{_≡_};
 
-// An answer as numbers: the refusal's number, 0 where the run ended, its second number and, for 6, its list; how far the run came.
+// An answer as numbers: the refusal's number, 0 where the run ended, its second number and, for 6, its list; how far
+// the run came.
 #[repr(C)]
 pub struct RunNumbers {
     pub refusal: u32,
@@ -74,10 +75,14 @@ pub extern "C" fn drill_simulate(
     intervals: &mut [f32],
 ) -> RunNumbers
     ensures { λ r. ⌜ CallContract
-        (inputs config (now (parameters .entry)) «desired_retention» seed (now (existing .entry)) (now («existing_counts» .entry)))
-        (state (lent (now (cards .entry)) (now (counts .entry)) (now (queue .entry)) (now (days .entry)) (now (costs .entry)) (now (memorized .entry)) (now (due .entry)) (now (keys .entry)) (now (intervals .entry))) 0 seed)
+        (inputs config (now (parameters .entry)) «desired_retention» seed (now (existing .entry))
+        (now («existing_counts» .entry)))
+        (state (lent (now (cards .entry)) (now (counts .entry)) (now (queue .entry)) (now (days .entry))
+        (now (costs .entry)) (now (memorized .entry)) (now (due .entry)) (now (keys .entry))
+        (now (intervals .entry))) 0 seed)
         r
-        (lent (now (cards .exit)) (now (counts .exit)) (now (queue .exit)) (now (days .exit)) (now (costs .exit)) (now (memorized .exit)) (now (due .exit)) (now (keys .exit)) (now (intervals .exit))) ⌝ }
+        (lent (now (cards .exit)) (now (counts .exit)) (now (queue .exit)) (now (days .exit)) (now (costs .exit))
+        (now (memorized .exit)) (now (due .exit)) (now (keys .exit)) (now (intervals .exit))) ⌝ }
 {
     let lengths = Lengths {
         cards: cards.len(),

@@ -13,8 +13,8 @@ ghost use Rattle.retention.specs.SampleSize.{sampleSize};
 ghost use Rattle.retention.specs.Trials.{searchInputs, total, target, meanOf};
 ghost use Rattle.capi.specs.Search.{numbersOf, numbersFrom, SearchCall, asked, verdictNumber};
 
-// An answer as numbers: the refusal's number, 0 where a retention was found, its second number and, for 6, its list; the rounds done,
-// the retention and its mean, 0 where none was found.
+// An answer as numbers: the refusal's number, 0 where a retention was found, its second number and, for 6, its list;
+// the rounds done, the retention and its mean, 0 where none was found.
 #[repr(C)]
 pub struct SearchNumbers {
     pub refusal: u32,
@@ -80,9 +80,11 @@ pub extern "C" fn drill_optimal_retention(
 ) -> SearchNumbers
     ensures { λ r. ⌜ SearchCall
         (searchInputs config (now (parameters .entry)) (now (existing .entry)) (now («existing_counts» .entry))) rounds
-        (lent (now (cards .entry)) (now (counts .entry)) (now (queue .entry)) (now (days .entry)) (now (costs .entry)) (now (memorized .entry)) (now (due .entry)) (now (keys .entry)) (now (intervals .entry)))
+        (lent (now (cards .entry)) (now (counts .entry)) (now (queue .entry)) (now (days .entry)) (now (costs .entry))
+        (now (memorized .entry)) (now (due .entry)) (now (keys .entry)) (now (intervals .entry)))
         r
-        (lent (now (cards .exit)) (now (counts .exit)) (now (queue .exit)) (now (days .exit)) (now (costs .exit)) (now (memorized .exit)) (now (due .exit)) (now (keys .exit)) (now (intervals .exit))) ⌝ }
+        (lent (now (cards .exit)) (now (counts .exit)) (now (queue .exit)) (now (days .exit)) (now (costs .exit))
+        (now (memorized .exit)) (now (due .exit)) (now (keys .exit)) (now (intervals .exit))) ⌝ }
 {
     let lengths = Lengths {
         cards: cards.len(),

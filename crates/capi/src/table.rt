@@ -43,7 +43,8 @@ pub extern "C" fn drill_certifies_rounded_interval(
     interval: f32,
     most: f32,
 ) -> bool
-    ensures { λ r. ⌜ r ≡ certifies (λ x. Model.forgettingCurve (Model.curveOf (now (w .entry))) x stability) stability retention interval most ⌝ }
+    ensures { λ r. ⌜ r ≡ certifies (λ x. Model.forgettingCurve (Model.curveOf (now (w .entry))) x stability) stability
+        retention interval most ⌝ }
 {
     intervals::certifies_rounded_interval(
         Fsrs7Runtime::new(w).curve(stability),
@@ -64,8 +65,12 @@ pub extern "C" fn drill_scheduled_interval(
     keys: &mut [[u32; 2]],
     intervals: &mut [f32],
 ) -> f32
-    ensures { λ r. ⌜ r ≡ intervalOf (slotOf (Model.curveOf (now (w .entry))) stability retention most (table (now (keys .entry)) (now (intervals .entry)))) ⌝ }
-    ensures { λ _. ⌜ table (now (keys .exit)) (now (intervals .exit)) ≡ entered (table (now (keys .entry)) (now (intervals .entry))) (slotOf (Model.curveOf (now (w .entry))) stability retention most (table (now (keys .entry)) (now (intervals .entry)))) ⌝ }
+    ensures { λ r. ⌜ r ≡ intervalOf (slotOf (Model.curveOf (now (w .entry))) stability retention most
+        (table (now (keys .entry)) (now (intervals .entry)))) ⌝ }
+    ensures { λ _. ⌜ table (now (keys .exit)) (now (intervals .exit))
+        ≡ entered (table (now (keys .entry)) (now (intervals .entry)))
+        (slotOf (Model.curveOf (now (w .entry))) stability retention most
+        (table (now (keys .entry)) (now (intervals .entry)))) ⌝ }
 {
     let slot = intervals::scheduled_interval(
         Fsrs7Runtime::new(w),

@@ -7,11 +7,14 @@ ghost use lib.Ieee.{eq};
 ghost use Rattle.float32.specs.Numbers.{0ᶠ};
 ghost use Rattle.float32.specs.Float32.{isFinite};
 ghost use Rattle.cards.specs.Day.{dayOf, nextDue, isNew};
-ghost use Rattle.cards.specs.Cards.{noFloats, noCounts, cardAt, writeFloats, writeCounts, isKept, dateOk, historyOk, cardOk};
-ghost use Rattle.cards.specs.Config.{rowOf, threeOf, amountOk, amountsOk, weightsOk, transitionsOk, costsOk, intervalOk, configOk};
+ghost use Rattle.cards.specs.Cards.{noFloats, noCounts, cardAt, writeFloats, writeCounts, isKept, dateOk};
+ghost use Rattle.cards.specs.Cards.{historyOk, cardOk};
+ghost use Rattle.cards.specs.Config.{rowOf, threeOf, amountOk, amountsOk, weightsOk, transitionsOk, costsOk};
+ghost use Rattle.cards.specs.Config.{intervalOk, configOk};
 ghost use Rattle.cards.specs.Choices.{limits, retires, blocked, choiceOf};
 
-// `SimulatorConfig` of the Rust without its callbacks. A limit of 4294967295 is none; rows of four stand one after the other.
+// `SimulatorConfig` of the Rust without its callbacks. A limit of 4294967295 is none; rows of four stand one after the
+// other.
 #[repr(C)]
 pub struct SimulatorConfig {
     pub deck_size: u32,
@@ -218,7 +221,8 @@ pub fn is_blocked(
 }
 
 pub fn decide(config: SimulatorConfig, card: Card, learned: u32, reviewed: u32, cost: f32) -> Choice
-    ensures { λ r. ⌜ ((d : ℕ) → r ≡ choiceOf (config .«learn_span») (config .«suspend_after_lapses») (limits config) d card learned reviewed cost) ⌝ }
+    ensures { λ r. ⌜ ((d : ℕ) → r ≡ choiceOf (config .«learn_span») (config .«suspend_after_lapses») (limits config) d
+        card learned reviewed cost) ⌝ }
 {
     if is_retired(config, card) {
         return Choice::Retire;

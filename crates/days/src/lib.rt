@@ -8,7 +8,8 @@ ghost use Prim.Native.Nat.{_+_, _-_, _/_};
 ghost use lib.ListN.{getD, set};
 ghost use lib.Ieee.{binary32, add};
 ghost use Rattle.float32.specs.Numbers.{0ᶠ};
-ghost use Rattle.days.specs.Counts.{saturatingSuc, learnedAt, reviewedAt, addLearn, addReview, addIntroduced, addIntroducedFrom, addEvent};
+ghost use Rattle.days.specs.Counts.{saturatingSuc, learnedAt, reviewedAt, addLearn, addReview, addIntroduced};
+ghost use Rattle.days.specs.Counts.{addIntroducedFrom, addEvent};
 ghost use Rattle.days.specs.Sums.{costAt, addCost};
 ghost use Rattle.days.specs.Due.{addOneAt, addDue, moveDue, noneDue};
 

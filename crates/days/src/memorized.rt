@@ -35,7 +35,8 @@ fn times(a: &mut [f32; 64], d: u32, last: f32, n: usize)
 // A card's chance on each of up to 64 days from day d on.
 fn add_block(memorized: &mut [f32], curve: Curve, d: u32, n: usize, last: f32)
     requires { ⌜ (n ≤ 64) × (d + n ≤ 2 ^ 24) × (d + n ≤ length (now memorized)) ⌝ }
-    ensures { λ _. ⌜ now (memorized .exit) ≡ addForgettingCurveRange (λ t. retention curve t) (now (memorized .entry)) n d last ⌝ }
+    ensures { λ _. ⌜ now (memorized .exit) ≡ addForgettingCurveRange (λ t. retention curve t) (now (memorized .entry)) n
+        d last ⌝ }
 {
     let mut chances: [f32; 64] = [0.0; 64];
     times(&mut chances, d, last, n);
@@ -52,7 +53,8 @@ fn add_block(memorized: &mut [f32], curve: Curve, d: u32, n: usize, last: f32)
 // On each day from `from` up to `to`, block by block.
 fn add_blocks(memorized: &mut [f32], curve: Curve, from: u32, to: u32, last: f32)
     requires { ⌜ (to ≤ 2 ^ 24) × (to ≤ length (now memorized)) ⌝ }
-    ensures { λ _. ⌜ now (memorized .exit) ≡ addForgettingCurveRange (λ t. retention curve t) (now (memorized .entry)) (to - from) from last ⌝ }
+    ensures { λ _. ⌜ now (memorized .exit) ≡ addForgettingCurveRange (λ t. retention curve t) (now (memorized .entry))
+        (to - from) from last ⌝ }
 {
     let mut d = from;
     while d < to {
@@ -64,7 +66,8 @@ fn add_blocks(memorized: &mut [f32], curve: Curve, from: u32, to: u32, last: f32
 
 // The same day by day, for any days.
 fn add_days(memorized: &mut [f32], curve: Curve, from: u32, to: u32, last: f32)
-    ensures { λ _. ⌜ now (memorized .exit) ≡ addForgettingCurveRange (λ t. retention curve t) (now (memorized .entry)) (to - from) from last ⌝ }
+    ensures { λ _. ⌜ now (memorized .exit) ≡ addForgettingCurveRange (λ t. retention curve t) (now (memorized .entry))
+        (to - from) from last ⌝ }
 {
     let mut d = from;
     while d < to {
@@ -96,7 +99,8 @@ pub fn add_forgetting_curve_range(
     to: u32,
     last: f32,
 )
-    ensures { λ _. ⌜ now (memorized .exit) ≡ addForgettingCurveRange (λ t. retention curve t) (now (memorized .entry)) (to - from) from last ⌝ }
+    ensures { λ _. ⌜ now (memorized .exit) ≡ addForgettingCurveRange (λ t. retention curve t) (now (memorized .entry))
+        (to - from) from last ⌝ }
 {
     if is_long(memorized, from, to) {
         add_blocks(memorized, curve, from, to, last);

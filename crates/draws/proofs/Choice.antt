@@ -13,16 +13,19 @@ use Rattle.float32.specs.Ops.{_+ᶠ_}
 use Rattle.float32.specs.Numbers.{0ᶠ}
 use Rattle.draws.specs.Draws.{sumFrom, choose}
 
-pub sum-next : (ws : List Float) (i : ℕ) (s : Float) → i < length ws → sumFrom s (drop i ws) ≡ sumFrom (s +ᶠ getD ws i nan) (drop (i + 1) ws)
+pub sum-next : (ws : List Float) (i : ℕ) (s : Float) → i < length ws
+    → sumFrom s (drop i ws) ≡ sumFrom (s +ᶠ getD ws i nan) (drop (i + 1) ws)
 unfolding sumFrom
 sum-next ws i s h = rw (add-one, drop-cons ws i nan)
 
-pub choose-here : (ws : List Float) (t s : Float) (i p : ℕ) → i < length ws → lt t (s +ᶠ getD ws i nan) ≡ true → choose t s i p (drop i ws) ≡ i
+pub choose-here : (ws : List Float) (t s : Float) (i p : ℕ) → i < length ws → lt t (s +ᶠ getD ws i nan) ≡ true
+    → choose t s i p (drop i ws) ≡ i
 unfolding choose
 choose-here ws t s i p h e = rw (drop-cons ws i nan, e)
 
 pub choose-next : (ws : List Float) (t s : Float) (i p : ℕ) → i < length ws → lt t (s +ᶠ getD ws i nan) ≡ false
-    → choose t s i p (drop i ws) ≡ choose t (s +ᶠ getD ws i nan) (i + 1) (cond (lt 0ᶠ (getD ws i nan)) i p) (drop (i + 1) ws)
+    → choose t s i p (drop i ws) ≡ choose t (s +ᶠ getD ws i nan) (i + 1) (cond (lt 0ᶠ (getD ws i nan)) i p)
+    (drop (i + 1) ws)
 unfolding choose
 choose-next ws t s i p h e = rw (add-one, drop-cons ws i nan, e)
 

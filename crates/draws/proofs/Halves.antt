@@ -12,16 +12,21 @@ product-lt a b h k = lt-of-le-of-lt (mul-le-mul-left a (le-of-lt k)) (mul-lt-mul
 spread : (p q r s h : ℕ) → (p * h + q) * (r * h + s) ≡ q * s + (p * s + q * r) * h + p * r * (h * h)
 spread p q r s h = omega arith
 
-pub from-halves : (a b : ℕ) → (a % 2 ^ 32 * (b % 2 ^ 32) + (a / 2 ^ 32 * (b % 2 ^ 32) + a % 2 ^ 32 * (b / 2 ^ 32)) % 2 ^ 64 % 2 ^ 32 * 2 ^ 32) % 2 ^ 64 ≡ a * b % 2 ^ 64
-from-halves a b = go (a / 2 ^ 32) (a % 2 ^ 32) (b / 2 ^ 32) (b % 2 ^ 32) a b (div-add-mod' a (2 ^ 32)) (div-add-mod' b (2 ^ 32))
+pub from-halves : (a b : ℕ)
+    → (a % 2 ^ 32 * (b % 2 ^ 32) + (a / 2 ^ 32 * (b % 2 ^ 32) + a % 2 ^ 32 * (b / 2 ^ 32)) % 2 ^ 64 % 2 ^ 32 * 2 ^ 32)
+    % 2 ^ 64 ≡ a * b % 2 ^ 64
+from-halves a b = go (a / 2 ^ 32) (a % 2 ^ 32) (b / 2 ^ 32) (b % 2 ^ 32) a b (div-add-mod' a (2 ^ 32))
+    (div-add-mod' b (2 ^ 32))
   where
     last : (x y z : ℕ) → y ≡ x + z * 2 ^ 64 → x % 2 ^ 64 ≡ y % 2 ^ 64
     last x y z e = omega arith
 
-    tail : (x c y w : ℕ) → w ≡ x + c * 2 ^ 32 + y * (2 ^ 32 * 2 ^ 32) → w ≡ x + c % 2 ^ 64 % 2 ^ 32 * 2 ^ 32 + (c / 2 ^ 32 + y) * 2 ^ 64
+    tail : (x c y w : ℕ) → w ≡ x + c * 2 ^ 32 + y * (2 ^ 32 * 2 ^ 32)
+        → w ≡ x + c % 2 ^ 64 % 2 ^ 32 * 2 ^ 32 + (c / 2 ^ 32 + y) * 2 ^ 64
     tail x c y w h = omega arith
 
-    go : (p q r s a b : ℕ) → p * 2 ^ 32 + q ≡ a → r * 2 ^ 32 + s ≡ b → (q * s + (p * s + q * r) % 2 ^ 64 % 2 ^ 32 * 2 ^ 32) % 2 ^ 64 ≡ a * b % 2 ^ 64
+    go : (p q r s a b : ℕ) → p * 2 ^ 32 + q ≡ a → r * 2 ^ 32 + s ≡ b
+        → (q * s + (p * s + q * r) % 2 ^ 64 % 2 ^ 32 * 2 ^ 32) % 2 ^ 64 ≡ a * b % 2 ^ 64
     go p q r s a b e f =
         let c : ℕ = p * s + q * r in
         let x : ℕ = c % 2 ^ 64 % 2 ^ 32 * 2 ^ 32 in

@@ -18,7 +18,8 @@ unfolding choose
 choose-lt t s i p n [] h k = k
 choose-lt t s i p n (x ∷ xs) h k =
     let here : i < n = omega arith in
-    either (lt t (s +ᶠ x)) i _ n here (choose-lt t (s +ᶠ x) (suc i) (cond (lt 0ᶠ x) i p) n xs (omega arith) (either (lt 0ᶠ x) i p n here k))
+    either (lt t (s +ᶠ x)) i _ n here (choose-lt t (s +ᶠ x) (suc i) (cond (lt 0ᶠ x) i p) n xs (omega arith)
+    (either (lt 0ᶠ x) i p n here k))
 
 pub rating-lt : (ws : List Float) (w : ℕ) → 0 < length ws → rating ws w < length ws
 unfolding rating

@@ -39,7 +39,8 @@ positive = refl
 -- weights 0, 0, 0, 1: the fourth, by every word
 pub fourth : (w : ℕ) → rating (0ᶠ ∷ 0ᶠ ∷ 0ᶠ ∷ 1ᶠ ∷ []) w ≡ 3
 unfolding rating choose
-fourth w = rw (sum-is, nothing, nothing, nothing, never (unit w *ᶠ 1ᶠ) (target-clear w), positive) (either (lt (unit w *ᶠ 1ᶠ) (0ᶠ +ᶠ 1ᶠ)) 3)
+fourth w = rw (sum-is, nothing, nothing, nothing, never (unit w *ᶠ 1ᶠ) (target-clear w), positive)
+    (either (lt (unit w *ᶠ 1ᶠ) (0ᶠ +ᶠ 1ᶠ)) 3)
   where
     either : (b : Bool) (n : ℕ) → cond b n n ≡ n
     either true n = refl

@@ -52,7 +52,8 @@ sumFrom s (x ∷ xs) = sumFrom (s +ᶠ x) xs
 -- of a positive weight.
 unfoldable pub choose : Float → Float → ℕ → ℕ → List Float → ℕ
 choose target s i p [] = p
-choose target s i p (x ∷ xs) = let rest = choose target (s +ᶠ x) (suc i) (cond (lt 0ᶠ x) i p) xs in cond (lt target (s +ᶠ x)) i rest
+choose target s i p (x ∷ xs) = let rest = choose target (s +ᶠ x) (suc i) (cond (lt 0ᶠ x) i p) xs in cond
+    (lt target (s +ᶠ x)) i rest
 
 -- the index, from 0, of the weight that a word chooses
 unfoldable pub rating : List Float → ℕ → ℕ

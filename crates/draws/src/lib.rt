@@ -25,7 +25,8 @@ impl SplitMix64 {
     }
 
     pub fn next(self) -> Drawn
-        ensures { λ r. ⌜ (r .generator .state ≡ Draws.advance (self .state)) × (r .output ≡ Draws.mix (Draws.advance (self .state))) ⌝ }
+        ensures { λ r. ⌜ (r .generator .state ≡ Draws.advance (self .state))
+            × (r .output ≡ Draws.mix (Draws.advance (self .state))) ⌝ }
     {
         let state = std::num::wrapping_add_u64(self.state, 0x9e37_79b9_7f4a_7c15);
         Drawn {

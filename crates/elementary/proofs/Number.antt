@@ -36,4 +36,6 @@ exp-number x h =
     let n = expBits b in
     ap isNan (of-x x (subst (λ (t : Bool). T (not t)) (sym h) tt))
     ∙ sym (nanBits-is binary32 n)
-    ∙ is-false (nanBits binary32 n) (no-nan-bits n (le-trans (mod-le n (2 ^ 31)) (le-trans (le-of-eq (bits-is b)) (abs-le (ltb b (2 ^ 31)) (b % 2 ^ 31)))))
+    ∙ is-false (nanBits binary32 n)
+    (no-nan-bits n (le-trans (mod-le n (2 ^ 31))
+    (le-trans (le-of-eq (bits-is b)) (abs-le (ltb b (2 ^ 31)) (b % 2 ^ 31)))))

@@ -1,5 +1,5 @@
--- exp: the value at each f32, by whole numbers. x + 127 ln 2 is divided by ln 2 into n and a rest r, and e^x = 2^(n - 127) e^r.
--- "Cut down" is the largest whole number that is not above.
+-- exp: the value at each f32, by whole numbers. x + 127 ln 2 is divided by ln 2 into n and a rest r, and e^x = 2^(n -
+-- 127) e^r. "Cut down" is the largest whole number that is not above.
 use mathlib.Core.List.{List, [], _∷_}
 use mathlib.Core.Bool.{Bool, cond}
 use Prim.Native.Nat.{ℕ, _+_, _-_, _*_, _/_, _%_, _^_}
@@ -41,7 +41,8 @@ mant r = power (r / 2 ^ 39) * small (r % 2 ^ 39) / 2 ^ 31
 unfoldable pub fixed : ℕ → ℕ
 fixed a = (a % 2 ^ 23 + 2 ^ 23) * 2 ^ (a / 2 ^ 23 - 102)
 
--- the bit pattern of 2^(e - 127) e^(r / 2^48), rounded to the nearest f32, for e below 255; at e = 0 it is subnormal or 2^-126
+-- the bit pattern of 2^(e - 127) e^(r / 2^48), rounded to the nearest f32, for e below 255; at e = 0 it is subnormal or
+-- 2^-126
 unfoldable pub packed : ℕ → ℕ → ℕ
 unfolding mant
 packed e r = cond (eqb e 0) ((mant r + 256) / 512) ((e - 1) * 2 ^ 23 + (mant r + 128) / 256)

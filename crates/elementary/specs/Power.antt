@@ -101,7 +101,8 @@ squared p c =
     let k = c % 2 ^ 31 / 2 ^ 23 - 133 in
     cond (ltb p (157 * 2 ^ 23)) 0
     (cond (ltb p (161 * 2 ^ 23))
-    (cond (ltb 24 k) (cond (ltb p (159 * 2 ^ 23)) 0 (2 ^ 62)) (squares k ((2 ^ 23 + p % 2 ^ 23) * 2 ^ (p / 2 ^ 23 - 122))))
+    (cond (ltb 24 k) (cond (ltb p (159 * 2 ^ 23)) 0 (2 ^ 62))
+    (squares k ((2 ^ 23 + p % 2 ^ 23) * 2 ^ (p / 2 ^ 23 - 122))))
     (2 ^ 62))
 
 unfoldable pub largeArg : ℕ → ℕ → ℕ

@@ -1,6 +1,6 @@
-// The powers of a block of up to 64 numbers to one exponent, each as powf has it. A step of powf is a loop over the whole
-// block here: a loop without a table is compiled to operations on several numbers at once, and none waits for the chain of
-// a whole power.
+// The powers of a block of up to 64 numbers to one exponent, each as powf has it. A step of powf is a loop over the
+// whole block here: a loop without a table is compiled to operations on several numbers at once, and none waits for the
+// chain of a whole power.
 ghost use mathlib.Core.Path.{_≡_};
 ghost use mathlib.Core.Bool.{true};
 ghost use Prim.Native.Nat.{ℕ, _*_, _+_, _/_, _%_, _^_, _<_, _≤_, min};
@@ -40,8 +40,11 @@ fn outside(x: &[f32; 64], n: usize) -> u32
 // The words of the logarithms' intervals.
 fn intervals(e: &mut [u64; 64], f: &mut [u64; 64], x: &[f32; 64], n: usize)
     requires { ⌜ (n ≤ 64) × ((i : ℕ) → i < n → IsBase (getD (now x) i nan)) ⌝ }
-    ensures lines { λ _. ⌜ now (e .exit) ≡ filled (λ i. lineWord (toBits binary32 (getD (now (x .entry)) i nan) / 2 ^ 14 % 512)) n (now (e .entry)) ⌝ }
-    ensures curvatures { λ _. ⌜ now (f .exit) ≡ filled (λ i. curvature (toBits binary32 (getD (now (x .entry)) i nan) / 2 ^ 14 % 512)) n (now (f .entry)) ⌝ }
+    ensures lines { λ _. ⌜ now (e .exit)
+        ≡ filled (λ i. lineWord (toBits binary32 (getD (now (x .entry)) i nan) / 2 ^ 14 % 512)) n (now (e .entry)) ⌝ }
+    ensures curvatures { λ _.
+        ⌜ now (f .exit) ≡ filled (λ i. curvature (toBits binary32 (getD (now (x .entry)) i nan) / 2 ^ 14 % 512)) n
+        (now (f .entry)) ⌝ }
 {
     let mut i: usize = 0;
     while i < n {
@@ -54,8 +57,11 @@ fn intervals(e: &mut [u64; 64], f: &mut [u64; 64], x: &[f32; 64], n: usize)
 
 // The exponents of 2, in the place of the lines.
 fn args(e: &mut [u64; 64], f: &[u64; 64], x: &[f32; 64], c: u32, n: usize)
-    requires { ⌜ (n ≤ 64) × IsDecay c × ((i : ℕ) → i < n → (IsBase (getD (now x) i nan)) × (getD (now e) i 0 ≡ lineWord (toBits binary32 (getD (now x) i nan) / 2 ^ 14 % 512)) × (getD (now f) i 0 ≡ curvature (toBits binary32 (getD (now x) i nan) / 2 ^ 14 % 512))) ⌝ }
-    ensures { λ _. ⌜ now (e .exit) ≡ filled (λ i. quickArg (toBits binary32 (getD (now (x .entry)) i nan)) c) n (now (e .entry)) ⌝ }
+    requires { ⌜ (n ≤ 64) × IsDecay c × ((i : ℕ) → i < n → (IsBase (getD (now x) i nan))
+        × (getD (now e) i 0 ≡ lineWord (toBits binary32 (getD (now x) i nan) / 2 ^ 14 % 512))
+        × (getD (now f) i 0 ≡ curvature (toBits binary32 (getD (now x) i nan) / 2 ^ 14 % 512))) ⌝ }
+    ensures { λ _. ⌜ now (e .exit) ≡ filled (λ i. quickArg (toBits binary32 (getD (now (x .entry)) i nan)) c) n
+        (now (e .entry)) ⌝ }
 {
     let m = c % 8388608 + 8388608;
     let s = 399 - c / 8388608;
@@ -70,7 +76,8 @@ fn args(e: &mut [u64; 64], f: &[u64; 64], x: &[f32; 64], c: u32, n: usize)
 // The words of the powers of 2.
 fn powers(f: &mut [u64; 64], e: &[u64; 64], n: usize)
     requires { ⌜ n ≤ 64 ⌝ }
-    ensures { λ _. ⌜ now (f .exit) ≡ filled (λ i. powerWord (getD (now (e .entry)) i 0 / 2 ^ 32 % 128)) n (now (f .entry)) ⌝ }
+    ensures { λ _. ⌜ now (f .exit) ≡ filled (λ i. powerWord (getD (now (e .entry)) i 0 / 2 ^ 32 % 128)) n
+        (now (f .entry)) ⌝ }
 {
     let mut i: usize = 0;
     while i < n {
@@ -81,8 +88,10 @@ fn powers(f: &mut [u64; 64], e: &[u64; 64], n: usize)
 
 // The powers of x.
 fn values(x: &mut [f32; 64], e: &[u64; 64], f: &[u64; 64], n: usize)
-    requires { ⌜ (n ≤ 64) × ((i : ℕ) → i < n → (getD (now e) i 0 < 254 * 2 ^ 39) × (getD (now f) i 0 ≡ powerWord (getD (now e) i 0 / 2 ^ 32 % 128))) ⌝ }
-    ensures { λ _. ⌜ now (x .exit) ≡ filled (λ i. ofBits binary32 (exp2Bits (getD (now (e .entry)) i 0 + 2 ^ 55))) n (now (x .entry)) ⌝ }
+    requires { ⌜ (n ≤ 64) × ((i : ℕ) → i < n → (getD (now e) i 0 < 254 * 2 ^ 39)
+        × (getD (now f) i 0 ≡ powerWord (getD (now e) i 0 / 2 ^ 32 % 128))) ⌝ }
+    ensures { λ _. ⌜ now (x .exit) ≡ filled (λ i. ofBits binary32 (exp2Bits (getD (now (e .entry)) i 0 + 2 ^ 55))) n
+        (now (x .entry)) ⌝ }
 {
     let mut i: usize = 0;
     while i < n {
@@ -105,7 +114,8 @@ fn is_decay(y: f32) -> bool
 fn quick_powers(x: &mut [f32; 64], y: f32, n: usize)
     requires { ⌜ (n ≤ 64) × IsDecay (toBits binary32 y) × ((i : ℕ) → i < n → IsBase (getD (now x) i nan)) ⌝ }
     ensures value { λ _. ⌜ now (x .exit) ≡ filled (λ i. powOf (getD (now (x .entry)) i nan) y) n (now (x .entry)) ⌝ }
-    ensures bound { λ _. ⌜ ((i : ℕ) → i < n → IsPow (getD (now (x .entry)) i nan) y (powOf (getD (now (x .entry)) i nan) y)) ⌝ }
+    ensures bound { λ _. ⌜ ((i : ℕ) → i < n
+        → IsPow (getD (now (x .entry)) i nan) y (powOf (getD (now (x .entry)) i nan) y)) ⌝ }
 {
     let mut e: [u64; 64] = [0; 64];
     let mut f: [u64; 64] = [0; 64];
@@ -119,7 +129,8 @@ fn quick_powers(x: &mut [f32; 64], y: f32, n: usize)
 fn one_by_one(x: &mut [f32; 64], y: f32, n: usize)
     requires { ⌜ n ≤ 64 ⌝ }
     ensures value { λ _. ⌜ now (x .exit) ≡ filled (λ i. powOf (getD (now (x .entry)) i nan) y) n (now (x .entry)) ⌝ }
-    ensures bound { λ _. ⌜ ((i : ℕ) → i < n → IsPow (getD (now (x .entry)) i nan) y (powOf (getD (now (x .entry)) i nan) y)) ⌝ }
+    ensures bound { λ _. ⌜ ((i : ℕ) → i < n
+        → IsPow (getD (now (x .entry)) i nan) y (powOf (getD (now (x .entry)) i nan) y)) ⌝ }
 {
     let mut i: usize = 0;
     while i < n {
@@ -138,7 +149,8 @@ pub fn up_to_64(n: usize) -> usize
 fn powers_of_first(x: &mut [f32; 64], y: f32, n: usize)
     requires { ⌜ n ≤ 64 ⌝ }
     ensures value { λ _. ⌜ now (x .exit) ≡ filled (λ i. powOf (getD (now (x .entry)) i nan) y) n (now (x .entry)) ⌝ }
-    ensures bound { λ _. ⌜ ((i : ℕ) → i < n → IsPow (getD (now (x .entry)) i nan) y (powOf (getD (now (x .entry)) i nan) y)) ⌝ }
+    ensures bound { λ _. ⌜ ((i : ℕ) → i < n
+        → IsPow (getD (now (x .entry)) i nan) y (powOf (getD (now (x .entry)) i nan) y)) ⌝ }
 {
     if is_decay(y) {
         if outside(x, n) == 0 {
@@ -151,8 +163,10 @@ fn powers_of_first(x: &mut [f32; 64], y: f32, n: usize)
 
 // The first n of x become their powers, or all 64 where n is more.
 pub fn powers_of(x: &mut [f32; 64], y: f32, n: usize)
-    ensures value { λ _. ⌜ now (x .exit) ≡ filled (λ i. powOf (getD (now (x .entry)) i nan) y) (min n 64) (now (x .entry)) ⌝ }
-    ensures bound { λ _. ⌜ ((i : ℕ) → i < min n 64 → IsPow (getD (now (x .entry)) i nan) y (powOf (getD (now (x .entry)) i nan) y)) ⌝ }
+    ensures value { λ _. ⌜ now (x .exit) ≡ filled (λ i. powOf (getD (now (x .entry)) i nan) y) (min n 64)
+        (now (x .entry)) ⌝ }
+    ensures bound { λ _. ⌜ ((i : ℕ) → i < min n 64
+        → IsPow (getD (now (x .entry)) i nan) y (powOf (getD (now (x .entry)) i nan) y)) ⌝ }
 {
     powers_of_first(x, y, up_to_64(n));
 }

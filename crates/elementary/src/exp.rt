@@ -1,5 +1,6 @@
-// e^x. |x| becomes a fixed point number in units of 2^-48; x + 127 ln 2 is divided by ln 2 into n and a rest r below ln 2, and
-// e^x = 2^(n - 127) e^r. e^r is the product of a table entry (powers.rt) and 1 + s (1 + s / 2) for the last s below 2^-9.
+// e^x. |x| becomes a fixed point number in units of 2^-48; x + 127 ln 2 is divided by ln 2 into n and a rest r below ln
+// 2, and e^x = 2^(n - 127) e^r. e^r is the product of a table entry (powers.rt) and 1 + s (1 + s / 2) for the last s
+// below 2^-9.
 ghost use mathlib.Core.Path.{_≡_};
 ghost use lib.Dec.{ltb};
 ghost use Prim.Native.Nat.{_<_, _≤_};
@@ -24,7 +25,8 @@ fn mantissa(r: u64) -> u64
     super::powers::power_at(r / 549755813888) * small_exp(r % 549755813888) / 2147483648
 }
 
-// 2^(e - 127) e^(r / 2^48), rounded to the nearest f32: the last step of exp and of powf. At e = 0 the unit is that of a subnormal.
+// 2^(e - 127) e^(r / 2^48), rounded to the nearest f32: the last step of exp and of powf. At e = 0 the unit is that of
+// a subnormal.
 pub(crate) fn pack(e: u64, r: u64) -> f32
     requires { ⌜ (e < 255) × (r < 195103586505168) ⌝ }
     ensures { λ x. ⌜ x ≡ ofBits binary32 (packed e r) ⌝ }

@@ -98,7 +98,8 @@ fn fine_arg(l: u64, c: u32) -> u64
     super::power::signed_arg(LOG2_ONE, l, c, u)
 }
 
-// x^(2^k) in units of 2^-60, from the normalized pattern of x, where |y| / 2^k is from 64 to 128; 0 where it is below 1/4, 2^62 where it is 4 or more.
+// x^(2^k) in units of 2^-60, from the normalized pattern of x, where |y| / 2^k is from 64 to 128; 0 where it is below
+// 1/4, 2^62 where it is 4 or more.
 fn squared(p: u32, c: u32) -> u64
     requires { ⌜ 0x43000000 < c % 2 ^ 31 ⌝ }
     ensures { λ r. ⌜ r ≡ Power.squared p c ⌝ }

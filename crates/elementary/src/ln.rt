@@ -1,9 +1,11 @@
-// ln x. x = m / 2^23 * 2^(n - 159), and m is multiplied by two reciprocals of tables until it is 1 + d with d below 2^-14; then
-// ln x is n ln 2, the two logarithms from the tables, and d - d^2 / 2. An entry holds a reciprocal and its logarithm.
+// ln x. x = m / 2^23 * 2^(n - 159), and m is multiplied by two reciprocals of tables until it is 1 + d with d below
+// 2^-14; then ln x is n ln 2, the two logarithms from the tables, and d - d^2 / 2. An entry holds a reciprocal and its
+// logarithm.
 ghost use mathlib.Core.Path.{_≡_};
 ghost use Prim.Native.Nat.{_+_, _*_, _<_, _≤_};
 ghost use lib.ListN.{getD};
-ghost use Rattle.elementary.specs.Ln.{first, second, lnSmall, lnRest, lnMant, exponent, significand, lnWide, lnSize, lnSign, rounded, lnRounded, lnOf};
+ghost use Rattle.elementary.specs.Ln.{first, second, lnSmall, lnRest, lnMant, exponent, significand, lnWide};
+ghost use Rattle.elementary.specs.Ln.{lnSize, lnSign, rounded, lnRounded, lnOf};
 ghost use Rattle.elementary.specs.Accuracy.{IsLn};
 
 // The first reciprocal c and its logarithm L, as c + 2^16 L.

@@ -77,7 +77,8 @@ fn pattern_of(b: u32, quick: bool) -> u32
     normalized(b)
 }
 
-// 126 + y log2 x in units of 2^-39, for x from 1 to 2^32 and y from -2 to -2^-31: m has the digits of y, s how far they are shifted.
+// 126 + y log2 x in units of 2^-39, for x from 1 to 2^32 and y from -2 to -2^-31: m has the digits of y, s how far they
+// are shifted.
 pub(crate) fn quick_arg(l: u64, m: u32, s: u32) -> u64
     requires { ⌜ (l ≤ 2 ^ 37) × (m < 2 ^ 24) × (16 ≤ s) × (s < 64) ⌝ }
     ensures { λ r. ⌜ r + m * l / 2 ^ s ≡ 126 * 2 ^ 39 ⌝ }

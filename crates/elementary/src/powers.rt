@@ -1,5 +1,5 @@
-// The powers of e^(1 / 512), the table of exp. The definition multiplies two short tables; here their products stand ready, which
-// takes a multiplication out of the longest chain of powf.
+// The powers of e^(1 / 512), the table of exp. The definition multiplies two short tables; here their products stand
+// ready, which takes a multiplication out of the longest chain of powf.
 // A table is a `match`: that becomes static data, where a `const` array is stored to the stack at each call.
 ghost use mathlib.Core.Path.{_≡_};
 ghost use Prim.Native.Nat.{_<_};

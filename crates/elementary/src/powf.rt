@@ -65,7 +65,8 @@ fn to_inf_bits(b: u32, c: u32) -> u32
 
 // x a zero or +infinity, or y an infinity; y is not 0 and x not 1.
 fn special_bits(b: u32, c: u32) -> u32
-    requires { ⌜ (b ≤ 0x80000000) × (b % 0x80000000 ≤ 0x7F800000) × (c % 0x80000000 ≤ 0x7F800000) × (0 < b → b < 0x7F800000 → 0x7F800000 ≤ c % 0x80000000) ⌝ }
+    requires { ⌜ (b ≤ 0x80000000) × (b % 0x80000000 ≤ 0x7F800000) × (c % 0x80000000 ≤ 0x7F800000)
+        × (0 < b → b < 0x7F800000 → 0x7F800000 ≤ c % 0x80000000) ⌝ }
     ensures { λ r. ⌜ r ≡ numBits b c ⌝ }
 {
     if b % 0x80000000 == 0 {

@@ -29,15 +29,20 @@ module _ (w : DrawRule) (x : Scalars) (transitions costs : List Float) (limit : 
   steps-easy zero t h = refl
   steps-easy (suc n) t h = go (leb limit (t .consecutive))
     where
-      go : (b : Bool) → cond (b || leb 4 (t .rating)) t (shortSteps w x transitions costs limit n (shortStep w x transitions costs t)) ≡ t
+      go : (b : Bool) → cond (b || leb 4 (t .rating)) t (shortSteps w x transitions costs limit n
+          (shortStep w x transitions costs t)) ≡ t
       go true = refl
       go false = rw (le-leb 4 (t .rating) h)
 
-  pub steps-on : (n : ℕ) (t t′ : ShortTerm) → 0 < n → t .consecutive < limit → t .rating < 4 → t′ ≡ shortStep w x transitions costs t
+  pub steps-on : (n : ℕ) (t t′ : ShortTerm) → 0 < n → t .consecutive < limit → t .rating < 4
+      → t′ ≡ shortStep w x transitions costs t
       → shortSteps w x transitions costs limit (n - 1) t′ ≡ shortSteps w x transitions costs limit n t
-  steps-on n t t′ p h k e = rw e (sym (ap (λ (z : ℕ). shortSteps w x transitions costs limit z t) (let z : n ≡ suc (n - 1) = omega arith in z) ∙ one (n - 1)))
+  steps-on n t t′ p h k e = rw e
+      (sym (ap (λ (z : ℕ). shortSteps w x transitions costs limit z t) (let z : n ≡ suc (n - 1) = omega arith in z)
+      ∙ one (n - 1)))
     where
-      one : (m : ℕ) → shortSteps w x transitions costs limit (suc m) t ≡ shortSteps w x transitions costs limit m (shortStep w x transitions costs t)
+      one : (m : ℕ) → shortSteps w x transitions costs limit (suc m) t ≡ shortSteps w x transitions costs limit m
+          (shortStep w x transitions costs t)
       one m = unfold shortSteps in rw (lt-leb limit (t .consecutive) h, lt-leb 4 (t .rating) k)
 
 -- THE MODEL KEPT BY VALUE is the model

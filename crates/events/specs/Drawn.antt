@@ -42,15 +42,18 @@ module _ (w : DrawRule) (g : SimulatorConfig) (x : Scalars) where
   abbrev pub learningRatings : ℕ → Drawn
   learningRatings state =
       let first = firstOf w g x state in
-      first .rating ∷ shortRatings w x (g .«learning_step_transitions») (rowOf (g .«state_rating_costs») 0) (learningLimit g (first .rating)) 5 first
+      first .rating ∷ shortRatings w x (g .«learning_step_transitions») (rowOf (g .«state_rating_costs») 0)
+      (learningLimit g (first .rating)) 5 first
 
   abbrev pub lapseRatings : Card → Float → ℕ → Drawn
   lapseRatings k chance state =
-      1 ∷ shortRatings w x (g .«relearning_step_transitions») (rowOf (g .«state_rating_costs») 2) (g .«relearning_step_count») 5 (failedOf w g x k chance state)
+      1 ∷ shortRatings w x (g .«relearning_step_transitions») (rowOf (g .«state_rating_costs») 2)
+      (g .«relearning_step_count») 5 (failedOf w g x k chance state)
 
   abbrev pub reviewRatings : Card → Float → ℕ → Drawn
   reviewRatings k chance state =
-      cond (recalled chance (w .word state)) (successRating w g x (w .after state) ∷ []) (lapseRatings k chance (w .after state))
+      cond (recalled chance (w .word state)) (successRating w g x (w .after state) ∷ [])
+      (lapseRatings k chance (w .after state))
 
   -- of the event of a card, new or not, on a day, from a state of the draws
   unfoldable pub ratingsOf : Card → Bool → ℕ → ℕ → Drawn
@@ -69,7 +72,8 @@ costOf g (learn []) = nan
 costOf g (learn (r ∷ rs)) = paid (rowOf (g .«state_rating_costs») 0) (ofRating (rowOf (g .«state_rating_costs») 0) r) rs
 costOf g (review recalled []) = nan
 costOf g (review true (r ∷ rs)) = ofRating (rowOf (g .«state_rating_costs») 1) r
-costOf g (review false (r ∷ rs)) = ofRating (rowOf (g .«state_rating_costs») 1) r +ᶠ paid (rowOf (g .«state_rating_costs») 2) 0ᶠ rs
+costOf g (review false (r ∷ rs)) = ofRating (rowOf (g .«state_rating_costs») 1) r +ᶠ paid
+    (rowOf (g .«state_rating_costs») 2) 0ᶠ rs
 costOf g putOff = nan
 costOf g retire = nan
 

@@ -111,7 +111,8 @@ module _ (w : DrawRule) (g : SimulatorConfig) (x : Scalars) where
   unfoldable pub learning : ℕ → Memory
   learning state =
       let first = firstOf state in
-      let t = shortSteps w x (g .«learning_step_transitions») (rowOf (g .«state_rating_costs») 0) (learningLimit g (first .rating)) 5 first in
+      let t = shortSteps w x (g .«learning_step_transitions») (rowOf (g .«state_rating_costs») 0)
+      (learningLimit g (first .rating)) 5 first in
       memoryOf t (t .cost) true
 
   -- a review that was recalled: a rating of 2 to 4
@@ -142,7 +143,8 @@ module _ (w : DrawRule) (g : SimulatorConfig) (x : Scalars) where
 
   unfoldable pub lapse : Card → Float → ℕ → Memory
   lapse k chance state =
-      let t = shortSteps w x (g .«relearning_step_transitions») (rowOf (g .«state_rating_costs») 2) (g .«relearning_step_count») 5 (failedOf k chance state) in
+      let t = shortSteps w x (g .«relearning_step_transitions») (rowOf (g .«state_rating_costs») 2)
+      (g .«relearning_step_count») 5 (failedOf k chance state) in
       memoryOf t (ofRating (rowOf (g .«state_rating_costs») 1) 1 +ᶠ t .cost) false
 
   -- a review at a chance to recall draws once, whatever the chance
@@ -150,7 +152,8 @@ module _ (w : DrawRule) (g : SimulatorConfig) (x : Scalars) where
   reviewing k chance state =
       let draws = w .after state in
       pickEvent (chanceOk chance)
-      (pickEvent (recalled chance (w .word state)) (event.Happened (success k chance draws)) (event.Happened (lapse k chance draws)))
+      (pickEvent (recalled chance (w .word state)) (event.Happened (success k chance draws))
+      (event.Happened (lapse k chance draws)))
       event.ChanceOutOfRange
 
   -- a learning of a new card, or a review at a chance

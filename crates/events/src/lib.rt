@@ -7,7 +7,9 @@ ghost use mathlib.Core.Path.{_≡_};
 ghost use Prim.Native.Nat.{_-_, _≤_, _<_};
 ghost use Rattle.draws.specs.Draws.{word, rating, splitMix};
 ghost use Rattle.events.specs.Scalars.{kept};
-ghost use Rattle.events.specs.Events.{ratingOf, recalledRatingOf, ofRating, consecutiveAfter, shortStep, shortSteps, memoryOf, learningLimit, learning, success, lapse, chanceOk, reviewing, eventAt};
+ghost use Rattle.events.specs.Events.{ratingOf, recalledRatingOf, ofRating, consecutiveAfter, shortStep};
+ghost use Rattle.events.specs.Events.{shortSteps, memoryOf, learningLimit, learning, success, lapse, chanceOk};
+ghost use Rattle.events.specs.Events.{reviewing, eventAt};
 
 // What an event leaves: the card's memory, what it cost, whether the card was recalled, and the state of the draws.
 pub struct Memory {

@@ -1,4 +1,5 @@
--- A float `as` an integer, by ranges: above the type's largest number, below its smallest, and between, where std's `truncating_` functions go. Assumes nothing.
+-- A float `as` an integer, by ranges: above the type's largest number, below its smallest, and between, where std's
+-- `truncating_` functions go. Assumes nothing.
 use mathlib.Core.Path.{_≡_, refl, sym, ap}
 use mathlib.Core.Bool.{Bool, true, false, not, _&&_, _||_}
 use Prim.Native.Nat.{ℕ, _+_, _-_, _*_, _/_, _^_, _≤_, _<_, min}
@@ -53,16 +54,20 @@ unfolding le lt eq toSigned
 top-signed w nan t = absurd t
 top-signed w (inf true) t = absurd t
 top-signed w (inf false) t = refl
-top-signed w (fin true m e) t = absurd (not-zero (1 * 2 ^ w * down e) (eqb (1 * 2 ^ w * down e) (m * up e * 1)) (above-zero w (down e) (down-pos e)) t)
-top-signed w (fin false m e) t = ap pos (capped (2 ^ w) (m * up e / down e) (at-least (m * up e) (down e) (2 ^ w) (down-pos e) (le-pos 1 (pos w) m e t)))
+top-signed w (fin true m e) t = absurd (not-zero (1 * 2 ^ w * down e) (eqb (1 * 2 ^ w * down e) (m * up e * 1))
+    (above-zero w (down e) (down-pos e)) t)
+top-signed w (fin false m e) t = ap pos
+    (capped (2 ^ w) (m * up e / down e) (at-least (m * up e) (down e) (2 ^ w) (down-pos e) (le-pos 1 (pos w) m e t)))
 
 pub top-unsigned : (w : ℕ) (x : Float) → T (le (two-to w) x) → 2 ^ w - 1 ≡ toUnsigned w x
 unfolding le lt eq toUnsigned
 top-unsigned w nan t = absurd t
 top-unsigned w (inf true) t = absurd t
 top-unsigned w (inf false) t = refl
-top-unsigned w (fin true m e) t = absurd (not-zero (1 * 2 ^ w * down e) (eqb (1 * 2 ^ w * down e) (m * up e * 1)) (above-zero w (down e) (down-pos e)) t)
-top-unsigned w (fin false m e) t = capped (2 ^ w) (m * up e / down e) (at-least (m * up e) (down e) (2 ^ w) (down-pos e) (le-pos 1 (pos w) m e t))
+top-unsigned w (fin true m e) t = absurd (not-zero (1 * 2 ^ w * down e) (eqb (1 * 2 ^ w * down e) (m * up e * 1))
+    (above-zero w (down e) (down-pos e)) t)
+top-unsigned w (fin false m e) t = capped (2 ^ w) (m * up e / down e) (at-least (m * up e) (down e) (2 ^ w) (down-pos e)
+    (le-pos 1 (pos w) m e t))
 
 -- ---- at least -2 ^ 31, and below 2 ^ 31
 uncapped-le : (q P R : ℕ) → q ≤ P → P ≤ R → min q R ≡ min q P
@@ -103,13 +108,15 @@ middle (fin true m e) a b =
     let h : n * 1 ≤ 1 * 2 ^ 31 * d = le-neg 1 (pos 31) m e a in (
       or-l (ltb (n * 1) (1 * 2 ^ 63 * d)) _ (lt→ltb (n * 1) (1 * 2 ^ 63 * d) (wide n d (down-pos e) h)),
       lt→ltb 0 (n * 1 + 1 * 2 ^ 63 * d) (sum-positive _ _ (above-zero 63 d (down-pos e))),
-      ap (λ (k : ℕ). negℤ (pos k)) (uncapped-le (n / d) (2 ^ 31) (2 ^ 63) (at-most n d (2 ^ 31) (down-pos e) h) (lit≤ tt)),
+      ap (λ (k : ℕ). negℤ (pos k)) (uncapped-le (n / d) (2 ^ 31) (2 ^ 63) (at-most n d (2 ^ 31) (down-pos e) h)
+          (lit≤ tt)),
     )
 middle (fin false m e) a b =
     let n = m * up e in
     let d = down e in
     let h : n * 1 < 1 * 2 ^ 31 * d = gt-pos 1 (pos 31) m e b in (
-      or-l (ltb 0 (1 * 2 ^ 63 * d + n * 1)) _ (lt→ltb 0 (1 * 2 ^ 63 * d + n * 1) (positive-sum _ _ (above-zero 63 d (down-pos e)))),
+      or-l (ltb 0 (1 * 2 ^ 63 * d + n * 1)) _
+          (lt→ltb 0 (1 * 2 ^ 63 * d + n * 1) (positive-sum _ _ (above-zero 63 d (down-pos e)))),
       lt→ltb (n * 1) (1 * 2 ^ 63 * d) (wide n d (down-pos e) (le-of-lt h)),
       ap pos (uncapped-lt (n / d) (2 ^ 31) (2 ^ 63) (below n d (2 ^ 31) (down-pos e) h) (lit≤ tt)),
     )
@@ -121,24 +128,33 @@ full P q h = omega arith
 at-least-2 : (n d : ℕ) → 0 < d → 2147483648 * d < n * 1 → 2147483648 ≤ n / d
 at-least-2 n d D h = at-least n d 2147483648 D (le-of-lt h)
 
-pub bottom-signed : (x : Float) → T (not (le (minus-two-to 31) x)) → T (lt x (fin false 0 (pos 0))) → negsuc 2147483647 ≡ toSigned 31 x
+pub bottom-signed : (x : Float) → T (not (le (minus-two-to 31) x)) → T (lt x (fin false 0 (pos 0)))
+    → negsuc 2147483647 ≡ toSigned 31 x
 unfolding le lt eq toSigned
 bottom-signed nan a b = absurd b
 bottom-signed (inf true) a b = refl
 bottom-signed (inf false) a b = absurd a
-bottom-signed (fin true m e) a b = sym (ap (λ (k : ℕ). negℤ (pos k)) (full (2 ^ 31) (m * up e / down e) (at-least-2 (m * up e) (down e) (down-pos e) (gt-neg 1 (pos 31) m e a))))
-bottom-signed (fin false m e) a b = absurd (T-not (ltb 0 (1 * 2 ^ 31 * down e + m * up e * 1)) (nor-l (ltb 0 (1 * 2 ^ 31 * down e + m * up e * 1)) (eq (minus-two-to 31) (fin false m e)) a) (lt→ltb 0 (1 * 2 ^ 31 * down e + m * up e * 1) (positive-sum _ _ (above-zero 31 (down e) (down-pos e)))))
+bottom-signed (fin true m e) a b = sym
+    (ap (λ (k : ℕ). negℤ (pos k))
+    (full (2 ^ 31) (m * up e / down e) (at-least-2 (m * up e) (down e) (down-pos e) (gt-neg 1 (pos 31) m e a))))
+bottom-signed (fin false m e) a b = absurd (T-not (ltb 0 (1 * 2 ^ 31 * down e + m * up e * 1))
+    (nor-l (ltb 0 (1 * 2 ^ 31 * down e + m * up e * 1)) (eq (minus-two-to 31) (fin false m e)) a)
+    (lt→ltb 0 (1 * 2 ^ 31 * down e + m * up e * 1) (positive-sum _ _ (above-zero 31 (down e) (down-pos e)))))
 
-pub nan-signed : (x : Float) → T (not (le (minus-two-to 31) x)) → T (not (lt x (fin false 0 (pos 0)))) → pos 0 ≡ toSigned 31 x
+pub nan-signed : (x : Float) → T (not (le (minus-two-to 31) x)) → T (not (lt x (fin false 0 (pos 0))))
+    → pos 0 ≡ toSigned 31 x
 unfolding le lt eq toSigned
 nan-signed nan a b = refl
 nan-signed (inf true) a b = absurd b
 nan-signed (inf false) a b = absurd a
-nan-signed (fin true m e) a b = absurd (T-not (ltb 0 (m * up e * 1 + 0 * 1 * down e)) b (lt→ltb 0 (m * up e * 1 + 0 * 1 * down e) (gone (m * up e) (down e) (gt-neg 1 (pos 31) m e a))))
+nan-signed (fin true m e) a b = absurd (T-not (ltb 0 (m * up e * 1 + 0 * 1 * down e)) b
+    (lt→ltb 0 (m * up e * 1 + 0 * 1 * down e) (gone (m * up e) (down e) (gt-neg 1 (pos 31) m e a))))
   where
     gone : (n d : ℕ) → 2147483648 * d < n * 1 → 0 < n * 1 + 0 * 1 * d
     gone n d h = omega arith
-nan-signed (fin false m e) a b = absurd (T-not (ltb 0 (1 * 2 ^ 31 * down e + m * up e * 1)) (nor-l (ltb 0 (1 * 2 ^ 31 * down e + m * up e * 1)) (eq (minus-two-to 31) (fin false m e)) a) (lt→ltb 0 (1 * 2 ^ 31 * down e + m * up e * 1) (positive-sum _ _ (above-zero 31 (down e) (down-pos e)))))
+nan-signed (fin false m e) a b = absurd (T-not (ltb 0 (1 * 2 ^ 31 * down e + m * up e * 1))
+    (nor-l (ltb 0 (1 * 2 ^ 31 * down e + m * up e * 1)) (eq (minus-two-to 31) (fin false m e)) a)
+    (lt→ltb 0 (1 * 2 ^ 31 * down e + m * up e * 1) (positive-sum _ _ (above-zero 31 (down e) (down-pos e)))))
 
 -- ---- unsigned
 pub zero-unsigned : (w : ℕ) (x : Float) → T (not (lt (minus-two-to 0) x)) → 0 ≡ toUnsigned w x
@@ -147,7 +163,8 @@ zero-unsigned w nan a = refl
 zero-unsigned w (inf true) a = refl
 zero-unsigned w (inf false) a = absurd a
 zero-unsigned w (fin true m e) a = refl
-zero-unsigned w (fin false m e) a = absurd (T-not (ltb 0 (1 * down e + m * up e * 1)) a (lt→ltb 0 (1 * down e + m * up e * 1) (positive-sum _ _ (above-zero 0 (down e) (down-pos e)))))
+zero-unsigned w (fin false m e) a = absurd (T-not (ltb 0 (1 * down e + m * up e * 1)) a
+    (lt→ltb 0 (1 * down e + m * up e * 1) (positive-sum _ _ (above-zero 0 (down e) (down-pos e)))))
 
 negative-lt : (m : ℕ) (e : ℤ) (w : ℕ) → T (lt (fin true m e) (two-to w))
 unfolding lt
@@ -168,5 +185,8 @@ middle-unsigned (fin true m e) a b = (negative-lt m e 64, refl)
 middle-unsigned (fin false m e) a b =
     let n = m * up e in
     let d = down e in
-    let h : n * 1 < 1 * 2 ^ 32 * d = gt-pos 1 (pos 32) m e b in
-    (lt→ltb (n * 1) (1 * 2 ^ 64 * d) (wide-u n d (down-pos e) h), uncapped-lt (n / d) (2 ^ 32) (2 ^ 64) (below n d (2 ^ 32) (down-pos e) h) (lit≤ tt))
+    let h : n * 1 < 1 * 2 ^ 32 * d = gt-pos 1 (pos 32) m e b in (
+      lt→ltb (n * 1) (1 * 2 ^ 64 * d) (wide-u n d (down-pos e) h),
+      uncapped-lt (n / d) (2 ^ 32) (2 ^ 64)
+          (below n d (2 ^ 32) (down-pos e) h) (lit≤ tt),
+    )

@@ -6,7 +6,8 @@ use native.Mathlib.Nat.{mod-lt}
 use native.Mathlib.Omega.{arith}
 use lib.Dec.{T, leb, eqb, eqb·suc-zero, eqb-refl, lit<}
 use lib.Pow.{field}
-use lib.Ieee.{Float, nan, inf, fin, Format, binary32, binary64, prec, low, hid, ones, top, odd, fits, isNan, ofFields, ofBits, toBits}
+use lib.Ieee.{Float, nan, inf, fin, Format, binary32, binary64, prec, low, hid, ones, top, odd, fits, isNan, ofFields}
+use lib.Ieee.{ofBits, toBits}
 use borrow.Author.Tests.{ne-eqb}
 use lib.Ieee.Bits.{is-true, ofBits-toBits}
 use lib.Ieee.Exact.{HasValue, odd-sign}
@@ -64,9 +65,12 @@ module _ (f : Format) where
       let n : eqb (suc j) (ones f) ≡ false = at-top (eqb (suc j) (ones f)) (eqb t 0) s v p in
       let is : cond (eqb (suc j) (ones f)) u v ≡ v = ap (λ (b : Bool). cond b u v) n in (
         subst (λ (z : Float). HasValue z s (lead (suc j) t * 2 ^ (suc j - 1)) (2 ^ low f)) (sym is)
-            (subst (λ (b : Bool). HasValue v s (cond b t (hid f + t) * 2 ^ (suc j - 1)) (2 ^ low f)) (sym (eqb·suc-zero j))
-            (subst (λ (i : ℕ). HasValue v s ((hid f + t) * 2 ^ i) (2 ^ low f)) (sym (pred-suc j)) (odd-sign (prec f) s (hid f + t) j (low f)))),
-        under (ones f) j X (λ (k : suc j ≡ ones f). true≢false (sym (is-true (eqb (suc j) (ones f)) (subst (λ (i : ℕ). T (eqb (suc j) i)) k (eqb-refl (suc j)))) ∙ n)),
+            (subst (λ (b : Bool). HasValue v s (cond b t (hid f + t) * 2 ^ (suc j - 1)) (2 ^ low f))
+            (sym (eqb·suc-zero j))
+            (subst (λ (i : ℕ). HasValue v s ((hid f + t) * 2 ^ i) (2 ^ low f)) (sym (pred-suc j))
+            (odd-sign (prec f) s (hid f + t) j (low f)))),
+        under (ones f) j X (λ (k : suc j ≡ ones f). true≢false
+            (sym (is-true (eqb (suc j) (ones f)) (subst (λ (i : ℕ). T (eqb (suc j) i)) k (eqb-refl (suc j)))) ∙ n)),
       )
 
   lead-lt : (x t : ℕ) → t < hid f → lead x t < 2 ^ prec f
@@ -95,7 +99,8 @@ module _ (f : Format) where
   ofBits-is b = refl
 
   abbrev pub Decoded : ℕ → Float → Type 0
-  Decoded b x = HasValue x (leb (top f) b) (significand f b * 2 ^ exponent f b) (2 ^ low f) × (exponent f b ≤ ones f - 2)
+  Decoded b x = HasValue x (leb (top f) b) (significand f b * 2 ^ exponent f b) (2 ^ low f)
+      × (exponent f b ≤ ones f - 2)
 
   decode-bits : (b : ℕ) → T (isFinite (ofBits f b)) → Decoded b (ofBits f b)
   unfolding significand exponent
@@ -104,7 +109,8 @@ module _ (f : Format) where
       let t = b % hid f in
       let x = b / hid f % suc (ones f) in
       let e : ofBits f b ≡ ofFields f s x t = ofBits-is b ∙ ap (λ (i : ℕ). ofFields f s i t) (field-is f b) in
-      subst (λ (v : Float). Read s x t v) (sym e) (read s x t (mod-lt (b / hid f) (ones-pos f)) (subst (λ (v : Float). T (isFinite v)) e p))
+      subst (λ (v : Float). Read s x t v) (sym e) (read s x t (mod-lt (b / hid f) (ones-pos f))
+      (subst (λ (v : Float). T (isFinite v)) e p))
 
   pub decode : (x : Float) → T (fits f x) → T (isFinite x) → Decoded (toBits f x) x
   decode x F p =

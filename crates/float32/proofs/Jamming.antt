@@ -2,7 +2,8 @@
 use mathlib.Core.Path.{_≡_, refl, sym, ap, _∙_, subst}
 use mathlib.Core.Logic.{inr}
 use Prim.Native.Nat.{ℕ, _+_, _-_, _*_, _/_, _%_, _^_, _≤_, _<_}
-use native.Mathlib.Nat.{lt-of-lt-of-le, le-trans, add-mul, one-mul, zero-mul, mod-lt, mod-eq-of-lt, div-add-mod', div-mul-le-self, le-of-eq, mul-one, mul-le-mul-left}
+use native.Mathlib.Nat.{lt-of-lt-of-le, le-trans, add-mul, one-mul, zero-mul, mod-lt, mod-eq-of-lt, div-add-mod'}
+use native.Mathlib.Nat.{div-mul-le-self, le-of-eq, mul-one, mul-le-mul-left}
 use native.Mathlib.Omega.{arith}
 use lib.Pow.{pow-pos, pow-mono}
 use Rattle.float32.specs.Sticky.{Jammed}
@@ -75,7 +76,13 @@ module _ (x d : ℕ) where
 pub jam-all : (x d : ℕ) → x < 2 ^ 64 → 63 < d → (x ≡ 0 → ⊥) → Jammed x d 1
 jam-all x d h k f =
     let l : x < 2 ^ d = lt-of-lt-of-le h (pow-mono {i = 64} {j = d} k) in
-    inr (record { odd = refl; over = go (zero-mul (2 ^ d)) f; under = twice (2 ^ d) l; lost = subst (λ (z : ℕ). 0 < z) (sym (mod-eq-of-lt l)) (some f) })
+    inr (record {
+      odd = refl;
+      over = go (zero-mul (2 ^ d)) f;
+      under = twice (2 ^ d) l;
+      lost = subst (λ (z : ℕ). 0 < z)
+          (sym (mod-eq-of-lt l)) (some f);
+    })
   where
     some : (x ≡ 0 → ⊥) → 0 < x
     some g = omega (arith, g)
@@ -88,7 +95,8 @@ jam-all x d h k f =
 
 -- the next number is a word where something is lost
 pub jam-room : (x d : ℕ) → x < 2 ^ 64 → (x / 2 ^ d * 2 ^ d ≡ x → ⊥) → x / 2 ^ d + 1 < 2 ^ 64
-jam-room x d h f = go (x / 2 ^ d) (x / 2 ^ d * 2 ^ d) (div-mul-le-self x (2 ^ d)) (le-trans (le-of-eq (sym (mul-one (x / 2 ^ d)))) (mul-le-mul-left (x / 2 ^ d) (pow-pos d))) f
+jam-room x d h f = go (x / 2 ^ d) (x / 2 ^ d * 2 ^ d) (div-mul-le-self x (2 ^ d))
+    (le-trans (le-of-eq (sym (mul-one (x / 2 ^ d)))) (mul-le-mul-left (x / 2 ^ d) (pow-pos d))) f
   where
     go : (a b : ℕ) → b ≤ x → a ≤ b → (b ≡ x → ⊥) → a + 1 < 2 ^ 64
     go a b k l g = omega (arith, g)

@@ -1,4 +1,5 @@
--- Laws of `clamp`, `max` and `min`: a number that is clamped lies between the ends, and which maxima and minima are numbers. Assumes nothing.
+-- Laws of `clamp`, `max` and `min`: a number that is clamped lies between the ends, and which maxima and minima are
+-- numbers. Assumes nothing.
 use mathlib.Core.Path.{_≡_, refl, sym}
 use mathlib.Core.Bool.{Bool, true, false, _&&_, _||_, cond, true≢false}
 use Prim.Native.Nat.{ℕ, _+_, _*_, _≤_}
@@ -35,7 +36,8 @@ flip true a true b e = go (ltb a b) (ltb-false a b)
   where
     go : (x : Bool) → (x ≡ false → b ≤ a) → T (x || (eqb b a && true))
     go true f = tt
-    go false f = let z = f refl in let y : a ≤ b = ltb-false b a e in let q : b ≡ a = omega arith in rw (eq-eqb b a q) tt
+    go false f = let z = f refl in let y : a ≤ b = ltb-false b a e in let q : b ≡ a = omega arith in rw (eq-eqb b a q)
+        tt
 
 pub not-below : (x y : Float) → isNan x ≡ false → isNan y ≡ false → lt x y ≡ false → T (le y x)
 unfolding le lt eq isNan
@@ -104,7 +106,11 @@ clamp-between x lo hi p h = go (lt x lo) refl (lt hi x) refl
     go : (a : Bool) → lt x lo ≡ a → (b : Bool) → lt hi x ≡ b → Between lo hi (cond a lo (cond b hi x))
     go true e b z = record { least = le-refl lo (le-left lo hi h); most = h }
     go false e true z = record { least = h; most = le-refl hi (le-right lo hi h) }
-    go false e false z = record { least = not-below x lo p (le-left lo hi h) e; most = not-below hi x (le-right lo hi h) p z }
+    go false e false z = record {
+      least = not-below x lo p (le-left lo hi h) e;
+      most = not-below hi x (le-right lo hi h)
+          p z;
+    }
 
 -- ---- max and min
 pub max-ge : (x y : Float) → isNan y ≡ false → T (le y (max x y))

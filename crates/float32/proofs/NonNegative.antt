@@ -1,4 +1,5 @@
--- Floats with a clear sign, +infinity too: sums and products of them are such floats again, and none is below 0. Assumes nothing.
+-- Floats with a clear sign, +infinity too: sums and products of them are such floats again, and none is below 0.
+-- Assumes nothing.
 use mathlib.Core.Path.{_≡_, refl, sym, _∙_, subst}
 use mathlib.Core.Bool.{Bool, true, false, not, cond, true≢false}
 use Prim.Native.Nat.{ℕ, zero, suc, _+_, _*_, _^_, _<_}
@@ -7,7 +8,8 @@ use native.Mathlib.Omega.{arith}
 use borrow.Author.Tests.{le-ltb, lt-ltb, ne-eqb}
 use lib.Dec.{T, ltb, eqb}
 use lib.IntN.{ℤ, pos}
-use lib.Ieee.{Float, nan, inf, fin, Format, up, down, prec, emax, low, odd, units, round, sum, add, mul, div, ofInt, lt, isNan}
+use lib.Ieee.{Float, nan, inf, fin, Format, up, down, prec, emax, low, odd, units, round, sum, add, mul, div, ofInt, lt}
+use lib.Ieee.{isNan}
 use lib.Ieee.Fits.{down-pos, up-pos, round-is}
 use Rattle.float32.specs.Float32.{max, min}
 
@@ -59,22 +61,28 @@ add-clear f (fin false m e) (fin true n d) h k = absurd k
 add-clear f (fin false m e) (fin false n d) h k = round-clear f _ _
 
 -- by a finite number above 0
-pub mul-clear : (f : Format) (x : Float) (n : ℕ) (d : ℤ) → T (nonNegative x) → T (nonNegative (mul f x (fin false (suc n) d)))
+pub mul-clear : (f : Format) (x : Float) (n : ℕ) (d : ℤ) → T (nonNegative x)
+    → T (nonNegative (mul f x (fin false (suc n) d)))
 unfolding mul
 mul-clear f nan n d h = absurd h
 mul-clear f (inf true) n d h = absurd h
-mul-clear f (inf false) n d h = subst (λ (b : Bool). T (nonNegative (cond b nan (inf false)))) (sym (ne-eqb (suc n) 0 (λ (e : suc n ≡ 0). omega arith))) tt
+mul-clear f (inf false) n d h = subst (λ (b : Bool). T (nonNegative (cond b nan (inf false))))
+    (sym (ne-eqb (suc n) 0 (λ (e : suc n ≡ 0). omega arith))) tt
 mul-clear f (fin true m e) n d h = absurd h
 mul-clear f (fin false m e) n d h = round-clear f _ _
 
-pub div-clear : (f : Format) (x : Float) (n : ℕ) (d : ℤ) → T (nonNegative x) → T (nonNegative (div f x (fin false (suc n) d)))
+pub div-clear : (f : Format) (x : Float) (n : ℕ) (d : ℤ) → T (nonNegative x)
+    → T (nonNegative (div f x (fin false (suc n) d)))
 unfolding div
 div-clear f nan n d h = absurd h
 div-clear f (inf true) n d h = absurd h
 div-clear f (inf false) n d h = tt
 div-clear f (fin true m e) n d h = absurd h
 div-clear f (fin false m e) n d h =
-    subst (λ (b : Bool). T (nonNegative (cond b (cond (eqb m 0) nan (inf false)) (round f false (m * up e * down d) (suc n * up d * down e))))) (sym (ne-eqb (suc n) 0 (λ (e : suc n ≡ 0). omega arith)))
+    subst (λ (b : Bool). T
+    (nonNegative (cond b (cond (eqb m 0) nan (inf false))
+    (round f false (m * up e * down d) (suc n * up d * down e)))))
+    (sym (ne-eqb (suc n) 0 (λ (e : suc n ≡ 0). omega arith)))
     (round-clear f _ _)
 
 -- ---- not below 0, and what is not below a positive number has a clear sign
@@ -92,7 +100,9 @@ clear-above nan n d p h = absurd (true≢false p)
 clear-above (inf true) n d p h = absurd (true≢false h)
 clear-above (inf false) n d p h = tt
 clear-above (fin false m e) n d p h = tt
-clear-above (fin true m e) n d p h = absurd (true≢false (sym (lt-ltb 0 (m * up e * down d + suc n * up d * down e) (go (m * up e * down d) (suc n * up d * down e) (mul-pos (mul-pos (omega arith) (up-pos d)) (down-pos e)))) ∙ h))
+clear-above (fin true m e) n d p h = absurd
+    (true≢false (sym (lt-ltb 0 (m * up e * down d + suc n * up d * down e)
+    (go (m * up e * down d) (suc n * up d * down e) (mul-pos (mul-pos (omega arith) (up-pos d)) (down-pos e)))) ∙ h))
   where
     go : (a b : ℕ) → 0 < b → 0 < a + b
     go a b l = omega arith
@@ -101,7 +111,8 @@ pub max-clear : (x : Float) (n : ℕ) (d : ℤ) → T (nonNegative (max x (fin f
 unfolding max
 max-clear x n d = go (isNan x) refl (lt x (fin false (suc n) d)) refl
   where
-    go : (a : Bool) → isNan x ≡ a → (b : Bool) → lt x (fin false (suc n) d) ≡ b → T (nonNegative (cond a (fin false (suc n) d) (cond b (fin false (suc n) d) x)))
+    go : (a : Bool) → isNan x ≡ a → (b : Bool) → lt x (fin false (suc n) d) ≡ b
+        → T (nonNegative (cond a (fin false (suc n) d) (cond b (fin false (suc n) d) x)))
     go true p b e = tt
     go false p true e = tt
     go false p false e = clear-above x n d p e

@@ -1,8 +1,10 @@
--- A word shifted up until its highest digit is at exponent binary32 61, and the sums of which one term is 0. Assumes nothing.
+-- A word shifted up until its highest digit is at exponent binary32 61, and the sums of which one term is 0. Assumes
+-- nothing.
 use mathlib.Core.Path.{_≡_, refl, sym, ap, _∙_, subst}
 use mathlib.Core.Bool.{Bool, true, false, _&&_, true≢false}
 use Prim.Native.Nat.{ℕ, _+_, _-_, _*_, _%_, _^_, _≤_, _<_}
-use native.Mathlib.Nat.{le-of-eq, le-trans, lt-of-lt-of-le, lt-of-le-of-lt, lt-of-not-le, lt-irrefl, mul-assoc, mul-le-mul-right, mod-eq-of-lt, mul-mod-left}
+use native.Mathlib.Nat.{le-of-eq, le-trans, lt-of-lt-of-le, lt-of-le-of-lt, lt-of-not-le, lt-irrefl, mul-assoc}
+use native.Mathlib.Nat.{mul-le-mul-right, mod-eq-of-lt, mul-mod-left}
 use native.Mathlib.Omega.{arith}
 use lib.Dec.{lit≤}
 use lib.Pow.{pow-mono, shl-lt}
@@ -26,7 +28,8 @@ module _ (m z : ℕ) (P : 0 < m) (H : m < 2 ^ 60) (e : z ≡ size m) where
   i = 62 - z
 
   under : m * 2 ^ i < 2 ^ 62
-  under = lt-of-lt-of-le (shl-lt z i (subst (λ (k : ℕ). m < 2 ^ k) (sym e) (size-lt m))) (pow-mono {i = z + i} {j = 62} (omega (arith, z-le)))
+  under = lt-of-lt-of-le (shl-lt z i (subst (λ (k : ℕ). m < 2 ^ k) (sym e) (size-lt m)))
+      (pow-mono {i = z + i} {j = 62} (omega (arith, z-le)))
 
   is : m * 2 ^ i % 2 ^ 64 ≡ m * 2 ^ i
   is = mod-eq-of-lt (lt-of-lt-of-le under (lit≤ tt))
@@ -49,9 +52,11 @@ module _ (m z : ℕ) (P : 0 < m) (H : m < 2 ^ 60) (e : z ≡ size m) where
   n-fours = ap (λ (k : ℕ). k % 4) (is ∙ fours) ∙ mul-mod-left (m * 2 ^ (i - 2)) 4
 
   pub n-value : (a : ℕ) → 62 ≤ a → m * 2 ^ i % 2 ^ 64 * 2 ^ (a - i) ≡ m * 2 ^ a
-  n-value a h = ap (λ (k : ℕ). k * 2 ^ (a - i)) is ∙ mul-assoc m (2 ^ i) (2 ^ (a - i)) ∙ ap (λ (k : ℕ). m * k) (pow-split i (a - i) a (omega arith))
+  n-value a h = ap (λ (k : ℕ). k * 2 ^ (a - i)) is ∙ mul-assoc m (2 ^ i) (2 ^ (a - i)) ∙ ap (λ (k : ℕ). m * k)
+      (pow-split i (a - i) a (omega arith))
 
-pub ordered : (h e l d : ℕ) → 2 ^ 61 ≤ h → h < 2 ^ 62 → l < 2 ^ 62 → h % 4 ≡ 0 → l % 4 ≡ 0 → d ≤ e → e < 2 ^ 32 → Ordered h e l d
+pub ordered : (h e l d : ℕ) → 2 ^ 61 ≤ h → h < 2 ^ 62 → l < 2 ^ 62 → h % 4 ≡ 0 → l % 4 ≡ 0 → d ≤ e → e < 2 ^ 32
+    → Ordered h e l d
 ordered h e l d a b c p q r s = record { high = a; h-lt = b; l-lt = c; h-even = p; l-even = q; d-le = r; e-lt = s }
 
 pub back : (x y : ℕ) → y ≤ x → x - (x - y) ≡ y
@@ -63,7 +68,8 @@ module _ (s t : Bool) (A B c : ℕ) where
   zero-left a b = test (unlike s t) no yes
     where
       yes : unlike s t ≡ false → round binary32 t B c ≡ sum binary32 s A t B c
-      yes h = sym (sum-like binary32 A B c s t h ∙ ap (λ (z : Bool). round binary32 z (A + B) c) (like-same s t h) ∙ ap (λ (z : ℕ). round binary32 t z c) (omega arith))
+      yes h = sym (sum-like binary32 A B c s t h ∙ ap (λ (z : Bool). round binary32 z (A + B) c) (like-same s t h)
+          ∙ ap (λ (z : ℕ). round binary32 t z c) (omega arith))
 
       no : unlike s t ≡ true → round binary32 t B c ≡ sum binary32 s A t B c
       no h = sym (sum-under binary32 A B c s t h (omega arith) ∙ ap (λ (z : ℕ). round binary32 t z c) (omega arith))
@@ -91,7 +97,9 @@ module _ (s t : Bool) (A B c : ℕ) where
       and-unlike false q h = refl
 
       yes : unlike s t ≡ false → round binary32 (s && t) 0 c ≡ sum binary32 s A t B c
-      yes h = ap (λ (z : Bool). round binary32 z 0 c) (and-like s t h) ∙ sym (sum-like binary32 A B c s t h ∙ ap (λ (z : ℕ). round binary32 s z c) (omega arith))
+      yes h = ap (λ (z : Bool). round binary32 z 0 c) (and-like s t h)
+          ∙ sym (sum-like binary32 A B c s t h ∙ ap (λ (z : ℕ). round binary32 s z c) (omega arith))
 
       no : unlike s t ≡ true → round binary32 (s && t) 0 c ≡ sum binary32 s A t B c
-      no h = ap (λ (z : Bool). round binary32 z 0 c) (and-unlike s t h) ∙ sym (sum-level binary32 A B c s t h (omega arith))
+      no h = ap (λ (z : Bool). round binary32 z 0 c) (and-unlike s t h)
+          ∙ sym (sum-level binary32 A B c s t h (omega arith))

@@ -20,7 +20,8 @@ use Rattle.float32.proofs.Widened.{fraction, sum-64, round-no-nan, bits
 
 quick-sig : (b : ℕ) → RoundsOnce b → significand binary64 b ≡ 2 ^ 52 + b % 2 ^ 52
 unfolding significand
-quick-sig b w = ap (λ (z : Bool). cond z (b % 2 ^ 52) (2 ^ 52 + b % 2 ^ 52)) (ne-eqb (b / 2 ^ 52 % 2 ^ 11) 0 (λ (e : b / 2 ^ 52 % 2 ^ 11 ≡ 0). omega (arith, w .low)))
+quick-sig b w = ap (λ (z : Bool). cond z (b % 2 ^ 52) (2 ^ 52 + b % 2 ^ 52))
+    (ne-eqb (b / 2 ^ 52 % 2 ^ 11) 0 (λ (e : b / 2 ^ 52 % 2 ^ 11 ≡ 0). omega (arith, w .low)))
 
 module _ (b : ℕ) (w : RoundsOnce b) where
   quick-lo : 2 ^ 52 < significand binary64 b
@@ -75,7 +76,8 @@ module _ (b : ℕ) (w : RoundsOnce b) where
       ∙ go (exponent binary64 b) (b % 2 ^ 52) quick-place
       ∙ ap (λ (m : ℕ). 7516192768 + (k * 2 ^ 23 + (m + 2 ^ 28) / 2 ^ 29)) (sym (quick-sig b w))
     where
-      go : (e t : ℕ) → 896 ≤ e → ((e + 1) * 2 ^ 52 + t + 2 ^ 28) / 2 ^ 29 ≡ 7516192768 + ((e - 896) * 2 ^ 23 + (2 ^ 52 + t + 2 ^ 28) / 2 ^ 29)
+      go : (e t : ℕ) → 896 ≤ e → ((e + 1) * 2 ^ 52 + t + 2 ^ 28) / 2 ^ 29
+          ≡ 7516192768 + ((e - 896) * 2 ^ 23 + (2 ^ 52 + t + 2 ^ 28) / 2 ^ 29)
       go e t h = omega arith
 
   pub narrow-room : 7516192768 ≤ (b % 2 ^ 63 + 2 ^ 28) / 2 ^ 29
@@ -99,12 +101,15 @@ module _ (b : ℕ) (w : RoundsOnce b) where
         go d n g s e f = omega arith
 
     pub narrow-is : ofBits binary32 short ≡ units binary32 (leb (2 ^ 63) b) q k
-    narrow-is = ap (λ (n : ℕ). ofBits binary32 n) short-is ∙ pack-units (leb (2 ^ 63) b) q k k-lt q-le (λ (h : 0 < k). q-ge)
+    narrow-is = ap (λ (n : ℕ). ofBits binary32 n) short-is ∙ pack-units (leb (2 ^ 63) b) q k k-lt q-le
+        (λ (h : 0 < k). q-ge)
 
     pub narrow-no-nan : T (not (nanBits binary32 short))
-    narrow-no-nan = subst (λ (n : ℕ). T (not (nanBits binary32 n))) (sym short-is) (pack-no-nan (leb (2 ^ 63) b) q k k-lt q-le)
+    narrow-no-nan = subst (λ (n : ℕ). T (not (nanBits binary32 n))) (sym short-is)
+        (pack-no-nan (leb (2 ^ 63) b) q k k-lt q-le)
 
-module _ (x y z : Float) (dx : Decoded binary32 (toBits binary32 x) x) (dy : Decoded binary32 (toBits binary32 y) y) (dz : Decoded binary32 (toBits binary32 z) z) where
+module _ (x y z : Float) (dx : Decoded binary32 (toBits binary32 x) x) (dy : Decoded binary32 (toBits binary32 y) y)
+    (dz : Decoded binary32 (toBits binary32 z) z) where
   abbrev bx : ℕ
   bx = toBits binary32 x
 
@@ -137,7 +142,9 @@ module _ (x y z : Float) (dx : Decoded binary32 (toBits binary32 x) x) (dy : Dec
 
   S-is : S ≡ round binary64 v num (2 ^ 1074)
   S-is =
-      sum-64 x y z (leb (2 ^ 31) bx) (leb (2 ^ 31) by) u (significand binary32 bx) (significand binary32 by) (significand binary32 bz) (exponent binary32 bx) (exponent binary32 by) (exponent binary32 bz) (significand-lt binary32 bx) (significand-lt binary32 by) (dx .1) (dy .1) (dx .0) (dy .0) (dz .0)
+      sum-64 x y z (leb (2 ^ 31) bx) (leb (2 ^ 31) by) u (significand binary32 bx) (significand binary32 by)
+      (significand binary32 bz) (exponent binary32 bx) (exponent binary32 by) (exponent binary32 bz)
+      (significand-lt binary32 bx) (significand-lt binary32 by) (dx .1) (dy .1) (dx .0) (dy .0) (dz .0)
       ∙ fraction s A u B (2 ^ 1074) .2 binary64
 
   pub sum-no-nan : T (not (isNan S))
@@ -146,7 +153,9 @@ module _ (x y z : Float) (dx : Decoded binary32 (toBits binary32 x) x) (dy : Dec
   fma-as : round binary32 v num (2 ^ 1074) ≡ mulAdd x y z
   fma-as =
       sym (fraction s A u B (2 ^ 1074) .2 binary32)
-      ∙ fma-is x y z (leb (2 ^ 31) bx) (leb (2 ^ 31) by) u (significand binary32 bx) (significand binary32 by) (significand binary32 bz) (exponent binary32 bx) (exponent binary32 by) (exponent binary32 bz) (dx .0) (dy .0) (dz .0)
+      ∙ fma-is x y z (leb (2 ^ 31) bx) (leb (2 ^ 31) by) u (significand binary32 bx) (significand binary32 by)
+      (significand binary32 bz) (exponent binary32 bx) (exponent binary32 by) (exponent binary32 bz) (dx .0) (dy .0)
+      (dz .0)
 
   module _ (w : RoundsOnce (toBits binary64 S)) where
     abbrev b : ℕ
@@ -156,13 +165,20 @@ module _ (x y z : Float) (dx : Decoded binary32 (toBits binary32 x) x) (dy : Dec
     held = add-fits binary64 (mul binary64 x y) z
 
     S-finite : T (isFinite S)
-    S-finite = subst (λ (f : Float). T (isFinite f)) (ofBits-toBits binary64 S held) (bits-finite b (λ (e : b / 2 ^ 52 % 2 ^ 11 ≡ 2047). omega (arith, w .high)))
+    S-finite = subst (λ (f : Float). T (isFinite f)) (ofBits-toBits binary64 S held)
+        (bits-finite b (λ (e : b / 2 ^ 52 % 2 ^ 11 ≡ 2047). omega (arith, w .high)))
 
-    value : HasValue (round binary64 v num (2 ^ 1074)) (leb (2 ^ 63) b) (significand binary64 b * 2 ^ exponent binary64 b) (2 ^ 1074)
-    value = subst (λ (f : Float). HasValue f (leb (2 ^ 63) b) (significand binary64 b * 2 ^ exponent binary64 b) (2 ^ 1074)) S-is (decode binary64 S held S-finite .0)
+    value : HasValue (round binary64 v num (2 ^ 1074)) (leb (2 ^ 63) b) (significand binary64 b * 2 ^ exponent binary64
+        b) (2 ^ 1074)
+    value = subst (λ (f : Float). HasValue f (leb (2 ^ 63) b) (significand binary64 b * 2 ^ exponent binary64 b)
+        (2 ^ 1074)) S-is (decode binary64 S held S-finite .0)
 
-    pub quick-is : units binary32 (leb (2 ^ 63) b) (away (significand binary64 b)) (exponent binary64 b - 896) ≡ mulAdd x y z
+    pub quick-is : units binary32 (leb (2 ^ 63) b) (away (significand binary64 b)) (exponent binary64 b - 896)
+        ≡ mulAdd x y z
     quick-is =
-        ap (λ (t : Bool). units binary32 t (away (significand binary64 b)) (exponent binary64 b - 896)) (sym (sign-is v num (2 ^ 1074) (pow-pos 1074) (leb (2 ^ 63) b) (significand binary64 b) (exponent binary64 b) value (quick-lo b w) (quick-hi b w)))
-        ∙ rounds-once v num (2 ^ 1074) (pow-pos 1074) (leb (2 ^ 63) b) (significand binary64 b) (exponent binary64 b) value (quick-lo b w) (quick-hi b w) (quick-place b w) (quick-side b w)
+        ap (λ (t : Bool). units binary32 t (away (significand binary64 b)) (exponent binary64 b - 896))
+        (sym (sign-is v num (2 ^ 1074) (pow-pos 1074) (leb (2 ^ 63) b) (significand binary64 b)
+        (exponent binary64 b) value (quick-lo b w) (quick-hi b w)))
+        ∙ rounds-once v num (2 ^ 1074) (pow-pos 1074) (leb (2 ^ 63) b) (significand binary64 b) (exponent binary64 b)
+        value (quick-lo b w) (quick-hi b w) (quick-place b w) (quick-side b w)
         ∙ fma-as

@@ -2,7 +2,8 @@
 use mathlib.Core.Path.{_≡_, refl, sym, ap, _∙_}
 use mathlib.Core.Bool.{Bool, true, false, true≢false}
 use Prim.Native.Nat.{ℕ, _+_, _*_, _^_, _<_}
-use native.Mathlib.Nat.{mul-assoc, mul-comm, mul-left-comm, mul-pos, lt-of-le-of-lt, le-of-lt, mul-le-mul-left, mul-lt-mul-of-pos-right}
+use native.Mathlib.Nat.{mul-assoc, mul-comm, mul-left-comm, mul-pos, lt-of-le-of-lt, le-of-lt, mul-le-mul-left}
+use native.Mathlib.Nat.{mul-lt-mul-of-pos-right}
 use lib.Dec.{T, lit<}
 use lib.Pow.{pow-add, pow-pos}
 use lib.Ieee as Ieee
@@ -27,14 +28,16 @@ apart' K F P Q = simp (mul-assoc, mul-comm, mul-left-comm)
 together' : (c Z G F Q : ℕ) → c * Z * G * (F * Q) ≡ c * (Z * Q) * (F * G)
 together' c Z G F Q = simp (mul-assoc, mul-comm, mul-left-comm)
 
-module _ (M N K E D G a b c i j k : ℕ) (p : M * 2 ^ 149 ≡ a * 2 ^ i * E) (q : N * 2 ^ 149 ≡ b * 2 ^ j * D) (r : K * 2 ^ 149 ≡ c * 2 ^ k * G) where
+module _ (M N K E D G a b c i j k : ℕ) (p : M * 2 ^ 149 ≡ a * 2 ^ i * E) (q : N * 2 ^ 149 ≡ b * 2 ^ j * D)
+    (r : K * 2 ^ 149 ≡ c * 2 ^ k * G) where
   pub left : a * b * 2 ^ (i + j + 776) * (E * D * G) ≡ M * N * G * 2 ^ 1074
   left =
       sym (apart M N G (2 ^ 149) (2 ^ 776)
       ∙ ap (λ (z : ℕ). z * (N * 2 ^ 149) * (G * 2 ^ 776)) p
       ∙ ap (λ (z : ℕ). a * 2 ^ i * E * z * (G * 2 ^ 776)) q
       ∙ together a (2 ^ i) E b (2 ^ j) D G (2 ^ 776)
-      ∙ ap (λ (z : ℕ). a * b * z * (E * D * G)) (ap (λ (z : ℕ). z * 2 ^ 776) (sym (pow-add 2 i j)) ∙ sym (pow-add 2 (i + j) 776)))
+      ∙ ap (λ (z : ℕ). a * b * z * (E * D * G)) (ap (λ (z : ℕ). z * 2 ^ 776) (sym (pow-add 2 i j))
+      ∙ sym (pow-add 2 (i + j) 776)))
 
   pub right : c * 2 ^ (k + 925) * (E * D * G) ≡ K * (E * D) * 2 ^ 1074
   right =
@@ -43,7 +46,8 @@ module _ (M N K E D G a b c i j k : ℕ) (p : M * 2 ^ 149 ≡ a * 2 ^ i * E) (q 
       ∙ together' c (2 ^ k) G (E * D) (2 ^ 925)
       ∙ ap (λ (z : ℕ). c * z * (E * D * G)) (sym (pow-add 2 k 925)))
 
-pub fma-is : (x y z : Float) (s t u : Bool) (a b c i j k : ℕ) → HasValue x s (a * 2 ^ i) (2 ^ 149) → HasValue y t (b * 2 ^ j) (2 ^ 149) → HasValue z u (c * 2 ^ k) (2 ^ 149)
+pub fma-is : (x y z : Float) (s t u : Bool) (a b c i j k : ℕ) → HasValue x s (a * 2 ^ i) (2 ^ 149)
+    → HasValue y t (b * 2 ^ j) (2 ^ 149) → HasValue z u (c * 2 ^ k) (2 ^ 149)
     → sum binary32 (unlike s t) (a * b * 2 ^ (i + j + 776)) u (c * 2 ^ (k + 925)) (2 ^ 1074) ≡ mulAdd x y z
 unfolding mulAdd
 fma-is nan y z s t u a b c i j k p q r = absurd p
@@ -58,7 +62,8 @@ fma-is (fin s' m e) (fin t' n d) (fin u' h g) s t u a b c i j k p q r =
     ap (λ (w : Bool). sum binary32 (unlike w t) A u B (2 ^ 1074)) (sym (p .0))
     ∙ ap (λ (w : Bool). sum binary32 (unlike s' w) A u B (2 ^ 1074)) (sym (q .0))
     ∙ ap (λ (w : Bool). sum binary32 (unlike s' t') A w B (2 ^ 1074)) (sym (r .0))
-    ∙ sum-same binary32 (unlike s' t') A u' B (2 ^ 1074) (m * up e * (n * up d) * down g) (h * up g * (down e * down d)) (down e * down d * down g)
+    ∙ sum-same binary32 (unlike s' t') A u' B (2 ^ 1074) (m * up e * (n * up d) * down g) (h * up g * (down e * down d))
+    (down e * down d * down g)
     (pow-pos 1074) (mul-pos (mul-pos (down-pos e) (down-pos d)) (down-pos g))
     (left (m * up e) (n * up d) (h * up g) (down e) (down d) (down g) a b c i j k (p .1) (q .1) (r .1))
     (right (m * up e) (n * up d) (h * up g) (down e) (down d) (down g) a b c i j k (p .1) (q .1) (r .1))

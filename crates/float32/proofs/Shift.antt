@@ -1,7 +1,9 @@
--- A shift that rounds: m / 2 ^ sh to the nearest, a tie to the even one, from h = m / 2 ^ (sh - 1), whose last digit is the one that is rounded off. Assumes nothing.
+-- A shift that rounds: m / 2 ^ sh to the nearest, a tie to the even one, from h = m / 2 ^ (sh - 1), whose last digit is
+-- the one that is rounded off. Assumes nothing.
 use mathlib.Core.Path.{_≡_, sym, ap, _∙_}
 use Prim.Native.Nat.{ℕ, zero, suc, _+_, _-_, _*_, _/_, _%_, _^_, _≤_, _<_, Ordering}
-use native.Mathlib.Nat.{lt-of-lt-of-le, lt-of-le-of-lt, le-of-eq, le-trans, mul-assoc, add-mul, mod-lt, mod-eq-of-lt, div-add-mod', div-mul-le-self, lt-of-not-le, not-le-of-lt, zero-lt-suc}
+use native.Mathlib.Nat.{lt-of-lt-of-le, lt-of-le-of-lt, le-of-eq, le-trans, mul-assoc, add-mul, mod-lt, mod-eq-of-lt}
+use native.Mathlib.Nat.{div-add-mod', div-mul-le-self, lt-of-not-le, not-le-of-lt, zero-lt-suc}
 use native.Mathlib.Omega.{arith}
 use lib.Pow.{pow-add, pow-mono}
 use lib.Count.{leadingZeros, leading-length}
@@ -75,7 +77,8 @@ module _ (m p : ℕ) (P : 0 < p) where
 pub shift-out : (m sh : ℕ) → m < 2 ^ 64 → 64 < sh → 0 ≡ closest m (2 ^ sh)
 shift-out m sh l g =
     let r : m * 2 < 2 ^ sh = lt-of-lt-of-le (go m l) (pow-mono {i = 65} {j = sh} g) in
-    sym (closest-of m (2 ^ sh) 0 m (zero (2 ^ sh)) (less (2 ^ sh) r) ∙ ap (λ (z : Ordering). nearest 0 z) (compare-lt (m * 2) (2 ^ sh) r))
+    sym (closest-of m (2 ^ sh) 0 m (zero (2 ^ sh)) (less (2 ^ sh) r) ∙ ap (λ (z : Ordering). nearest 0 z)
+    (compare-lt (m * 2) (2 ^ sh) r))
   where
     go : (x : ℕ) → x < 2 ^ 64 → x * 2 < 2 ^ 65
     go x h = omega arith
@@ -87,7 +90,8 @@ shift-out m sh l g =
     less x h = omega arith
 
 pub shift-none : (m : ℕ) → m ≡ closest m 1
-shift-none m = sym (closest-of m 1 m 0 (omega arith) (omega arith) ∙ ap (λ (z : Ordering). nearest m z) (compare-lt (0 * 2) 1 (omega arith)))
+shift-none m = sym (closest-of m 1 m 0 (omega arith) (omega arith) ∙ ap (λ (z : Ordering). nearest m z)
+    (compare-lt (0 * 2) 1 (omega arith)))
 
 -- ---- how many digits a machine word has
 size-gt : (n j : ℕ) → 2 ^ j ≤ n → j < size n
@@ -106,4 +110,5 @@ size-leading w m h =
     end (suc j) z l e a f = omega (arith, f (zero-lt-suc j))
 
     go : (j l : ℕ) → l + j ≡ w → size m ≤ j → 2 ^ j ≤ 2 * m + 1 → w - l ≡ size m
-    go j l e a k = end j (size m) l e a (λ (p : 0 < j). size-gt m (j - 1) (half (2 ^ (j - 1)) (le-trans (le-of-eq (sym (two-pow j p))) k)))
+    go j l e a k = end j (size m) l e a
+        (λ (p : 0 < j). size-gt m (j - 1) (half (2 ^ (j - 1)) (le-trans (le-of-eq (sym (two-pow j p))) k)))

@@ -1,4 +1,5 @@
--- Facts on single floats: which differ from themselves, which are finite, and what `abs` is by cases on the sign. Assumes nothing.
+-- Facts on single floats: which differ from themselves, which are finite, and what `abs` is by cases on the sign.
+-- Assumes nothing.
 use mathlib.Core.Path.{_≡_, refl, sym, ap}
 use mathlib.Core.Bool.{Bool, true, false, not, _&&_, true≢false, false≢true}
 use Prim.Native.Nat.{ℕ, zero, suc, _+_, _*_, _^_, _≤_, _<_}
@@ -17,8 +18,10 @@ unfolding ne eq isNan
 nan-test nan = refl
 nan-test (inf true) = refl
 nan-test (inf false) = refl
-nan-test (fin true m e) = ap (λ (b : Bool). not (b && true)) (is-true (eqb (m * up e * down e) (m * up e * down e)) (eqb-refl (m * up e * down e)))
-nan-test (fin false m e) = ap (λ (b : Bool). not (b && true)) (is-true (eqb (m * up e * down e) (m * up e * down e)) (eqb-refl (m * up e * down e)))
+nan-test (fin true m e) = ap (λ (b : Bool). not (b && true)) (is-true (eqb (m * up e * down e) (m * up e * down e))
+    (eqb-refl (m * up e * down e)))
+nan-test (fin false m e) = ap (λ (b : Bool). not (b && true)) (is-true (eqb (m * up e * down e) (m * up e * down e))
+    (eqb-refl (m * up e * down e)))
 
 pub finite-under : (x : Float) → lt x (inf false) ≡ true → lt (inf true) x ≡ isFinite x
 unfolding lt isFinite
@@ -55,7 +58,8 @@ abs-negative nan h = absurd h
 abs-negative (inf true) h = refl
 abs-negative (inf false) h = absurd h
 abs-negative (fin true m e) h = refl
-abs-negative (fin false m e) h = absurd (go (m * up e * 1) (0 * 1 * down e) (ltb→lt (m * up e * 1) (0 * 1 * down e) h) refl)
+abs-negative (fin false m e) h = absurd (go (m * up e * 1) (0 * 1 * down e) (ltb→lt (m * up e * 1) (0 * 1 * down e) h)
+    refl)
   where
     go : (a b : ℕ) → a < b → b ≡ 0 * 1 * down e → ⊥
     go a b h k = omega arith
@@ -65,7 +69,9 @@ unfolding eq abs fits
 abs-zero nan f h = absurd h
 abs-zero (inf s) f h = absurd h
 abs-zero (fin s zero e) f h = ap (λ (k : ℤ). fin false 0 k) (sym (zero-exponent e (eqb→eq (up e * down e) 1 f)))
-abs-zero (fin s (suc m) e) f h = absurd (go (suc m * up e * 1) (0 * 1 * down e) (mul-pos (mul-pos (omega arith) (up-pos e)) (lit< tt)) (eqb→eq _ _ (and-l (eqb (suc m * up e * 1) (0 * 1 * down e)) _ h)) refl)
+abs-zero (fin s (suc m) e) f h = absurd
+    (go (suc m * up e * 1) (0 * 1 * down e) (mul-pos (mul-pos (omega arith) (up-pos e)) (lit< tt))
+    (eqb→eq _ _ (and-l (eqb (suc m * up e * 1) (0 * 1 * down e)) _ h)) refl)
   where
     go : (a b : ℕ) → 0 < a → a ≡ b → b ≡ 0 * 1 * down e → ⊥
     go a b p q r = omega arith

@@ -1,10 +1,15 @@
--- Rounding sees of a fraction only where it lies between two neighbours of a fine enough grid. So where a fraction is not on the grid, any other point strictly between the same two neighbours stands for it:
--- the odd one of a grid twice as fine. `round-odd` says so of `Ieee.round`. Assumes nothing.
+-- Rounding sees of a fraction only where it lies between two neighbours of a fine enough grid. So where a fraction is
+-- not on the grid, any other point strictly between the same two neighbours stands for it: the odd one of a grid twice
+-- as fine. `round-odd` says so of `Ieee.round`. Assumes nothing.
 use mathlib.Core.Path.{_≡_, refl, sym, ap, _∙_, subst}
 use mathlib.Core.Logic.{_⊎_, inl, inr}
 use mathlib.Core.Bool.{Bool, true, false, not}
-use Prim.Native.Nat.{ℕ, _+_, _-_, _*_, _/_, _%_, _^_, _≤_, _<_, compare, Ordering, Ordering·lt, Ordering·eq, Ordering·gt}
-use native.Mathlib.Nat.{le-trans, le-of-eq, le-of-lt, lt-of-lt-of-le, lt-of-le-of-lt, lt-irrefl, lt-of-not-le, not-le-of-lt, mul-comm, mul-assoc, mul-left-comm, mul-right-comm, add-mul, mul-le-mul-right, mul-lt-mul-of-pos-right, lt-of-mul-lt-mul-right, le-of-mul-le-mul-right, mul-pos, mod-lt, div-add-mod', div-lt-iff-lt-mul, le-div-iff-mul-le, eq-zero-or-pos}
+use Prim.Native.Nat.{ℕ, _+_, _-_, _*_, _/_, _%_, _^_, _≤_, _<_, compare, Ordering, Ordering·lt, Ordering·eq}
+use Prim.Native.Nat.{Ordering·gt}
+use native.Mathlib.Nat.{le-trans, le-of-eq, le-of-lt, lt-of-lt-of-le, lt-of-le-of-lt, lt-irrefl, lt-of-not-le}
+use native.Mathlib.Nat.{not-le-of-lt, mul-comm, mul-assoc, mul-left-comm, mul-right-comm, add-mul, mul-le-mul-right}
+use native.Mathlib.Nat.{mul-lt-mul-of-pos-right, lt-of-mul-lt-mul-right, le-of-mul-le-mul-right, mul-pos, mod-lt}
+use native.Mathlib.Nat.{div-add-mod', div-lt-iff-lt-mul, le-div-iff-mul-le, eq-zero-or-pos}
 use native.Mathlib.Omega.{arith}
 use lib.Dec.{T, isLe, isEq, eqb, ltb, ltb→lt, nltb→le, leb→le, nleb→lt, eqb→eq, eqb-refl}
 use lib.Arith.{lt-of-le-ne, digits-div, digits-mod}
@@ -21,9 +26,11 @@ Cmp Ordering·eq a b = a ≡ b
 Cmp Ordering·gt a b = b < a
 
 pub cmp : (a b : ℕ) → Cmp (compare a b) a b
-cmp a b = go (compare a b) (leb→le a b) (nleb→lt a b) (eqb→eq a b) (λ (e : a ≡ b). subst (λ (x : ℕ). T (eqb a x)) e (eqb-refl a))
+cmp a b = go (compare a b) (leb→le a b) (nleb→lt a b) (eqb→eq a b) (λ (e : a ≡ b). subst (λ (x : ℕ). T (eqb a x)) e
+    (eqb-refl a))
   where
-    go : (o : Ordering) → (T (isLe o) → a ≤ b) → (T (not (isLe o)) → b < a) → (T (isEq o) → a ≡ b) → (a ≡ b → T (isEq o)) → Cmp o a b
+    go : (o : Ordering) → (T (isLe o) → a ≤ b) → (T (not (isLe o)) → b < a) → (T (isEq o) → a ≡ b)
+        → (a ≡ b → T (isEq o)) → Cmp o a b
     go Ordering·lt h k e n = lt-of-le-ne (h tt) n
     go Ordering·eq h k e n = e tt
     go Ordering·gt h k e n = k tt
@@ -164,9 +171,12 @@ module _ (n v O p : ℕ) (P : 0 < p) (o : O % 2 ≡ 1) (lo : (O - 1) * v < n) (h
       more : (y : ℕ) → y % 2 ≡ 1 → 2 * p ≤ y → U < y * 2
       more y f h = omega arith
 
-      go : (b : Bool) → (T b → r < 2 * p) → (T (not b) → 2 * p ≤ r) → compare ((n - q * (v * U)) * 2) (v * U) ≡ compare (r * 2) U
-      go true h k = compare-lt ((n - q * (v * U)) * 2) (v * U) (below-half (h tt)) ∙ sym (compare-lt (r * 2) U (less r (h tt)))
-      go false h k = compare-gt ((n - q * (v * U)) * 2) (v * U) (above-half (k tt)) ∙ sym (compare-gt (r * 2) U (more r r-odd (k tt)))
+      go : (b : Bool) → (T b → r < 2 * p) → (T (not b) → 2 * p ≤ r) → compare ((n - q * (v * U)) * 2) (v * U)
+          ≡ compare (r * 2) U
+      go true h k = compare-lt ((n - q * (v * U)) * 2) (v * U) (below-half (h tt))
+          ∙ sym (compare-lt (r * 2) U (less r (h tt)))
+      go false h k = compare-gt ((n - q * (v * U)) * 2) (v * U) (above-half (k tt))
+          ∙ sym (compare-gt (r * 2) U (more r r-odd (k tt)))
 
   pub closest-odd : closest n (v * U) ≡ closest O U
   closest-odd = first ∙ ap (λ (z : Ordering). nearest q z) same ∙ sym second
@@ -175,7 +185,8 @@ module _ (n v O p : ℕ) (P : 0 < p) (o : O % 2 ≡ 1) (lo : (O - 1) * v < n) (h
 pub size-gt : (n j : ℕ) → 2 ^ j ≤ n → j < size n
 size-gt n j h = lt-of-not-le (λ (g : size n ≤ j). not-le-of-lt (lt-of-lt-of-le (size-lt n) (pow-mono g)) h)
 
-pub drop-is : (p n den k : ℕ) → 0 < p → 0 < den → n < 2 ^ (p + k) * den → (0 < k → 2 ^ (p + k - 1) * den ≤ n) → size (n / den) - p ≡ k
+pub drop-is : (p n den k : ℕ) → 0 < p → 0 < den → n < 2 ^ (p + k) * den → (0 < k → 2 ^ (p + k - 1) * den ≤ n)
+    → size (n / den) - p ≡ k
 drop-is p n den k P D h g = go (eq-zero-or-pos k) (size-le (n / den) (p + k) (div-lt-iff-lt-mul D .1 h))
   where
     none : (z : ℕ) → k ≡ 0 → z ≤ p + k → z - p ≡ k
@@ -204,17 +215,19 @@ module _ (p n den : ℕ) (P : 0 < p) (D : 0 < den) where
       go : (z : ℕ) → 0 < z - p → p + (z - p) - 1 < z
       go z e = omega arith
 
-pub round-at : (f : Format) (s : Bool) (num den k : ℕ) → 0 < den → num * 2 ^ low f < 2 ^ (prec f + k) * den → (0 < k → 2 ^ (prec f + k - 1) * den ≤ num * 2 ^ low f)
+pub round-at : (f : Format) (s : Bool) (num den k : ℕ) → 0 < den → num * 2 ^ low f < 2 ^ (prec f + k) * den
+    → (0 < k → 2 ^ (prec f + k - 1) * den ≤ num * 2 ^ low f)
     → round f s num den ≡ units f s (closest (num * 2 ^ low f) (den * 2 ^ k)) k
 round-at f s num den k D h g =
     round-is f s num den
-    ∙ ap (λ (z : ℕ). units f s (closest (num * 2 ^ low f) (den * 2 ^ z)) z) (drop-is (prec f) (num * 2 ^ low f) den k (two-le-pos (prec f) (two f)) D h g)
+    ∙ ap (λ (z : ℕ). units f s (closest (num * 2 ^ low f) (den * 2 ^ z)) z) (drop-is (prec f) (num * 2 ^ low f) den k
+    (two-le-pos (prec f) (two f)) D h g)
 
 pow-lt-back : (i j : ℕ) → 2 ^ i < 2 ^ j → i < j
 pow-lt-back i j h = lt-of-not-le (λ (g : j ≤ i). lt-irrefl (2 ^ i) (lt-of-lt-of-le h (pow-mono g)))
 
--- ---- The sticky rule. num / den lies strictly between (O - 1) * 2 ^ a / 2 ^ b and (O + 1) * 2 ^ a / 2 ^ b, for an odd O that has two digits more than the format keeps.
--- Then it rounds as O * 2 ^ a / 2 ^ b does.
+-- ---- The sticky rule. num / den lies strictly between (O - 1) * 2 ^ a / 2 ^ b and (O + 1) * 2 ^ a / 2 ^ b, for an odd
+-- O that has two digits more than the format keeps. Then it rounds as O * 2 ^ a / 2 ^ b does.
 module _ (f : Format) (s : Bool) (num den O a b : ℕ) (D : 0 < den) (o : O % 2 ≡ 1) (big : 2 ^ (prec f + 1) ≤ O)
     (lo : (O - 1) * 2 ^ a * den < num * 2 ^ b) (hi : num * 2 ^ b < (O + 1) * 2 ^ a * den) where
   abbrev p : ℕ
@@ -263,7 +276,8 @@ module _ (f : Format) (s : Bool) (num den O a b : ℕ) (D : 0 < den) (o : O % 2 
   u = 4 * 2 ^ i
 
   Wu : W * u ≡ B * 2 ^ j
-  Wu = ap (λ (z : ℕ). W * z) (sym (pow-add 2 2 i)) ∙ sym (pow-add 2 (a + l) (2 + i)) ∙ ap (λ (z : ℕ). 2 ^ z) go ∙ pow-add 2 b j
+  Wu = ap (λ (z : ℕ). W * z) (sym (pow-add 2 2 i)) ∙ sym (pow-add 2 (a + l) (2 + i)) ∙ ap (λ (z : ℕ). 2 ^ z) go
+      ∙ pow-add 2 b j
     where
       go : a + l + (2 + i) ≡ b + j
       go = omega (arith, reach)
@@ -287,25 +301,30 @@ module _ (f : Format) (s : Bool) (num den O a b : ℕ) (D : 0 < den) (o : O % 2 
 
   scaled : closest n₁ (den * 2 ^ j) ≡ closest (n₁ * B) (v * u)
   scaled =
-      closest-same n₁ (den * 2 ^ j) (n₁ * B) (v * u) (mul-pos D (pow-pos j)) (mul-pos (mul-pos (pow-pos (a + l)) D) u-pos)
+      closest-same n₁ (den * 2 ^ j) (n₁ * B) (v * u) (mul-pos D (pow-pos j))
+      (mul-pos (mul-pos (pow-pos (a + l)) D) u-pos)
       (ap (λ (z : ℕ). n₁ * z) vu ∙ simp (mul-assoc, mul-comm, mul-left-comm))
 
   scale : (x : ℕ) → x * 2 ^ a * den * 2 ^ l ≡ x * v
   scale x =
-      mul-right-comm (x * 2 ^ a) den (2 ^ l) ∙ ap (λ (z : ℕ). z * den) (mul-assoc x (2 ^ a) (2 ^ l) ∙ ap (λ (z : ℕ). x * z) (sym (pow-add 2 a l))) ∙ mul-assoc x W den
+      mul-right-comm (x * 2 ^ a) den (2 ^ l) ∙ ap (λ (z : ℕ). z * den) (mul-assoc x (2 ^ a) (2 ^ l)
+      ∙ ap (λ (z : ℕ). x * z) (sym (pow-add 2 a l))) ∙ mul-assoc x W den
 
   lo' : (O - 1) * v < n₁ * B
-  lo' = lt-of-le-of-lt (le-of-eq (sym (scale (O - 1)))) (lt-of-lt-of-le (mul-lt-mul-of-pos-right lo (pow-pos l)) (le-of-eq (mul-right-comm num B (2 ^ l))))
+  lo' = lt-of-le-of-lt (le-of-eq (sym (scale (O - 1)))) (lt-of-lt-of-le (mul-lt-mul-of-pos-right lo (pow-pos l))
+      (le-of-eq (mul-right-comm num B (2 ^ l))))
 
   hi' : n₁ * B < (O + 1) * v
-  hi' = lt-of-le-of-lt (le-of-eq (mul-right-comm num (2 ^ l) B)) (lt-of-lt-of-le (mul-lt-mul-of-pos-right hi (pow-pos l)) (le-of-eq (scale (O + 1))))
+  hi' = lt-of-le-of-lt (le-of-eq (mul-right-comm num (2 ^ l) B))
+      (lt-of-lt-of-le (mul-lt-mul-of-pos-right hi (pow-pos l)) (le-of-eq (scale (O + 1))))
 
   both : closest n₁ (den * 2 ^ j) ≡ closest n₂ (B * 2 ^ j)
   both = scaled ∙ closest-odd (n₁ * B) v O (2 ^ i) (pow-pos i) o lo' hi' ∙ sym of-O
 
   -- ---- the same number of digits is dropped
   top-is : 2 ^ (p + j) * B ≡ 2 ^ p * u * W
-  top-is = ap (λ (z : ℕ). z * B) (pow-add 2 p j) ∙ mul-assoc (2 ^ p) (2 ^ j) B ∙ ap (λ (z : ℕ). 2 ^ p * z) (mul-comm (2 ^ j) B ∙ sym Wu ∙ mul-comm W u) ∙ sym (mul-assoc (2 ^ p) u W)
+  top-is = ap (λ (z : ℕ). z * B) (pow-add 2 p j) ∙ mul-assoc (2 ^ p) (2 ^ j) B ∙ ap (λ (z : ℕ). 2 ^ p * z)
+      (mul-comm (2 ^ j) B ∙ sym Wu ∙ mul-comm W u) ∙ sym (mul-assoc (2 ^ p) u W)
 
   O-under : O < 2 ^ p * u
   O-under = lt-of-mul-lt-mul-right W (lt-of-lt-of-le n₂-under (le-of-eq top-is))
@@ -315,7 +334,8 @@ module _ (f : Format) (s : Bool) (num den O a b : ℕ) (D : 0 < den) (o : O % 2 
       lt-of-mul-lt-mul-right B
       (lt-of-lt-of-le hi'
       (le-trans (mul-le-mul-right v (go (2 ^ p * u) O-under))
-      (le-of-eq (sym (mul-assoc (2 ^ p * u) W den) ∙ ap (λ (z : ℕ). z * den) (sym top-is) ∙ mul-right-comm (2 ^ (p + j)) B den))))
+      (le-of-eq (sym (mul-assoc (2 ^ p * u) W den) ∙ ap (λ (z : ℕ). z * den) (sym top-is) ∙ mul-right-comm (2 ^ (p + j))
+      B den))))
     where
       go : (x : ℕ) → O < x → O + 1 ≤ x
       go x h = omega arith
@@ -338,11 +358,13 @@ module _ (f : Format) (s : Bool) (num den O a b : ℕ) (D : 0 < den) (o : O % 2 
 
   n₁-over : 0 < j → 2 ^ (p + j - 1) * den ≤ n₁
   n₁-over h =
-      let a1 : E * W ≤ O * W = le-trans (le-of-eq (sym half-top)) (le-trans (drop-over p n₂ B p-pos (pow-pos b) h) (le-of-eq n₂-is)) in
+      let a1 : E * W ≤ O * W = le-trans (le-of-eq (sym half-top)) (le-trans (drop-over p n₂ B p-pos (pow-pos b) h)
+      (le-of-eq n₂-is)) in
       let a2 : E ≤ O = le-of-mul-le-mul-right a1 (pow-pos (a + l)) in
       let a3 : E * v < n₁ * B = lt-of-le-of-lt (mul-le-mul-right v (go E (2 ^ p * 2 ^ i) E-even a2)) lo' in
       le-of-mul-le-mul-right
-      (le-trans (le-of-eq (mul-right-comm (2 ^ (p + j - 1)) den B ∙ ap (λ (z : ℕ). z * den) half-top ∙ mul-assoc E W den)) (le-of-lt a3)) (pow-pos b)
+      (le-trans (le-of-eq (mul-right-comm (2 ^ (p + j - 1)) den B ∙ ap (λ (z : ℕ). z * den) half-top
+      ∙ mul-assoc E W den)) (le-of-lt a3)) (pow-pos b)
     where
       go : (x y : ℕ) → x ≡ 2 * y → x ≤ O → x ≤ O - 1
       go x y e g = omega arith
@@ -351,4 +373,5 @@ module _ (f : Format) (s : Bool) (num den O a b : ℕ) (D : 0 < den) (o : O % 2 
   round-odd =
       round-at f s num den j D n₁-under n₁-over
       ∙ ap (λ (z : ℕ). units f s z j) both
-      ∙ sym (round-at f s (O * 2 ^ a) B j (pow-pos b) (drop-under p n₂ B p-pos (pow-pos b)) (drop-over p n₂ B p-pos (pow-pos b)))
+      ∙ sym (round-at f s (O * 2 ^ a) B j (pow-pos b) (drop-under p n₂ B p-pos (pow-pos b))
+      (drop-over p n₂ B p-pos (pow-pos b)))

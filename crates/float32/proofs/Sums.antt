@@ -1,9 +1,12 @@
--- `Ieee.sum` by the signs and the order of its two terms, at another denominator, and of two terms of which one is shifted and jammed. Assumes nothing.
+-- `Ieee.sum` by the signs and the order of its two terms, at another denominator, and of two terms of which one is
+-- shifted and jammed. Assumes nothing.
 use mathlib.Core.Path.{_≡_, refl, sym, ap, _∙_}
 use mathlib.Core.Logic.{inl, inr}
 use mathlib.Core.Bool.{Bool, true, false, not, _&&_, cond, true≢false, false≢true}
 use Prim.Native.Nat.{ℕ, zero, suc, _+_, _-_, _*_, _%_, _^_, _≤_, _<_}
-use native.Mathlib.Nat.{le-of-eq, le-of-lt, le-trans, lt-of-lt-of-le, lt-of-le-of-lt, add-mul, mul-assoc, mul-comm, mul-le-mul-left, mul-le-mul-right, mul-lt-mul-of-pos-right, lt-of-mul-lt-mul-right, zero-mul, mul-one, eq-of-mul-eq-mul-right}
+use native.Mathlib.Nat.{le-of-eq, le-of-lt, le-trans, lt-of-lt-of-le, lt-of-le-of-lt, add-mul, mul-assoc, mul-comm}
+use native.Mathlib.Nat.{mul-le-mul-left, mul-le-mul-right, mul-lt-mul-of-pos-right, lt-of-mul-lt-mul-right, zero-mul}
+use native.Mathlib.Nat.{mul-one, eq-of-mul-eq-mul-right}
 use native.Mathlib.Omega.{arith}
 use lib.Dec.{T, ltb, ltb→lt, nltb→le}
 use lib.Pow.{pow-pos, pow-mono}
@@ -22,13 +25,17 @@ module _ (f : Format) (a b c : ℕ) where
   sum-like true false h = absurd (true≢false h)
   sum-like false true h = absurd (true≢false h)
 
-  over : (s t : Bool) → b < a → cond (ltb a b) (round f t (b - a) c) (round f (s && ltb b a) (a - b) c) ≡ round f (s && true) (a - b) c
-  over s t l = ap (λ (z : Bool). cond z (round f t (b - a) c) (round f (s && ltb b a) (a - b) c)) (le-ltb a b (le-of-lt l)) ∙ ap (λ (z : Bool). round f (s && z) (a - b) c) (lt-ltb b a l)
+  over : (s t : Bool) → b < a → cond (ltb a b) (round f t (b - a) c) (round f (s && ltb b a) (a - b) c)
+      ≡ round f (s && true) (a - b) c
+  over s t l = ap (λ (z : Bool). cond z (round f t (b - a) c) (round f (s && ltb b a) (a - b) c))
+      (le-ltb a b (le-of-lt l)) ∙ ap (λ (z : Bool). round f (s && z) (a - b) c) (lt-ltb b a l)
 
-  under : (s t : Bool) → a < b → cond (ltb a b) (round f t (b - a) c) (round f (s && ltb b a) (a - b) c) ≡ round f t (b - a) c
+  under : (s t : Bool) → a < b → cond (ltb a b) (round f t (b - a) c) (round f (s && ltb b a) (a - b) c)
+      ≡ round f t (b - a) c
   under s t l = ap (λ (z : Bool). cond z (round f t (b - a) c) (round f (s && ltb b a) (a - b) c)) (lt-ltb a b l)
 
-  level : (s t : Bool) → a ≡ b → cond (ltb a b) (round f t (b - a) c) (round f (s && ltb b a) (a - b) c) ≡ round f (s && false) 0 c
+  level : (s t : Bool) → a ≡ b → cond (ltb a b) (round f t (b - a) c) (round f (s && ltb b a) (a - b) c)
+      ≡ round f (s && false) 0 c
   level s t l =
       ap (λ (z : Bool). cond z (round f t (b - a) c) (round f (s && ltb b a) (a - b) c)) (le-ltb a b (omega arith))
       ∙ ap (λ (z : Bool). round f (s && z) (a - b) c) (le-ltb b a (omega arith))
@@ -95,7 +102,8 @@ sum-swap f s a t b c = test (unlike s t) (go (order a b)) like
     comm = omega arith
 
     like : unlike s t ≡ false → sum f s a t b c ≡ sum f t b s a c
-    like h = sum-like f a b c s t h ∙ ap (λ (z : Bool). round f z (a + b) c) (like-same s t h) ∙ ap (λ (z : ℕ). round f t z c) comm ∙ sym (sum-like f b a c t s (unlike-swap s t false h))
+    like h = sum-like f a b c s t h ∙ ap (λ (z : Bool). round f z (a + b) c) (like-same s t h)
+        ∙ ap (λ (z : ℕ). round f t z c) comm ∙ sym (sum-like f b a c t s (unlike-swap s t false h))
 
     go : Order a b → unlike s t ≡ true → sum f s a t b c ≡ sum f t b s a c
     go (less l) h = sum-under f a b c s t h l ∙ sym (sum-over f b a c t s (unlike-swap s t true h) l)
@@ -112,12 +120,15 @@ sub-mul a b c h = go ((a - b) * c) (b * c) (a * c) (sym (add-mul (a - b) b c) �
     go : (x y z : ℕ) → x + y ≡ z → x ≡ z - y
     go x y z e = omega arith
 
-module _ (f : Format) (s : Bool) (a : ℕ) (t : Bool) (b c a' b' c' : ℕ) (C : 0 < c) (C' : 0 < c') (p : a * c' ≡ a' * c) (q : b * c' ≡ b' * c) where
+module _ (f : Format) (s : Bool) (a : ℕ) (t : Bool) (b c a' b' c' : ℕ) (C : 0 < c) (C' : 0 < c') (p : a * c' ≡ a' * c)
+    (q : b * c' ≡ b' * c) where
   less' : a < b → a' < b'
-  less' l = lt-of-mul-lt-mul-right c (lt-of-le-of-lt (le-of-eq (sym p)) (lt-of-lt-of-le (mul-lt-mul-of-pos-right l C') (le-of-eq q)))
+  less' l = lt-of-mul-lt-mul-right c
+      (lt-of-le-of-lt (le-of-eq (sym p)) (lt-of-lt-of-le (mul-lt-mul-of-pos-right l C') (le-of-eq q)))
 
   more' : b < a → b' < a'
-  more' l = lt-of-mul-lt-mul-right c (lt-of-le-of-lt (le-of-eq (sym q)) (lt-of-lt-of-le (mul-lt-mul-of-pos-right l C') (le-of-eq p)))
+  more' l = lt-of-mul-lt-mul-right c
+      (lt-of-le-of-lt (le-of-eq (sym q)) (lt-of-lt-of-le (mul-lt-mul-of-pos-right l C') (le-of-eq p)))
 
   same' : a ≡ b → a' ≡ b'
   same' l = eq-of-mul-eq-mul-right c C a' b' (sym p ∙ ap (λ (z : ℕ). z * c') l ∙ q)
@@ -128,18 +139,22 @@ module _ (f : Format) (s : Bool) (a : ℕ) (t : Bool) (b c a' b' c' : ℕ) (C : 
       like : unlike s t ≡ false → sum f s a t b c ≡ sum f s a' t b' c'
       like h =
           sum-like f a b c s t h
-          ∙ round-same f s (a + b) c (a' + b') c' C C' (add-mul a b c' ∙ ap (λ (z : ℕ). z + b * c') p ∙ ap (λ (z : ℕ). a' * c + z) q ∙ sym (add-mul a' b' c))
+          ∙ round-same f s (a + b) c (a' + b') c' C C' (add-mul a b c' ∙ ap (λ (z : ℕ). z + b * c') p
+          ∙ ap (λ (z : ℕ). a' * c + z) q ∙ sym (add-mul a' b' c))
           ∙ sym (sum-like f a' b' c' s t h)
 
       go : Order a b → unlike s t ≡ true → sum f s a t b c ≡ sum f s a' t b' c'
       go (less l) h =
           sum-under f a b c s t h l
-          ∙ round-same f t (b - a) c (b' - a') c' C C' (sub-mul b a c' (le-of-lt l) ∙ ap (λ (z : ℕ). z - a * c') q ∙ ap (λ (z : ℕ). b' * c - z) p ∙ sym (sub-mul b' a' c (le-of-lt (less' l))))
+          ∙ round-same f t (b - a) c (b' - a') c' C C' (sub-mul b a c' (le-of-lt l) ∙ ap (λ (z : ℕ). z - a * c') q
+          ∙ ap (λ (z : ℕ). b' * c - z) p ∙ sym (sub-mul b' a' c (le-of-lt (less' l))))
           ∙ sym (sum-under f a' b' c' s t h (less' l))
-      go (same l) h = sum-level f a b c s t h l ∙ round-same f false 0 c 0 c' C C' (zero-mul c' ∙ sym (zero-mul c)) ∙ sym (sum-level f a' b' c' s t h (same' l))
+      go (same l) h = sum-level f a b c s t h l ∙ round-same f false 0 c 0 c' C C' (zero-mul c' ∙ sym (zero-mul c))
+          ∙ sym (sum-level f a' b' c' s t h (same' l))
       go (more l) h =
           sum-over f a b c s t h l
-          ∙ round-same f s (a - b) c (a' - b') c' C C' (sub-mul a b c' (le-of-lt l) ∙ ap (λ (z : ℕ). z - b * c') p ∙ ap (λ (z : ℕ). a' * c - z) q ∙ sym (sub-mul a' b' c (le-of-lt (more' l))))
+          ∙ round-same f s (a - b) c (a' - b') c' C C' (sub-mul a b c' (le-of-lt l) ∙ ap (λ (z : ℕ). z - b * c') p
+          ∙ ap (λ (z : ℕ). a' * c - z) q ∙ sym (sub-mul a' b' c (le-of-lt (more' l))))
           ∙ sym (sum-over f a' b' c' s t h (more' l))
 
 -- ---- two words, of which the lower one is shifted and jammed
@@ -169,7 +184,8 @@ module _ (h e l d j : ℕ) (w : Ordered h e l d) where
     L-under = lt-of-lt-of-le (mul-lt-mul-of-pos-right (o .under) (pow-pos (e - d))) (le-of-eq (lower (j + 1)))
 
     j-le : j ≤ 2 ^ 60
-    j-le = go ((j - 1) * 2 ^ d) (le-trans (le-of-eq (mul-comm 4 (j - 1))) (mul-le-mul-left (j - 1) (pow-mono {i = 2} {j = d} (two-places l d (w .l-even) (o .lost))))) (o .over)
+    j-le = go ((j - 1) * 2 ^ d) (le-trans (le-of-eq (mul-comm 4 (j - 1)))
+        (mul-le-mul-left (j - 1) (pow-mono {i = 2} {j = d} (two-places l d (w .l-even) (o .lost))))) (o .over)
       where
         go : (x : ℕ) → 4 * (j - 1) ≤ x → x < l → j ≤ 2 ^ 60
         go x a b = omega arith
@@ -189,13 +205,15 @@ module _ (h e l d j : ℕ) (w : Ordered h e l d) where
         more = omega arith
 
         lo : (h + j - 1) * 2 ^ e < A + L
-        lo = lt-of-le-of-lt (le-of-eq (ap (λ (z : ℕ). z * 2 ^ e) less ∙ add-mul h (j - 1) (2 ^ e))) (go ((j - 1) * 2 ^ e) L L-over)
+        lo = lt-of-le-of-lt (le-of-eq (ap (λ (z : ℕ). z * 2 ^ e) less ∙ add-mul h (j - 1) (2 ^ e)))
+            (go ((j - 1) * 2 ^ e) L L-over)
           where
             go : (x y : ℕ) → x < y → A + x < A + y
             go x y k = omega arith
 
         hi : A + L < (h + j + 1) * 2 ^ e
-        hi = lt-of-lt-of-le (go L ((j + 1) * 2 ^ e) L-under) (le-of-eq (sym (ap (λ (z : ℕ). z * 2 ^ e) more ∙ add-mul h (j + 1) (2 ^ e))))
+        hi = lt-of-lt-of-le (go L ((j + 1) * 2 ^ e) L-under)
+            (le-of-eq (sym (ap (λ (z : ℕ). z * 2 ^ e) more ∙ add-mul h (j + 1) (2 ^ e))))
           where
             go : (x y : ℕ) → x < y → A + x < A + y
             go x y k = omega arith
@@ -221,35 +239,43 @@ module _ (h e l d j : ℕ) (w : Ordered h e l d) where
         more = omega (arith, j-le)
 
         lo : (h - j - 1) * 2 ^ e < A - L
-        lo = go ((h - j - 1) * 2 ^ e) ((j + 1) * 2 ^ e) A L (sym (add-mul (h - j - 1) (j + 1) (2 ^ e)) ∙ ap (λ (z : ℕ). z * 2 ^ e) less) L-under
+        lo = go ((h - j - 1) * 2 ^ e) ((j + 1) * 2 ^ e) A L (sym (add-mul (h - j - 1) (j + 1) (2 ^ e))
+            ∙ ap (λ (z : ℕ). z * 2 ^ e) less) L-under
           where
             go : (x y a b : ℕ) → x + y ≡ a → b < y → x < a - b
             go x y a b k g = omega arith
 
         hi : A - L < (h - j + 1) * 2 ^ e
-        hi = go ((h - j + 1) * 2 ^ e) ((j - 1) * 2 ^ e) A L (sym (add-mul (h - j + 1) (j - 1) (2 ^ e)) ∙ ap (λ (z : ℕ). z * 2 ^ e) more) L-over odd-less
+        hi = go ((h - j + 1) * 2 ^ e) ((j - 1) * 2 ^ e) A L (sym (add-mul (h - j + 1) (j - 1) (2 ^ e))
+            ∙ ap (λ (z : ℕ). z * 2 ^ e) more) L-over odd-less
           where
             go : (x y a b : ℕ) → x + y ≡ a → y < b → b < a → a - b < x
             go x y a b k g m = omega arith
 
-  pub like-round : Jammed l d j → (s : Bool) → round binary32 s ((h + j) * 2 ^ e) (2 ^ 1074) ≡ round binary32 s (A + L) (2 ^ 1074)
-  like-round (inl g) s = ap (λ (z : ℕ). round binary32 s z (2 ^ 1074)) (add-mul h j (2 ^ e) ∙ ap (λ (z : ℕ). A + z) (sym (exact-is g)))
+  pub like-round : Jammed l d j → (s : Bool) → round binary32 s ((h + j) * 2 ^ e) (2 ^ 1074) ≡ round binary32 s (A + L)
+      (2 ^ 1074)
+  like-round (inl g) s = ap (λ (z : ℕ). round binary32 s z (2 ^ 1074)) (add-mul h j (2 ^ e) ∙ ap (λ (z : ℕ). A + z)
+      (sym (exact-is g)))
   like-round (inr o) s = sym (like-odd o s)
 
   pub is-less : Jammed l d j → j < h → L < A
   is-less (inl g) k = lt-of-le-of-lt (le-of-eq (exact-is g)) (mul-lt-mul-of-pos-right k (pow-pos e))
   is-less (inr o) k = odd-less o
 
-  pub over-round : Jammed l d j → j < h → (s : Bool) → round binary32 s ((h - j) * 2 ^ e) (2 ^ 1074) ≡ round binary32 s (A - L) (2 ^ 1074)
-  over-round (inl g) k s = ap (λ (z : ℕ). round binary32 s z (2 ^ 1074)) (sub-mul h j (2 ^ e) (le-of-lt k) ∙ ap (λ (z : ℕ). A - z) (sym (exact-is g)))
+  pub over-round : Jammed l d j → j < h → (s : Bool) → round binary32 s ((h - j) * 2 ^ e) (2 ^ 1074)
+      ≡ round binary32 s (A - L) (2 ^ 1074)
+  over-round (inl g) k s = ap (λ (z : ℕ). round binary32 s z (2 ^ 1074)) (sub-mul h j (2 ^ e) (le-of-lt k)
+      ∙ ap (λ (z : ℕ). A - z) (sym (exact-is g)))
   over-round (inr o) k s = sym (over-odd o s)
 
   pub is-more : Jammed l d j → h < j → A < L
   is-more (inl g) k = lt-of-lt-of-le (mul-lt-mul-of-pos-right k (pow-pos e)) (le-of-eq (sym (exact-is g)))
   is-more (inr o) k = absurd (omega (arith, j-le o))
 
-  pub under-round : Jammed l d j → h < j → (t : Bool) → round binary32 t ((j - h) * 2 ^ e) (2 ^ 1074) ≡ round binary32 t (L - A) (2 ^ 1074)
-  under-round (inl g) k t = ap (λ (z : ℕ). round binary32 t z (2 ^ 1074)) (sub-mul j h (2 ^ e) (le-of-lt k) ∙ ap (λ (z : ℕ). z - A) (sym (exact-is g)))
+  pub under-round : Jammed l d j → h < j → (t : Bool) → round binary32 t ((j - h) * 2 ^ e) (2 ^ 1074)
+      ≡ round binary32 t (L - A) (2 ^ 1074)
+  under-round (inl g) k t = ap (λ (z : ℕ). round binary32 t z (2 ^ 1074)) (sub-mul j h (2 ^ e) (le-of-lt k)
+      ∙ ap (λ (z : ℕ). z - A) (sym (exact-is g)))
   under-round (inr o) k t = absurd (omega (arith, j-le o))
 
   pub is-level : Jammed l d j → h ≡ j → A ≡ L

@@ -1,8 +1,13 @@
--- Where rounding twice, first to an `f64` and then to an `f32`, is rounding once: the `f64` is normal, no power of two, and not half way between two `f32`. Assumes nothing.
+-- Where rounding twice, first to an `f64` and then to an `f32`, is rounding once: the `f64` is normal, no power of two,
+-- and not half way between two `f32`. Assumes nothing.
 use mathlib.Core.Path.{_≡_, refl, sym, ap, _∙_, subst}
 use mathlib.Core.Bool.{Bool, true, false, cond}
-use Prim.Native.Nat.{ℕ, suc, _+_, _-_, _*_, _/_, _%_, _^_, _≤_, _<_, compare, Ordering, Ordering·lt, Ordering·eq, Ordering·gt}
-use native.Mathlib.Nat.{le-trans, le-of-eq, lt-of-lt-of-le, lt-of-le-of-lt, le-antisymm, mul-comm, mul-assoc, mul-left-comm, mul-right-comm, add-mul, one-mul, mul-le-mul-left, mul-le-mul-right, mul-lt-mul-of-pos-right, lt-of-mul-lt-mul-right, le-of-mul-le-mul-right, mul-pos, mod-lt, div-add-mod', div-lt-iff-lt-mul, le-div-iff-mul-le, eq-of-mul-eq-mul-right, le-of-suc-le-suc}
+use Prim.Native.Nat.{ℕ, suc, _+_, _-_, _*_, _/_, _%_, _^_, _≤_, _<_, compare, Ordering, Ordering·lt, Ordering·eq}
+use Prim.Native.Nat.{Ordering·gt}
+use native.Mathlib.Nat.{le-trans, le-of-eq, lt-of-lt-of-le, lt-of-le-of-lt, le-antisymm, mul-comm, mul-assoc}
+use native.Mathlib.Nat.{mul-left-comm, mul-right-comm, add-mul, one-mul, mul-le-mul-left, mul-le-mul-right}
+use native.Mathlib.Nat.{mul-lt-mul-of-pos-right, lt-of-mul-lt-mul-right, le-of-mul-le-mul-right, mul-pos, mod-lt}
+use native.Mathlib.Nat.{div-add-mod', div-lt-iff-lt-mul, le-div-iff-mul-le, eq-of-mul-eq-mul-right, le-of-suc-le-suc}
 use native.Mathlib.Omega.{arith}
 use lib.Dec.{ltb, lit<}
 use lib.Pow.{pow-add, pow-pos, pow-mono, mod-mod-pow}
@@ -45,13 +50,15 @@ within U w r Ordering·eq h l = go (w % 2) (mod-lt w (lit< tt))
     go b k = at (w * U) ((w + b) * U) (b * U) (add-mul w b U) (most b k)
 
 near : (n U : ℕ) → 0 < U → Half n U (closest n U)
-near n U P = subst (λ (z : ℕ). Half z U (closest n U)) (div-add-mod' n U) (within U (n / U) (n % U) (compare (n % U * 2) U) (cmp (n % U * 2) U) (mod-lt n P))
+near n U P = subst (λ (z : ℕ). Half z U (closest n U)) (div-add-mod' n U)
+    (within U (n / U) (n % U) (compare (n % U * 2) U) (cmp (n % U * 2) U) (mod-lt n P))
 
 -- ---- a number that is within a half of q rounds, to multiples of 2 ^ 29, as q does
 unfoldable pub away : ℕ → ℕ
 away q = (q + 2 ^ 28) / 2 ^ 29
 
-closest-lit : (x w : ℕ) → x % 2 ≡ 1 → (x % 2 ^ 30 < 2 ^ 29 → x / 2 ^ 30 ≡ w) → (2 ^ 29 < x % 2 ^ 30 → suc (x / 2 ^ 30) ≡ w) → closest x (2 ^ 30) ≡ w
+closest-lit : (x w : ℕ) → x % 2 ≡ 1 → (x % 2 ^ 30 < 2 ^ 29 → x / 2 ^ 30 ≡ w)
+    → (2 ^ 29 < x % 2 ^ 30 → suc (x / 2 ^ 30) ≡ w) → closest x (2 ^ 30) ≡ w
 closest-lit x w o f g = go (compare (x % 2 ^ 30 * 2) (2 ^ 30)) (cmp (x % 2 ^ 30 * 2) (2 ^ 30))
   where
     even : (y : ℕ) → y * 2 ≡ 2 ^ 30 → y % 2 ≡ 1 → ⊥
@@ -68,15 +75,19 @@ closest-lit x w o f g = go (compare (x % 2 ^ 30 * 2) (2 ^ 30)) (cmp (x % 2 ^ 30 
 module _ (q : ℕ) (P : 0 < q) (h : q % 2 ^ 29 ≡ 2 ^ 28 → ⊥) where
   low-half : closest (2 * q - 1) (2 ^ 30) ≡ away q
   unfolding away
-  low-half = closest-lit (2 * q - 1) ((q + 2 ^ 28) / 2 ^ 29) (omega arith) (λ (l : (2 * q - 1) % 2 ^ 30 < 2 ^ 29). omega (arith, h)) (λ (l : 2 ^ 29 < (2 * q - 1) % 2 ^ 30). omega (arith, h))
+  low-half = closest-lit (2 * q - 1) ((q + 2 ^ 28) / 2 ^ 29) (omega arith) (λ (l : (2 * q - 1) % 2 ^ 30 < 2 ^ 29). omega
+      (arith, h)) (λ (l : 2 ^ 29 < (2 * q - 1) % 2 ^ 30). omega (arith, h))
 
   high-half : closest (2 * q + 1) (2 ^ 30) ≡ away q
   unfolding away
-  high-half = closest-lit (2 * q + 1) ((q + 2 ^ 28) / 2 ^ 29) (omega arith) (λ (l : (2 * q + 1) % 2 ^ 30 < 2 ^ 29). omega (arith, h)) (λ (l : 2 ^ 29 < (2 * q + 1) % 2 ^ 30). omega (arith, h))
+  high-half = closest-lit (2 * q + 1) ((q + 2 ^ 28) / 2 ^ 29) (omega arith)
+      (λ (l : (2 * q + 1) % 2 ^ 30 < 2 ^ 29). omega (arith, h)) (λ (l : 2 ^ 29 < (2 * q + 1) % 2 ^ 30). omega
+      (arith, h))
 
   module _ (n U : ℕ) (p : 0 < U) (d : Half n U q) where
     twice-low : (2 * q - 1) * U ≤ 2 * n
-    twice-low = go ((2 * q - 1) * U) (q * U) (sym (add-mul (2 * q - 1) 1 U) ∙ ap (λ (z : ℕ). z * U) one ∙ mul-assoc 2 q U) (one-mul U) (d .0)
+    twice-low = go ((2 * q - 1) * U) (q * U) (sym (add-mul (2 * q - 1) 1 U) ∙ ap (λ (z : ℕ). z * U) one
+        ∙ mul-assoc 2 q U) (one-mul U) (d .0)
       where
         one : 2 * q - 1 + 1 ≡ 2 * q
         one = omega arith
@@ -85,7 +96,9 @@ module _ (q : ℕ) (P : 0 < q) (h : q % 2 ^ 29 ≡ 2 ^ 28 → ⊥) where
         go x y e f g = omega arith
 
     twice-high : 2 * n ≤ (2 * q + 1) * U
-    twice-high = le-trans (d .1) (le-of-eq (sym (add-mul (2 * q) 1 U ∙ ap (λ (z : ℕ). z + 1 * U) (mul-assoc 2 q U) ∙ ap (λ (z : ℕ). 2 * (q * U) + z) (one-mul U))))
+    twice-high = le-trans (d .1)
+        (le-of-eq (sym (add-mul (2 * q) 1 U ∙ ap (λ (z : ℕ). z + 1 * U) (mul-assoc 2 q U)
+        ∙ ap (λ (z : ℕ). 2 * (q * U) + z) (one-mul U))))
 
     scale : (x : ℕ) → x * (U * 2 ^ 29) ≡ x * U * 2 ^ 29
     scale x = sym (mul-assoc x U (2 ^ 29))
@@ -99,11 +112,17 @@ module _ (q : ℕ) (P : 0 < q) (h : q % 2 ^ 29 ≡ 2 ^ 28 → ⊥) where
     pub as-q : closest n (U * 2 ^ 29) ≡ away q
     as-q =
         le-antisymm
-        (le-trans (closest-mono n (U * 2 ^ 29) (2 * q + 1) (2 ^ 30) (mul-pos p (lit< tt)) (lit< tt) (le-trans (le-of-eq double) (le-trans (mul-le-mul-right (2 ^ 29) twice-high) (le-of-eq (sym (scale (2 * q + 1))))))) (le-of-eq high-half))
-        (le-trans (le-of-eq (sym low-half)) (closest-mono (2 * q - 1) (2 ^ 30) n (U * 2 ^ 29) (lit< tt) (mul-pos p (lit< tt)) (le-trans (le-of-eq (scale (2 * q - 1))) (le-trans (mul-le-mul-right (2 ^ 29) twice-low) (le-of-eq (sym double))))))
+        (le-trans (closest-mono n (U * 2 ^ 29) (2 * q + 1) (2 ^ 30) (mul-pos p (lit< tt)) (lit< tt)
+        (le-trans (le-of-eq double) (le-trans (mul-le-mul-right (2 ^ 29) twice-high)
+        (le-of-eq (sym (scale (2 * q + 1))))))) (le-of-eq high-half))
+        (le-trans (le-of-eq (sym low-half)) (closest-mono (2 * q - 1) (2 ^ 30) n (U * 2 ^ 29) (lit< tt)
+        (mul-pos p (lit< tt))
+        (le-trans (le-of-eq (scale (2 * q - 1))) (le-trans (mul-le-mul-right (2 ^ 29) twice-low)
+        (le-of-eq (sym double))))))
 
 -- ---- two ways to write a value with 53 digits
-module _ (q k r j : ℕ) (lo : 2 ^ 52 < q) (hi : q < 2 ^ 53) (r-le : r ≤ 2 ^ 53) (r-ge : 0 < j → 2 ^ 52 ≤ r) (e : q * 2 ^ k ≡ r * 2 ^ j) where
+module _ (q k r j : ℕ) (lo : 2 ^ 52 < q) (hi : q < 2 ^ 53) (r-le : r ≤ 2 ^ 53) (r-ge : 0 < j → 2 ^ 52 ≤ r)
+    (e : q * 2 ^ k ≡ r * 2 ^ j) where
   lift : (a b c d : ℕ) → b < d → a * 2 ^ b ≡ c * 2 ^ d → a ≡ c * 2 ^ (d - b)
   lift a b c d l g =
       eq-of-mul-eq-mul-right (2 ^ b) (pow-pos b) a (c * 2 ^ (d - b))
@@ -127,18 +146,26 @@ module _ (q k r j : ℕ) (lo : 2 ^ 52 < q) (hi : q < 2 ^ 53) (r-le : r ≤ 2 ^ 5
 pub one-value : (x : Float) (s t : Bool) (a b c : ℕ) → HasValue x s a c → HasValue x t b c → (s ≡ t) × (a ≡ b)
 one-value nan s t a b c p q = absurd p
 one-value (inf u) s t a b c p q = absurd p
-one-value (fin u m e) s t a b c p q = (sym (p .0) ∙ q .0, eq-of-mul-eq-mul-right (down e) (down-pos e) a b (sym (p .1) ∙ q .1))
+one-value (fin u m e) s t a b c p q = (
+  sym (p .0) ∙ q .0,
+  eq-of-mul-eq-mul-right (down e) (down-pos e) a b
+      (sym (p .1) ∙ q .1),
+)
 
-units-value : (f : Format) (s : Bool) (q k : ℕ) (t : Bool) (a : ℕ) → HasValue (units f s q k) t a (2 ^ low f) → (s ≡ t) × (q * 2 ^ k ≡ a)
+units-value : (f : Format) (s : Bool) (q k : ℕ) (t : Bool) (a : ℕ) → HasValue (units f s q k) t a (2 ^ low f)
+    → (s ≡ t) × (q * 2 ^ k ≡ a)
 unfolding units
 units-value f s q k t a = go (ltb (q * 2 ^ k) (2 ^ (low f + suc (emax f))))
   where
-    go : (b : Bool) → HasValue (cond b (odd (suc (prec f)) s q k (low f)) (inf s)) t a (2 ^ low f) → (s ≡ t) × (q * 2 ^ k ≡ a)
-    go true v = one-value (odd (suc (prec f)) s q k (low f)) s t (q * 2 ^ k) a (2 ^ low f) (odd-sign (suc (prec f)) s q k (low f)) v
+    go : (b : Bool) → HasValue (cond b (odd (suc (prec f)) s q k (low f)) (inf s)) t a (2 ^ low f)
+        → (s ≡ t) × (q * 2 ^ k ≡ a)
+    go true v = one-value (odd (suc (prec f)) s q k (low f)) s t (q * 2 ^ k) a (2 ^ low f)
+        (odd-sign (suc (prec f)) s q k (low f)) v
     go false v = absurd v
 
 -- ---- the fraction num / c, rounded to an `f64` that is q * 2 ^ k / 2 ^ 1074
-module _ (s : Bool) (num c : ℕ) (C : 0 < c) (t : Bool) (q k : ℕ) (v : HasValue (round binary64 s num c) t (q * 2 ^ k) (2 ^ 1074)) (lo : 2 ^ 52 < q) (hi : q < 2 ^ 53) where
+module _ (s : Bool) (num c : ℕ) (C : 0 < c) (t : Bool) (q k : ℕ) (v : HasValue (round binary64 s num c) t (q * 2 ^ k)
+    (2 ^ 1074)) (lo : 2 ^ 52 < q) (hi : q < 2 ^ 53) where
   abbrev n : ℕ
   n = num * 2 ^ 1074
 
@@ -149,7 +176,8 @@ module _ (s : Bool) (num c : ℕ) (C : 0 < c) (t : Bool) (q k : ℕ) (v : HasVal
   r = closest n (c * 2 ^ j)
 
   is : (s ≡ t) × (r * 2 ^ j ≡ q * 2 ^ k)
-  is = units-value binary64 s r j t (q * 2 ^ k) (subst (λ (x : Float). HasValue x t (q * 2 ^ k) (2 ^ 1074)) (round-is binary64 s num c) v)
+  is = units-value binary64 s r j t (q * 2 ^ k) (subst (λ (x : Float). HasValue x t (q * 2 ^ k) (2 ^ 1074))
+      (round-is binary64 s num c) v)
 
   abbrev u : ℕ
   u = c * 2 ^ j
@@ -160,13 +188,16 @@ module _ (s : Bool) (num c : ℕ) (C : 0 < c) (t : Bool) (q k : ℕ) (v : HasVal
   r-le : r ≤ 2 ^ 53
   r-le =
       le-trans (nearest-le (n / u) (compare (n % u * 2) u))
-      (div-lt-iff-lt-mul u-pos .1 (lt-of-lt-of-le (drop-under 53 n c (lit< tt) C) (le-of-eq (ap (λ (z : ℕ). z * c) (pow-add 2 53 j) ∙ mul-assoc (2 ^ 53) (2 ^ j) c ∙ ap (λ (z : ℕ). 2 ^ 53 * z) (mul-comm (2 ^ j) c)))))
+      (div-lt-iff-lt-mul u-pos .1 (lt-of-lt-of-le (drop-under 53 n c (lit< tt) C)
+      (le-of-eq (ap (λ (z : ℕ). z * c) (pow-add 2 53 j) ∙ mul-assoc (2 ^ 53) (2 ^ j) c ∙ ap (λ (z : ℕ). 2 ^ 53 * z)
+      (mul-comm (2 ^ j) c)))))
 
   r-ge : 0 < j → 2 ^ 52 ≤ r
   r-ge h =
       le-trans
       (le-div-iff-mul-le u-pos .1
-      (le-trans (le-of-eq (ap (λ (z : ℕ). 2 ^ 52 * z) (mul-comm c (2 ^ j)) ∙ sym (mul-assoc (2 ^ 52) (2 ^ j) c) ∙ ap (λ (z : ℕ). z * c) (pow-split 52 j (53 + j - 1) (omega arith)))) (drop-over 53 n c (lit< tt) C h)))
+      (le-trans (le-of-eq (ap (λ (z : ℕ). 2 ^ 52 * z) (mul-comm c (2 ^ j)) ∙ sym (mul-assoc (2 ^ 52) (2 ^ j) c)
+      ∙ ap (λ (z : ℕ). z * c) (pow-split 52 j (53 + j - 1) (omega arith)))) (drop-over 53 n c (lit< tt) C h)))
       (nearest-ge (n / u) (compare (n % u * 2) u))
 
   pub sign-is : s ≡ t
@@ -179,7 +210,8 @@ module _ (s : Bool) (num c : ℕ) (C : 0 < c) (t : Bool) (q k : ℕ) (v : HasVal
   q-is = same-digits q k r j lo hi r-le r-ge (sym (is .1))
 
   half : Half n (c * 2 ^ k) q
-  half = subst (λ (i : ℕ). Half n (c * 2 ^ i) q) (sym k-is) (subst (λ (z : ℕ). Half n (c * 2 ^ j) z) (sym q-is) (near n (c * 2 ^ j) u-pos))
+  half = subst (λ (i : ℕ). Half n (c * 2 ^ i) q) (sym k-is) (subst (λ (z : ℕ). Half n (c * 2 ^ j) z) (sym q-is)
+      (near n (c * 2 ^ j) u-pos))
 
   -- ---- the same fraction rounded to an `f32`
   module _ (K : 896 ≤ k) (h : q % 2 ^ 29 ≡ 2 ^ 28 → ⊥) where
@@ -204,31 +236,39 @@ module _ (s : Bool) (num c : ℕ) (C : 0 < c) (t : Bool) (q k : ℕ) (v : HasVal
     small : closest (num * 2 ^ 149) (c * 2 ^ i) ≡ closest n (U * 2 ^ 29)
     small =
         closest-same (num * 2 ^ 149) (c * 2 ^ i) n (U * 2 ^ 29) (mul-pos C (pow-pos i)) (mul-pos U-pos (lit< tt))
-        (ap (λ (z : ℕ). num * 2 ^ 149 * z) go ∙ sym (mul-assoc (num * 2 ^ 149) (2 ^ 925) (c * 2 ^ i)) ∙ ap (λ (z : ℕ). z * (c * 2 ^ i)) n-is)
+        (ap (λ (z : ℕ). num * 2 ^ 149 * z) go ∙ sym (mul-assoc (num * 2 ^ 149) (2 ^ 925) (c * 2 ^ i))
+        ∙ ap (λ (z : ℕ). z * (c * 2 ^ i)) n-is)
       where
         go : U * 2 ^ 29 ≡ 2 ^ 925 * (c * 2 ^ i)
-        go = mul-assoc c (2 ^ k) (2 ^ 29) ∙ ap (λ (z : ℕ). c * z) (pow-split k 29 (k + 29) refl ∙ sym (pow-split 925 i (k + 29) (omega arith))) ∙ mul-left-comm c (2 ^ 925) (2 ^ i)
+        go = mul-assoc c (2 ^ k) (2 ^ 29) ∙ ap (λ (z : ℕ). c * z) (pow-split k 29 (k + 29) refl
+            ∙ sym (pow-split 925 i (k + 29) (omega arith))) ∙ mul-left-comm c (2 ^ 925) (2 ^ i)
 
     power : (a b : ℕ) → a + 925 ≡ b + k → 2 ^ a * c * 2 ^ 925 ≡ 2 ^ b * U
-    power a b e = mul-right-comm (2 ^ a) c (2 ^ 925) ∙ ap (λ (z : ℕ). z * c) (pow-split a 925 (b + k) e ∙ pow-add 2 b k) ∙ mul-assoc (2 ^ b) (2 ^ k) c ∙ ap (λ (z : ℕ). 2 ^ b * z) (mul-comm (2 ^ k) c)
+    power a b e = mul-right-comm (2 ^ a) c (2 ^ 925) ∙ ap (λ (z : ℕ). z * c) (pow-split a 925 (b + k) e ∙ pow-add 2 b k)
+        ∙ mul-assoc (2 ^ b) (2 ^ k) c ∙ ap (λ (z : ℕ). 2 ^ b * z) (mul-comm (2 ^ k) c)
 
     under : num * 2 ^ 149 < 2 ^ (24 + i) * c
     under =
         lt-of-mul-lt-mul-right (2 ^ 925)
-        (lt-of-le-of-lt (le-of-eq n-is) (lt-of-lt-of-le (go (twice-high q q-pos h n U U-pos half)) (le-of-eq (sym (power (24 + i) 53 (omega arith))))))
+        (lt-of-le-of-lt (le-of-eq n-is) (lt-of-lt-of-le (go (twice-high q q-pos h n U U-pos half))
+        (le-of-eq (sym (power (24 + i) 53 (omega arith))))))
       where
         go : 2 * n ≤ (2 * q + 1) * U → n < 2 ^ 53 * U
-        go g = lt-of-mul-lt-mul-right 2 (lt-of-le-of-lt (le-of-eq (mul-comm n 2)) (lt-of-le-of-lt g (lt-of-lt-of-le (mul-lt-mul-of-pos-right more' U-pos) (le-of-eq (mul-right-comm (2 ^ 53) 2 U)))))
+        go g = lt-of-mul-lt-mul-right 2 (lt-of-le-of-lt (le-of-eq (mul-comm n 2))
+            (lt-of-le-of-lt g (lt-of-lt-of-le (mul-lt-mul-of-pos-right more' U-pos)
+            (le-of-eq (mul-right-comm (2 ^ 53) 2 U)))))
           where
             more' : 2 * q + 1 < 2 ^ 53 * 2
             more' = omega arith
 
     over : 0 < i → 2 ^ (24 + i - 1) * c ≤ num * 2 ^ 149
     over g =
-        le-of-mul-le-mul-right (le-trans (le-of-eq (power (24 + i - 1) 52 (omega arith))) (le-trans (go (twice-low q q-pos h n U U-pos half)) (le-of-eq (sym n-is)))) (pow-pos 925)
+        le-of-mul-le-mul-right (le-trans (le-of-eq (power (24 + i - 1) 52 (omega arith)))
+        (le-trans (go (twice-low q q-pos h n U U-pos half)) (le-of-eq (sym n-is)))) (pow-pos 925)
       where
         go : (2 * q - 1) * U ≤ 2 * n → 2 ^ 52 * U ≤ n
-        go f = le-of-mul-le-mul-right (le-trans (le-of-eq (mul-right-comm (2 ^ 52) U 2)) (le-trans (mul-le-mul-right U fewer) (le-trans f (le-of-eq (mul-comm 2 n))))) (lit< tt)
+        go f = le-of-mul-le-mul-right (le-trans (le-of-eq (mul-right-comm (2 ^ 52) U 2))
+            (le-trans (mul-le-mul-right U fewer) (le-trans f (le-of-eq (mul-comm 2 n))))) (lit< tt)
           where
             fewer : 2 ^ 52 * 2 ≤ 2 * q - 1
             fewer = omega arith

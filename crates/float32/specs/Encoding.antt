@@ -1,5 +1,5 @@
--- The fields of a bit pattern b of the format f: where the pattern is a finite float's, its size is significand f b * 2 ^ exponent f b, in units of the format's smallest value.
--- Definitions only. Assumes nothing.
+-- The fields of a bit pattern b of the format f: where the pattern is a finite float's, its size is significand f b * 2
+-- ^ exponent f b, in units of the format's smallest value. Definitions only. Assumes nothing.
 use mathlib.Core.Path.{_≡_}
 use Prim.Native.Nat.{ℕ, suc, _+_, _-_, _/_, _%_, _^_, _≤_, _<_}
 use mathlib.Core.Bool.{cond}
@@ -15,7 +15,8 @@ significand f b = cond (eqb (field f b) 0) (b % hid f) (hid f + b % hid f)
 unfoldable pub exponent : Format → ℕ → ℕ
 exponent f b = field f b - 1
 
--- The pattern of an `f64` that is normal as an `f32` too, with room for a carry, is no power of two, and is not half way between two `f32`.
+-- The pattern of an `f64` that is normal as an `f32` too, with room for a carry, is no power of two, and is not half
+-- way between two `f32`.
 pub record RoundsOnce (b : ℕ) : Type 0 where
   pub low : 897 ≤ field binary64 b
   pub high : field binary64 b ≤ 1149

@@ -1,5 +1,5 @@
--- What Rust's functions on `f32` return, for every value. A float is `lib.Ieee`'s: `nan`, `inf s`, or `fin s m e`, which is m * 2 ^ e, negative where s is true.
--- Definitions only. Assumes nothing.
+-- What Rust's functions on `f32` return, for every value. A float is `lib.Ieee`'s: `nan`, `inf s`, or `fin s m e`,
+-- which is m * 2 ^ e, negative where s is true. Definitions only. Assumes nothing.
 use Prim.Native.Nat.{_+_, _*_, _/_}
 use mathlib.Core.Bool.{Bool, true, false, cond}
 use lib.Ieee as Ieee
@@ -26,7 +26,8 @@ min x y = cond (Ieee.isNan x) y (cond (Ieee.lt y x) y x)
 unfoldable pub clamp : Float → Float → Float → Float
 clamp x lo hi = cond (Ieee.lt x lo) lo (cond (Ieee.lt hi x) hi x)
 
--- The whole number nearest to x, a half away from zero, with x's sign, also where it is 0. Where |x| is n / d, the whole part of |x| + 1 / 2 is (2 * n + d) / (2 * d).
+-- The whole number nearest to x, a half away from zero, with x's sign, also where it is 0. Where |x| is n / d, the
+-- whole part of |x| + 1 / 2 is (2 * n + d) / (2 * d).
 unfoldable pub round : Float → Float
 round nan = nan
 round (inf s) = inf s
@@ -41,4 +42,5 @@ mulAdd (fin s m e) (inf t) z = Ieee.add binary32 (Ieee.mul binary32 (fin s m e) 
 mulAdd (fin s m e) (fin t n d) nan = nan
 mulAdd (fin s m e) (fin t n d) (inf u) = inf u
 mulAdd (fin s m e) (fin t n d) (fin u k g) =
-    Ieee.sum binary32 (unlike s t) (m * up e * (n * up d) * down g) u (k * up g * (down e * down d)) (down e * down d * down g)
+    Ieee.sum binary32 (unlike s t) (m * up e * (n * up d) * down g) u (k * up g * (down e * down d))
+    (down e * down d * down g)

@@ -1,4 +1,5 @@
--- A shift that keeps a trace of what it drops: r is x / 2 ^ d where that is whole. Otherwise r is the odd one of the two whole numbers next to it. Definitions only. Assumes nothing.
+-- A shift that keeps a trace of what it drops: r is x / 2 ^ d where that is whole. Otherwise r is the odd one of the
+-- two whole numbers next to it. Definitions only. Assumes nothing.
 use mathlib.Core.Path.{_≡_}
 use mathlib.Core.Logic.{_⊎_}
 use Prim.Native.Nat.{ℕ, _+_, _-_, _*_, _%_, _^_, _≤_, _<_}

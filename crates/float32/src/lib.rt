@@ -415,7 +415,8 @@ fn rounds_once(b: u64) -> bool
 // the digits goes into the exponent.
 fn narrowed(b: u64) -> f32
     requires { ⌜ RoundsOnce b ⌝ }
-    ensures { λ r. ⌜ r ≡ Ieee.units binary32 (leb (2 ^ 63) b) ((significand binary64 b + 2 ^ 28) / 2 ^ 29) (exponent binary64 b - 896) ⌝ }
+    ensures { λ r. ⌜ r ≡ Ieee.units binary32 (leb (2 ^ 63) b) ((significand binary64 b + 2 ^ 28) / 2 ^ 29)
+        (exponent binary64 b - 896) ⌝ }
 {
     let a = (b % 9223372036854775808 + 268435456) / 536870912 - 7516192768;
     f32::from_bits((a + b / 9223372036854775808 * 2147483648) as u32)
@@ -444,7 +445,9 @@ fn mul_add_slow(x: f32, y: f32, z: f32) -> f32
 // x * y + z of three bit patterns, rounded once.
 fn fused_bits(x: u32, y: u32, z: u32) -> f32
     requires { ⌜ exponent binary32 x ≤ 253 ⌝ ∗ ⌜ exponent binary32 y ≤ 253 ⌝ ∗ ⌜ exponent binary32 z ≤ 253 ⌝ }
-    ensures { λ r. ⌜ r ≡ Ieee.sum binary32 (Ieee.unlike (leb (2 ^ 31) x) (leb (2 ^ 31) y)) (significand binary32 x * significand binary32 y * 2 ^ (exponent binary32 x + exponent binary32 y + 776)) (leb (2 ^ 31) z) (significand binary32 z * 2 ^ (exponent binary32 z + 925)) (2 ^ 1074) ⌝ }
+    ensures { λ r. ⌜ r ≡ Ieee.sum binary32 (Ieee.unlike (leb (2 ^ 31) x) (leb (2 ^ 31) y))
+        (significand binary32 x * significand binary32 y * 2 ^ (exponent binary32 x + exponent binary32 y + 776))
+        (leb (2 ^ 31) z) (significand binary32 z * 2 ^ (exponent binary32 z + 925)) (2 ^ 1074) ⌝ }
 {
     add_exact(
         unlike(x >= 2147483648, y >= 2147483648),

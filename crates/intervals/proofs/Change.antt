@@ -68,7 +68,8 @@ pub record Keeps (t t' : Table) : Type 0 where
 
 module _ (t t' : Table) (k : Keeps t t') (s r : ℕ) where
   -- what was found is found at the same place
-  keeps-at : (m q p : ℕ) (v : Float) → q < places t → probe t s r m q ≡ Found p v → probe t' s r m q ≡ Found p (valueAt t' p)
+  keeps-at : (m q p : ℕ) (v : Float) → q < places t → probe t s r m q ≡ Found p v
+      → probe t' s r m q ≡ Found p (valueAt t' p)
   keeps-at zero q p v h e = absurd (at-full e (step-none t s r q))
   keeps-at (suc m) q p v h e =
       elim (caseOf t s r q) [
@@ -79,7 +80,8 @@ module _ (t t' : Table) (k : Keeps t t') (s r : ℕ) where
             rw pq (step-here t' s r m q (k .used q h f) (k .key q s r h f ∙ y))
         | other f y ↦
             step-on t' s r m q (k .used q h f) (k .key q s r h f ∙ y)
-            ∙ rw (k .long) (keeps-at m (nextOf (places t) q) p v (next-lt (places t) q h) (sym (step-on t s r m q f y) ∙ e))
+            ∙ rw (k .long) (keeps-at m (nextOf (places t) q) p v (next-lt (places t) q h) (sym (step-on t s r m q f y)
+            ∙ e))
       ]
 
   -- where a free place was found and the key stands now, the key is found
@@ -95,14 +97,17 @@ module _ (t t' : Table) (k : Keeps t t') (s r : ℕ) where
         | here f z ↦ absurd (at-free (step-here t s r m q f z) e)
         | other f z ↦
             step-on t' s r m q (k .used q h f) (k .key q s r h f ∙ z)
-            ∙ rw (k .long) (takes-at m (nextOf (places t) q) p (next-lt (places t) q h) f₀ f₁ y (sym (step-on t s r m q f z) ∙ e))
+            ∙ rw (k .long) (takes-at m (nextOf (places t) q) p (next-lt (places t) q h) f₀ f₁ y
+            (sym (step-on t s r m q f z) ∙ e))
       ]
 
-  pub keeps-lookup : (p : ℕ) (v : Float) → 0 < places t → lookupIn t s r ≡ Found p v → lookupIn t' s r ≡ Found p (valueAt t' p)
+  pub keeps-lookup : (p : ℕ) (v : Float) → 0 < places t → lookupIn t s r ≡ Found p v
+      → lookupIn t' s r ≡ Found p (valueAt t' p)
   unfolding lookupIn
   keeps-lookup p v h e = rw (k .long) (keeps-at (places t) (homeOf (places t) s r) p v (home-lt (places t) s r h) e)
 
   pub takes-lookup : (p : ℕ) → 0 < places t → freeAt t p ≡ true → freeAt t' p ≡ false → keyAt t' p s r ≡ true
       → lookupIn t s r ≡ Free p → lookupIn t' s r ≡ Found p (valueAt t' p)
   unfolding lookupIn
-  takes-lookup p h f₀ f₁ y e = rw (k .long) (takes-at (places t) (homeOf (places t) s r) p (home-lt (places t) s r h) f₀ f₁ y e)
+  takes-lookup p h f₀ f₁ y e = rw (k .long) (takes-at (places t) (homeOf (places t) s r) p (home-lt (places t) s r h) f₀
+      f₁ y e)

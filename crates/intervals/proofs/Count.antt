@@ -138,7 +138,8 @@ place-by t ok s r h (full e) = absurd (h (full-none t ok s r e))
 
 module _ (t t' : Table) (ok : Sound t) (ok' : Sound t') (held : (s r : ℕ) → heldIn t s r ≡ heldIn t' s r) where
   -- a used place of t has a place of t' that is marked from then on
-  marks : (m : ℕ) → m < places t → freeAt t m ≡ false → count-if (marked t t' m) (places t') < count-if (marked t t' (suc m)) (places t')
+  marks : (m : ℕ) → m < places t → freeAt t m ≡ false
+      → count-if (marked t t' m) (places t') < count-if (marked t t' (suc m)) (places t')
   unfolding in-first
   marks m h f =
       let s = s-at t m in
@@ -166,10 +167,19 @@ module _ (t t' : Table) (ok : Sound t) (ok' : Sound t') (held : (s r : ℕ) → 
   count-at-most : countIn t ≤ countIn t'
   count-at-most = omega (arith, grows (places t) (omega arith), marked-count t t' (places t) (places t'))
 
-pub same-count : (t t' : Table) → Sound t → Sound t' → ((s r : ℕ) → heldIn t s r ≡ heldIn t' s r) → countIn t ≡ countIn t'
+pub same-count : (t t' : Table) → Sound t → Sound t' → ((s r : ℕ) → heldIn t s r ≡ heldIn t' s r)
+    → countIn t ≡ countIn t'
 same-count t t' ok ok' held =
     le-antisymm (count-at-most t t' ok ok' held) (count-at-most t' t ok' ok (λ s r. sym (held s r)))
 
 -- two sound tables that hold the same, the second at least as long
-pub twin-of : (t t' : Table) → Sound t → Sound t' → places t ≤ places t' → ((s r : ℕ) → heldIn t s r ≡ heldIn t' s r) → SameEntries t t'
-twin-of t t' ok ok' l held = record { sound = ok; sound' = ok'; longer = l; held = held; count = same-count t t' ok ok' held }
+pub twin-of : (t t' : Table) → Sound t → Sound t' → places t ≤ places t' → ((s r : ℕ) → heldIn t s r ≡ heldIn t' s r)
+    → SameEntries t t'
+twin-of t t' ok ok' l held = record {
+  sound = ok;
+  sound' = ok';
+  longer = l;
+  held = held;
+  count = same-count t t' ok ok'
+      held;
+}

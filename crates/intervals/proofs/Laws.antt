@@ -7,10 +7,12 @@
 --     count-new, count-again                      one key more where the lookup said Free; as many where it said Found
 --     full-iff        Full: the key is not held and as many are held as the table is long; and only then
 --     free-count      Free: fewer keys are held than the table is long
---     one-place, stands-held                      a key stands at one place, and is held where it stands: `countIn`, which counts used places, counts keys
+--     one-place, stands-held                      a key stands at one place, and is held where it stands: `countIn`,
+--     which counts used places, counts keys
 --     same-answer     two tables that hold the same under a key answer the same interval, or nothing
 --     SameEntries            two tables, the second at least as long, that hold the same
---     same-clear, same-lookup, same-enter         emptied tables are; lookups in both match unless the first is full; the same entry in both keeps it
+--     same-clear, same-lookup, same-enter         emptied tables are; lookups in both match unless the first is full;
+--     the same entry in both keeps it
 -- Assumes nothing.
 use mathlib.Core.Path.{_≡_, refl, sym, _∙_, ap}
 use mathlib.Core.Bool.{Bool, true, false, cond}
@@ -26,7 +28,8 @@ use Rattle.float32.specs.Numbers.{0ᶠ, 1ᶠ}
 use Rattle.intervals.specs.declared.Entry.{Entry}
 use Rattle.intervals.specs.declared.Entry.the-variants.{Found, Free, Full}
 use Rattle.intervals.specs.Table.{Table, places, isFree, sameKey, freeAt, keyAt, valueAt, lookupIn, enterIn}
-use Rattle.intervals.specs.Table.{clearIn, heldTo, countTo, heldIn, countIn, answerOf, Stands, Sound, LookupContract}
+use Rattle.intervals.specs.Table.{clearIn, heldTo, countTo, heldIn, countIn, answerOf, Stands, Sound}
+use Rattle.intervals.specs.Table.{LookupContract}
 use Rattle.intervals.proofs.Probe.{Case, free, here, other, caseOf, at-free, at-full, true-false}
 use Rattle.intervals.proofs.Probe.{lookup-at-is, lookup-free-is, lookup-full-is}
 use Rattle.intervals.proofs.Change.{Keeps, same-is, same-self, enter-places, value-same, free-same, key-same}
@@ -60,7 +63,8 @@ module _ (t : Table) (s r : ℕ) where
     absent : heldTo t s r m ≡ none → ((p : ℕ) → p < m → freeAt t p ≡ false → keyAt t p s r ≡ true → ⊥) → View m
     present : (p : ℕ) → p < m → freeAt t p ≡ false → keyAt t p s r ≡ true → heldTo t s r m ≡ some (valueAt t p) → View m
 
-  view-skip : (m : ℕ) → heldTo t s r (suc m) ≡ heldTo t s r m → (freeAt t m ≡ false → keyAt t m s r ≡ true → ⊥) → View m → View (suc m)
+  view-skip : (m : ℕ) → heldTo t s r (suc m) ≡ heldTo t s r m → (freeAt t m ≡ false → keyAt t m s r ≡ true → ⊥) → View m
+      → View (suc m)
   view-skip m e no-key (absent h a) =
       absent (e ∙ h)
       (λ p l f k.
@@ -109,7 +113,8 @@ module _ (t : Table) (ok : Sound t) (s r : ℕ) where
 
   not-at-held : ((p : ℕ) (v : Float) → lookupIn t s r ≡ Found p v → ⊥) → View t s r (places t) → heldIn t s r ≡ none
   not-at-held n (absent h a) = h
-  not-at-held n (present q l f k h) = absurd (n q (valueAt t q) (ok .found s r q (record { within = l; used = f; key = k })))
+  not-at-held n (present q l f k h) = absurd
+      (n q (valueAt t q) (ok .found s r q (record { within = l; used = f; key = k })))
 
   pub found-held : (p : ℕ) (v : Float) → lookupIn t s r ≡ Found p v → heldIn t s r ≡ some v
   found-held p v e = at-held p v e (view t s r (places t))
@@ -184,14 +189,20 @@ module _ (t : Table) where
   pub count-places : countIn t ≤ places t
   count-places = count-le (places t)
 
-full-by : (t : Table) → Sound t → (s r : ℕ) → heldIn t s r ≡ none → countIn t ≡ places t → Answer t s r → lookupIn t s r ≡ Full
+full-by : (t : Table) → Sound t → (s r : ℕ) → heldIn t s r ≡ none → countIn t ≡ places t → Answer t s r
+    → lookupIn t s r ≡ Full
 full-by t ok s r h n (at p v e) = absurd (some-none (found-held t ok s r p v e) h)
 full-by t ok s r h n (room p e) = absurd (let l = free-count t s r p e in omega arith)
 full-by t ok s r h n (full e) = e
 
 -- Full exactly where the key is not held and as many keys are held as the table is long
-pub full-iff : (t : Table) → Sound t → (s r : ℕ) → (lookupIn t s r ≡ Full) ↔ ((heldIn t s r ≡ none) × (countIn t ≡ places t))
-full-iff t ok s r = (λ e. (full-none t ok s r e, full-count t s r e), λ w. full-by t ok s r (w .0) (w .1) (answer t s r))
+pub full-iff : (t : Table) → Sound t → (s r : ℕ)
+    → (lookupIn t s r ≡ Full) ↔ ((heldIn t s r ≡ none) × (countIn t ≡ places t))
+full-iff t ok s r = (
+  λ e. (full-none t ok s r e, full-count t s r e),
+  λ w. full-by t ok s r (w .0) (w .1)
+      (answer t s r),
+)
 
 count-same : (t t' : Table) (m : ℕ) → ((q : ℕ) → q < m → freeAt t' q ≡ freeAt t q) → countTo t' m ≡ countTo t m
 count-same t t' zero a = count-zero t' ∙ sym (count-zero t)
@@ -204,7 +215,8 @@ count-same t t' (suc m) a =
       | other f k ↦ count-used t' m (e ∙ f) ∙ (ap suc i ∙ sym (count-used t m f))
     ]
 
-count-more : (t t' : Table) (p m : ℕ) → p < m → freeAt t p ≡ true → freeAt t' p ≡ false → ((q : ℕ) → (q ≡ p → ⊥) → freeAt t' q ≡ freeAt t q)
+count-more : (t t' : Table) (p m : ℕ) → p < m → freeAt t p ≡ true → freeAt t' p ≡ false
+    → ((q : ℕ) → (q ≡ p → ⊥) → freeAt t' q ≡ freeAt t q)
     → countTo t' m ≡ suc (countTo t m)
 count-more t t' p zero h f₀ f₁ a = absurd (omega arith)
 count-more t t' p (suc m) h f₀ f₁ a =
@@ -233,7 +245,8 @@ unfolding lt ofBits ofFields
 one-used = refl
 
 -- what is clamped between 1 and a maximum that is not below 1 does not mark a free place
-clamp-by : (x hi : Float) (a b : Bool) → lt x 1ᶠ ≡ a → lt hi x ≡ b → isFree hi ≡ false → isFree (cond a 1ᶠ (cond b hi x)) ≡ false
+clamp-by : (x hi : Float) (a b : Bool) → lt x 1ᶠ ≡ a → lt hi x ≡ b → isFree hi ≡ false
+    → isFree (cond a 1ᶠ (cond b hi x)) ≡ false
 clamp-by x hi true b e f h = one-used
 clamp-by x hi false true e f h = h
 clamp-by x hi false false e f h = e
@@ -250,11 +263,15 @@ module _ (t : Table) where
   clear-places = rw (length-replicate (length (t .intervals)) 0ᶠ)
 
   pub clear-sound : Sound (clearIn t)
-  clear-sound = record { found = λ s r p w. absurd (true-false (clear-free p (rw clear-places at (w .within))) (w .used)) }
+  clear-sound = record {
+    found = λ s r p w. absurd (true-false (clear-free p (rw clear-places at (w .within)))
+        (w .used));
+  }
 
   clear-held-to : (s r m : ℕ) → m ≤ places t → heldTo (clearIn t) s r m ≡ none
   clear-held-to s r zero h = held-zero (clearIn t) s r
-  clear-held-to s r (suc m) h = held-free (clearIn t) s r m (clear-free m (omega arith)) ∙ clear-held-to s r m (omega arith)
+  clear-held-to s r (suc m) h = held-free (clearIn t) s r m (clear-free m (omega arith)) ∙ clear-held-to s r m
+      (omega arith)
 
   clear-count-to : (m : ℕ) → m ≤ places t → countTo (clearIn t) m ≡ 0
   clear-count-to zero h = count-zero (clearIn t)
@@ -310,7 +327,8 @@ module _ (t : Table) (ok : Sound t) (s r p : ℕ) (v : Float) (u : isFree v ≡ 
       }
 
   -- the key is found at the place, with the interval
-  entered-by : Takes t s r p → Takes t s r p → lookupIn (enterIn t p s r v) s r ≡ Found p (valueAt (enterIn t p s r v) p)
+  entered-by : Takes t s r p → Takes t s r p → lookupIn (enterIn t p s r v) s r
+      ≡ Found p (valueAt (enterIn t p s r v) p)
   entered-by w (new e) =
       let h = takes-within t s r p w in
       takes-lookup t (enterIn t p s r v) (keeps w) s r p (omega arith) (lookup-free-is t s r e .1)
@@ -348,7 +366,8 @@ module _ (t : Table) (ok : Sound t) (s r p : ℕ) (v : Float) (u : isFree v ≡ 
   pub enter-held : Takes t s r p → heldIn (enterIn t p s r v) s r ≡ some v
   enter-held w = found-held (enterIn t p s r v) (enter-sound w) s r p v (enter-found w)
 
-  other-to : (s' r' : ℕ) → sameKey s r s' r' ≡ false → Takes t s r p → (m : ℕ) → heldTo (enterIn t p s r v) s' r' m ≡ heldTo t s' r' m
+  other-to : (s' r' : ℕ) → sameKey s r s' r' ≡ false → Takes t s r p → (m : ℕ) → heldTo (enterIn t p s r v) s' r' m
+      ≡ heldTo t s' r' m
   other-to s' r' n w zero = held-zero (enterIn t p s r v) s' r' ∙ sym (held-zero t s' r')
   other-to s' r' n w (suc m) =
       let t' = enterIn t p s r v in
@@ -369,12 +388,14 @@ module _ (t : Table) (ok : Sound t) (s r p : ℕ) (v : Float) (u : isFree v ≡ 
             elim (caseOf t s' r' m) [
               | free f ↦ held-free t' s' r' m (f₁ ∙ f) ∙ (i ∙ sym (held-free t s' r' m f))
               | here f k ↦
-                  held-here t' s' r' m (f₁ ∙ f) (k₁ ∙ k) ∙ (ap some (value-other t p s r v m ne) ∙ sym (held-here t s' r' m f k))
+                  held-here t' s' r' m (f₁ ∙ f) (k₁ ∙ k)
+                  ∙ (ap some (value-other t p s r v m ne) ∙ sym (held-here t s' r' m f k))
               | other f k ↦ held-on t' s' r' m (f₁ ∙ f) (k₁ ∙ k) ∙ (i ∙ sym (held-on t s' r' m f k))
             ]
       ]
 
-  pub enter-other : Takes t s r p → (s' r' : ℕ) → (s ≡ s' → r ≡ r' → ⊥) → heldIn (enterIn t p s r v) s' r' ≡ heldIn t s' r'
+  pub enter-other : Takes t s r p → (s' r' : ℕ) → (s ≡ s' → r ≡ r' → ⊥) → heldIn (enterIn t p s r v) s' r'
+      ≡ heldIn t s' r'
   enter-other w s' r' n = rw enter-places (other-to s' r' (differ s r s' r' n) w (places t))
 
   pub count-new : lookupIn t s r ≡ Free p → countIn (enterIn t p s r v) ≡ suc (countIn t)
@@ -444,7 +465,8 @@ module _ (t t' : Table) (w : SameEntries t t') (s r : ℕ) where
       rw (e, e', z) both-at
   match (at p v e) (room p' e') =
       absurd (some-none (found-held t (w .sound) s r p v e) (w .held s r ∙ free-none t' (w .sound') s r p' e'))
-  match (at p v e) (full e') = absurd (some-none (found-held t (w .sound) s r p v e) (w .held s r ∙ full-none t' (w .sound') s r e'))
+  match (at p v e) (full e') = absurd (some-none (found-held t (w .sound) s r p v e)
+      (w .held s r ∙ full-none t' (w .sound') s r e'))
   match (room p e) (at p' v' e') =
       absurd (some-none (found-held t' (w .sound') s r p' v' e') (sym (w .held s r) ∙ free-none t (w .sound) s r p e))
   match (room p e) (room p' e') = rw (e, e') both-free
@@ -471,8 +493,10 @@ module _ (t t' : Table) (w : SameEntries t t') (s r : ℕ) where
         let k = same-is s r s' r' e in
         rw (← (k .0), ← (k .1)) (enter-held t (w .sound) s r p v u a ∙ sym (enter-held t' (w .sound') s r p' v u a'))
     same-held-by a a' s' r' false e =
-        let n : (s ≡ s' → r ≡ r' → ⊥) = λ x y. true-false (ap (λ (z : ℕ). sameKey s r z r') (sym x) ∙ (ap (λ (z : ℕ). sameKey s r s z) (sym y) ∙ same-self s r)) e in
-        enter-other t (w .sound) s r p v u a s' r' n ∙ (w .held s' r' ∙ sym (enter-other t' (w .sound') s r p' v u a' s' r' n))
+        let n : (s ≡ s' → r ≡ r' → ⊥) = λ x y. true-false (ap (λ (z : ℕ). sameKey s r z r') (sym x)
+        ∙ (ap (λ (z : ℕ). sameKey s r s z) (sym y) ∙ same-self s r)) e in
+        enter-other t (w .sound) s r p v u a s' r' n
+        ∙ (w .held s' r' ∙ sym (enter-other t' (w .sound') s r p' v u a' s' r' n))
 
     pub same-enter : Takes t s r p → Takes t' s r p' → SameEntries (enterIn t p s r v) (enterIn t' p' s r v)
     same-enter a a' =

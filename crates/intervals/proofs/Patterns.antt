@@ -27,7 +27,8 @@ module _ (z : ℤ) (h : mag z < 2 ^ 31) where
 true-is-false : true ≡ false → ⊥
 true-is-false e = let z : _≡_ {A = ℕ} 0 1 = cc in omega arith
 
-negative : (z : ℤ) → mag z < 2 ^ 31 → ltZ z (pos 0) ≡ true → (z +ℤ pos 4294967296 ≡ pos (pattern z)) × (pattern z < 2 ^ 32)
+negative : (z : ℤ) → mag z < 2 ^ 31 → ltZ z (pos 0) ≡ true → (z +ℤ pos 4294967296 ≡ pos (pattern z))
+    × (pattern z < 2 ^ 32)
 unfolding pattern
 negative (pos n) h e = absurd (omega (arith, ltb-true n 0 e))
 negative (negsuc n) h e = (rw (le-ltb 4294967296 (suc n) (omega arith)), omega arith)

@@ -46,7 +46,8 @@ true-false a b = let z : _≡_ {A = ℕ} 0 1 = cc in omega arith
 
 module _ (t : Table) (s r : ℕ) where
   -- found: the key stands there, with that interval
-  pub probe-at-is : (m q p : ℕ) (v : Float) → q < places t → probe t s r m q ≡ Found p v → Stands t s r p × (v ≡ valueAt t p)
+  pub probe-at-is : (m q p : ℕ) (v : Float) → q < places t → probe t s r m q ≡ Found p v
+      → Stands t s r p × (v ≡ valueAt t p)
   probe-at-is zero q p v h e = absurd (at-full e (step-none t s r q))
   probe-at-is (suc m) q p v h e =
       elim (caseOf t s r q) [
@@ -76,22 +77,26 @@ module _ (t : Table) (s r : ℕ) where
   abbrev Ahead : ℕ → ℕ → ℕ → Type 0
   Ahead m q p = ((q ≤ p) × (p < q + m)) ⊎ (p + places t < q + m)
 
-  ahead-next : (m q p : ℕ) → q < places t → p < places t → (p ≡ q → ⊥) → Ahead (suc m) q p → Ahead m (nextOf (places t) q) p
+  ahead-next : (m q p : ℕ) → q < places t → p < places t → (p ≡ q → ⊥) → Ahead (suc m) q p
+      → Ahead m (nextOf (places t) q) p
   ahead-next m q p h l ne a =
       elim (decLt (q + 1) (places t)) [
         | yes o ↦
             rw (next-on (places t) q o)
-            (⊎-elim (λ (w : (q ≤ p) × (p < q + suc m)). inl (omega arith)) (λ (w : p + places t < q + suc m). inr (omega arith)) a)
+            (⊎-elim (λ (w : (q ≤ p) × (p < q + suc m)). inl (omega arith))
+            (λ (w : p + places t < q + suc m). inr (omega arith)) a)
         | no o ↦
             let e : q + 1 ≡ places t = omega arith in
             rw (next-wrap (places t) q e)
-            (⊎-elim (λ (w : (q ≤ p) × (p < q + suc m)). absurd (ne (omega arith))) (λ (w : p + places t < q + suc m). inl (omega arith)) a)
+            (⊎-elim (λ (w : (q ≤ p) × (p < q + suc m)). absurd (ne (omega arith)))
+            (λ (w : p + places t < q + suc m). inl (omega arith)) a)
       ]
 
   -- neither: each place searched is taken by another key
   pub probe-full-is : (m q p : ℕ) → q < places t → p < places t → Ahead m q p → probe t s r m q ≡ Full
       → (freeAt t p ≡ false) × (keyAt t p s r ≡ false)
-  probe-full-is zero q p h l a e = absurd (⊎-elim (λ (w : (q ≤ p) × (p < q + 0)). omega arith) (λ (w : p + places t < q + 0). omega arith) a)
+  probe-full-is zero q p h l a e = absurd (⊎-elim (λ (w : (q ≤ p) × (p < q + 0)). omega arith)
+      (λ (w : p + places t < q + 0). omega arith) a)
   probe-full-is (suc m) q p h l a e =
       elim (caseOf t s r q) [
         | free f ↦ absurd (free-full (step-free t s r m q f) e)

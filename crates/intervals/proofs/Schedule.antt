@@ -5,9 +5,12 @@
 --     Origin, origin  where a slot's interval comes from
 --     slot-full-iff   there is no slot exactly where the key is not held and as many keys are held as the table is long
 --     slot-sound      a sound table stays sound
---     interval-all, slot-all              what holds of all intervals held and of the fresh one holds of the slot's, and of all held after it
---     same-slot       two tables that hold the same give the same slot but for its place, unless the shorter one is full
---     range-both, range-fails, slot-full, slot-new, slot-held, slot-anew, not-found, not-entered      what the code finds, test by test
+--     interval-all, slot-all              what holds of all intervals held and of the fresh one holds of the slot's,
+--     and of all held after it
+--     same-slot       two tables that hold the same give the same slot but for its place, unless the shorter one is
+--     full
+--     range-both, range-fails, slot-full, slot-new, slot-held, slot-anew, not-found, not-entered      what the code
+--     finds, test by test
 --     scheduled-used  the fresh interval never marks a free place
 use mathlib.Core.Path.{_≡_, refl, sym, ap, _∙_}
 use mathlib.Core.Bool.{Bool, true, false}
@@ -45,11 +48,13 @@ use Rattle.intervals.proofs.Laws.{SameEntries, Match, both-at, both-fre
 
 module _ (t : Table) (s r : ℕ) (certified : Float → Bool) (fresh : Float) where
   -- by what the lookup found
-  pub held-is : {p : ℕ} {v : Float} → certified v ≡ true → lookupIn t s r ≡ entry.Found p v → slotIn certified fresh t s r ≡ slot.Keep v
+  pub held-is : {p : ℕ} {v : Float} → certified v ≡ true → lookupIn t s r ≡ entry.Found p v
+      → slotIn certified fresh t s r ≡ slot.Keep v
   unfolding slotIn
   held-is y e = rw (e, y)
 
-  pub anew-is : {p : ℕ} {v : Float} → certified v ≡ false → lookupIn t s r ≡ entry.Found p v → slotIn certified fresh t s r ≡ slot.Enter p s r fresh
+  pub anew-is : {p : ℕ} {v : Float} → certified v ≡ false → lookupIn t s r ≡ entry.Found p v
+      → slotIn certified fresh t s r ≡ slot.Enter p s r fresh
   unfolding slotIn
   anew-is y e = rw (e, y)
 
@@ -86,8 +91,13 @@ module _ (t : Table) (s r : ℕ) (certified : Float → Bool) (fresh : Float) wh
   full-lookup x (anew p k) z = absurd (true-false z refl)
   full-lookup x (refused e) z = e
 
-  pub slot-full-iff : Sound t → (isFull (slotIn certified fresh t s r) ≡ true) ↔ ((heldIn t s r ≡ none) × (countIn t ≡ places t))
-  slot-full-iff ok = (λ z. full-iff t ok s r .0 (full-lookup (slotIn certified fresh t s r) origin z), λ w. ap isFull (full-is (full-iff t ok s r .1 w)))
+  pub slot-full-iff : Sound t → (isFull (slotIn certified fresh t s r) ≡ true)
+      ↔ ((heldIn t s r ≡ none) × (countIn t ≡ places t))
+  slot-full-iff ok = (
+    λ z. full-iff t ok s r .0 (full-lookup (slotIn certified fresh t s r) origin z),
+    λ w. ap isFull
+        (full-is (full-iff t ok s r .1 w)),
+  )
 
   module _ (u : isFree fresh ≡ false) where
     sound-by : Sound t → (x : Slot) → Origin x → Sound (entered t x)
@@ -100,44 +110,58 @@ module _ (t : Table) (s r : ℕ) (certified : Float → Bool) (fresh : Float) wh
 
   -- what holds of every interval in the table and of the fresh one holds of the interval given, and of every interval
   -- in the table after it
-  module _ (P : Float → Type 0) (all : (p : ℕ) → p < places t → freeAt t p ≡ false → P (valueAt t p)) (own : P fresh) where
-    interval-by : (x : Slot) → Origin x → isFull x ≡ false → P (intervalOf x)
-    interval-by x (held p v e y) f =
-        let w = lookup-at-is t s r e in
-        rw (w .1) (all p (w .0 .within) (w .0 .used))
-    interval-by x (anew p k) f = own
-    interval-by x (refused e) f = absurd (true-false refl f)
+  module _ (P : Float → Type 0) (all : (p : ℕ) → p < places t → freeAt t p ≡ false → P (valueAt t p)) (own : P fresh)
+    where
+      interval-by : (x : Slot) → Origin x → isFull x ≡ false → P (intervalOf x)
+      interval-by x (held p v e y) f =
+          let w = lookup-at-is t s r e in
+          rw (w .1) (all p (w .0 .within) (w .0 .used))
+      interval-by x (anew p k) f = own
+      interval-by x (refused e) f = absurd (true-false refl f)
 
-    pub interval-all : isFull (slotIn certified fresh t s r) ≡ false → P (intervalOf (slotIn certified fresh t s r))
-    interval-all f = interval-by (slotIn certified fresh t s r) origin f
+      pub interval-all : isFull (slotIn certified fresh t s r) ≡ false → P (intervalOf (slotIn certified fresh t s r))
+      interval-all f = interval-by (slotIn certified fresh t s r) origin f
 
-    enter-all : (p : ℕ) → p < places t → (q : ℕ) → q < places (enterIn t p s r fresh) → freeAt (enterIn t p s r fresh) q ≡ false → P (valueAt (enterIn t p s r fresh) q)
-    enter-all p h q l f =
-        elim (ℕ-discrete q p) [
-          | yes e ↦ rw e (rw (value-same t p s r fresh h) own)
-          | no ne ↦ rw (value-other t p s r fresh q ne) (all q (rw (enter-places t p s r fresh) at l) (sym (free-other t p s r fresh q ne) ∙ f))
-        ]
+      enter-all : (p : ℕ) → p < places t → (q : ℕ) → q < places (enterIn t p s r fresh) → freeAt (enterIn t p s r fresh) q
+          ≡ false → P (valueAt (enterIn t p s r fresh) q)
+      enter-all p h q l f =
+          elim (ℕ-discrete q p) [
+            | yes e ↦ rw e (rw (value-same t p s r fresh h) own)
+            | no ne ↦ rw (value-other t p s r fresh q ne) (all q (rw (enter-places t p s r fresh) at l)
+                (sym (free-other t p s r fresh q ne) ∙ f))
+          ]
 
-    entered-by : (x : Slot) → Origin x → (q : ℕ) → q < places (entered t x) → freeAt (entered t x) q ≡ false → P (valueAt (entered t x) q)
-    entered-by x (held p v e y) = all
-    entered-by x (anew p k) = enter-all p (takes-within t s r p k)
-    entered-by x (refused e) = all
+      entered-by : (x : Slot) → Origin x → (q : ℕ) → q < places (entered t x) → freeAt (entered t x) q ≡ false
+          → P (valueAt (entered t x) q)
+      entered-by x (held p v e y) = all
+      entered-by x (anew p k) = enter-all p (takes-within t s r p k)
+      entered-by x (refused e) = all
 
-    pub slot-all : (let t' = entered t (slotIn certified fresh t s r) in (q : ℕ) → q < places t' → freeAt t' q ≡ false → P (valueAt t' q))
-    slot-all = entered-by (slotIn certified fresh t s r) origin
+      pub slot-all : (let t' = entered t (slotIn certified fresh t s r) in (q : ℕ) → q < places t' → freeAt t' q ≡ false
+          → P (valueAt t' q))
+      slot-all = entered-by (slotIn certified fresh t s r) origin
 
 -- two tables that hold the same give the same interval and hold the same afterwards, unless the shorter has no place
-module _ (t t' : Table) (w : SameEntries t t') (s r : ℕ) (certified : Float → Bool) (fresh : Float) (u : isFree fresh ≡ false) where
+module _ (t t' : Table) (w : SameEntries t t') (s r : ℕ) (certified : Float → Bool) (fresh : Float)
+    (u : isFree fresh ≡ false) where
   abbrev Same : Slot → Slot → Type 0
-  Same x x' = isFull x ≡ false → (intervalOf x ≡ intervalOf x') × (isFull x' ≡ false) × SameEntries (entered t x) (entered t' x')
+  Same x x' = isFull x ≡ false → (intervalOf x ≡ intervalOf x') × (isFull x' ≡ false) × SameEntries (entered t x)
+      (entered t' x')
 
-  same-by : (f f' : Entry) → lookupIn t s r ≡ f → lookupIn t' s r ≡ f' → Match f f' → Same (slotBy f certified fresh s r) (slotBy f' certified fresh s r)
+  same-by : (f f' : Entry) → lookupIn t s r ≡ f → lookupIn t' s r ≡ f' → Match f f'
+      → Same (slotBy f certified fresh s r) (slotBy f' certified fresh s r)
   same-by f f' e e' (both-at {p = p} {p' = p'} {v = v}) = at (certified v)
     where
-      at : (b : Bool) → Same (pickSlot b (slot.Keep v) (slot.Enter p s r fresh)) (pickSlot b (slot.Keep v) (slot.Enter p' s r fresh))
+      at : (b : Bool) → Same (pickSlot b (slot.Keep v) (slot.Enter p s r fresh))
+          (pickSlot b (slot.Keep v) (slot.Enter p' s r fresh))
       at true n = (refl, refl, w)
       at false n = (refl, refl, same-enter t t' w s r p p' fresh u (again e) (again e'))
-  same-by f f' e e' (both-free {p = p} {p' = p'}) = λ n. (refl, refl, same-enter t t' w s r p p' fresh u (new e) (new e'))
+  same-by f f' e e' (both-free {p = p} {p' = p'}) = λ n. (
+    refl,
+    refl,
+    same-enter t t' w s r p p' fresh u (new e)
+        (new e'),
+  )
   same-by f f' e e' first-full = λ n. absurd (true-false refl n)
 
   pub same-slot : Same (slotIn certified fresh t s r) (slotIn certified fresh t' s r)
@@ -151,11 +175,13 @@ not-entered t (slot.Enter p s r v) a = absurd (⊎-elim (λ e. omega arith) (λ 
 not-entered t slot.Full a = refl
 
 -- ---- what the code finds, one test after the other
-module _ (curve : Float → Float) (retention interval lower : Float) (a : Bool) (el : lower ≡ curve (max (interval -ᶠ half +ᶠ margin) 0ᶠ)) (ea : a ≡ isNoLess lower retention) where
+module _ (curve : Float → Float) (retention interval lower : Float) (a : Bool)
+    (el : lower ≡ curve (max (interval -ᶠ half +ᶠ margin) 0ᶠ)) (ea : a ≡ isNoLess lower retention) where
   first-test : {b : Bool} → a ≡ b → isNoLess (curve (max (interval -ᶠ half +ᶠ margin) 0ᶠ)) retention ≡ b
   first-test y = ap (λ (v : Float). isNoLess v retention) (sym el) ∙ sym ea ∙ y
 
-  pub range-both : (upper : Float) (b : Bool) → a ≡ true → upper ≡ curve (interval +ᶠ half -ᶠ margin) → b ≡ isBelow upper retention → b ≡ certifiesRange curve retention interval
+  pub range-both : (upper : Float) (b : Bool) → a ≡ true → upper ≡ curve (interval +ᶠ half -ᶠ margin)
+      → b ≡ isBelow upper retention → b ≡ certifiesRange curve retention interval
   unfolding certifiesRange
   range-both upper b y eu eb = rw (first-test y) (eb ∙ ap (λ (v : Float). isBelow v retention) eu)
 
@@ -163,36 +189,43 @@ module _ (curve : Float → Float) (retention interval lower : Float) (a : Bool)
   unfolding certifiesRange
   range-fails y = rw (first-test y)
 
-module _ (curves : Curves) (stability retention most : Float) (t : Table) (s r : ℕ) (es : s ≡ stabilityBucket stability) (er : r ≡ retentionBucket retention) where
+module _ (curves : Curves) (stability retention most : Float) (t : Table) (s r : ℕ) (es : s ≡ stabilityBucket stability)
+    (er : r ≡ retentionBucket retention) where
   pub slot-full : lookupIn t s r ≡ entry.Full → slot.Full ≡ slotOf curves stability retention most t
   unfolding slotOf
   slot-full e = rw (← es, ← er) (sym (full-is t s r _ _ e))
 
-  pub slot-new : {p : ℕ} {fresh : Float} → lookupIn t s r ≡ entry.Free p → fresh ≡ scheduled curves stability retention most
+  pub slot-new : {p : ℕ} {fresh : Float} → lookupIn t s r ≡ entry.Free p
+      → fresh ≡ scheduled curves stability retention most
       → slot.Enter p s r fresh ≡ slotOf curves stability retention most t
   unfolding slotOf
   slot-new e ef = rw (← es, ← er, ef) (sym (new-is t s r _ _ e))
 
-  module _ {p : ℕ} {v : Float} (e : lookupIn t s r ≡ entry.Found p v) (curve : Curve) (c : Bool) (ec : curve ≡ curves (ofStability stability))
+  module _ {p : ℕ} {v : Float} (e : lookupIn t s r ≡ entry.Found p v) (curve : Curve) (c : Bool)
+      (ec : curve ≡ curves (ofStability stability))
       (et : c ≡ certifies (Model.retention curve) stability retention v most) where
-    test : {b : Bool} → c ≡ b → certifies (Model.retention (curves (ofStability stability))) stability retention v most ≡ b
+    test : {b : Bool} → c ≡ b → certifies (Model.retention (curves (ofStability stability))) stability retention v most
+        ≡ b
     test y = rw (← ec) (sym et ∙ y)
 
     pub slot-held : c ≡ true → slot.Keep v ≡ slotOf curves stability retention most t
     unfolding slotOf
     slot-held y = rw (← es, ← er) (sym (held-is t s r _ _ (test y) e))
 
-    pub slot-anew : {fresh : Float} → c ≡ false → fresh ≡ scheduled curves stability retention most → slot.Enter p s r fresh ≡ slotOf curves stability retention most t
+    pub slot-anew : {fresh : Float} → c ≡ false → fresh ≡ scheduled curves stability retention most
+        → slot.Enter p s r fresh ≡ slotOf curves stability retention most t
     unfolding slotOf
     slot-anew y ef = rw (← es, ← er, ef) (sym (anew-is t s r _ _ (test y) e))
 
 -- neither found nor free
-pub not-found : (f : Entry) → OneOf (1 ∷ 2 ∷ []) (tagOf entry-type.the-type f) → OneOf (0 ∷ 2 ∷ []) (tagOf entry-type.the-type f) → f ≡ entry.Full
+pub not-found : (f : Entry) → OneOf (1 ∷ 2 ∷ []) (tagOf entry-type.the-type f)
+    → OneOf (0 ∷ 2 ∷ []) (tagOf entry-type.the-type f) → f ≡ entry.Full
 not-found (entry.Found p v) a b = absurd (⊎-elim (λ e. omega arith) (λ e. omega arith) a)
 not-found (entry.Free p) a b = absurd (⊎-elim (λ e. omega arith) (λ e. omega arith) b)
 not-found entry.Full a b = refl
 
 -- the fresh interval never marks a free place
-pub scheduled-used : (curves : Curves) (stability retention most : Float) → isFree most ≡ false → isFree (scheduled curves stability retention most) ≡ false
+pub scheduled-used : (curves : Curves) (stability retention most : Float) → isFree most ≡ false
+    → isFree (scheduled curves stability retention most) ≡ false
 unfolding scheduled
 scheduled-used curves stability retention most h = clamp-used _ most h

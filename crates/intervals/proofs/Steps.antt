@@ -1,5 +1,6 @@
 -- One step of the search, and that each place of a search is a place of the table. Assumes nothing.
---     home-lt, next-lt                    places of the table; next-wrap, next-on: the place after the last one, and after another
+--     home-lt, next-lt                    places of the table; next-wrap, next-on: the place after the last one, and
+--     after another
 --     step-free, step-here, step-on, step-none                  a search of suc m places, by its first one
 --     probe-free, probe-here, probe-on    the same of m, above 0
 --     lookup-none, lookup-probe           the whole search as one of all places
@@ -13,9 +14,11 @@ use mathlib.Core.List.{List}
 use lib.Dec.{eqb}
 use lib.Ieee.{Float}
 use Rattle.intervals.specs.declared.Entry.the-variants.{Found, Free, Full}
-use Rattle.intervals.specs.Table.{Table, table, places, mixOf, homeOf, nextOf, freeAt, keyAt, valueAt, probe, lookupIn}
+use Rattle.intervals.specs.Table.{Table, table, places, mixOf, homeOf, nextOf, freeAt, keyAt, valueAt, probe}
+use Rattle.intervals.specs.Table.{lookupIn}
 
-pub table-is : {keys keys' : List (List ℕ)} {intervals intervals' : List Float} → keys ≡ keys' → intervals ≡ intervals' → table keys intervals ≡ table keys' intervals'
+pub table-is : {keys keys' : List (List ℕ)} {intervals intervals' : List Float} → keys ≡ keys' → intervals ≡ intervals'
+    → table keys intervals ≡ table keys' intervals'
 table-is p q = rw (p, q)
 
 mix-lt : (s r : ℕ) → mixOf s r < 4294967296
@@ -63,7 +66,8 @@ module _ (t : Table) (s r : ℕ) where
   unfolding probe
   step-here m q f k = rw (f, k)
 
-  pub step-on : (m q : ℕ) → freeAt t q ≡ false → keyAt t q s r ≡ false → probe t s r (suc m) q ≡ probe t s r m (nextOf (places t) q)
+  pub step-on : (m q : ℕ) → freeAt t q ≡ false → keyAt t q s r ≡ false
+      → probe t s r (suc m) q ≡ probe t s r m (nextOf (places t) q)
   unfolding probe
   step-on m q f k = rw (f, k)
 
@@ -76,11 +80,13 @@ module _ (t : Table) (s r : ℕ) where
   probe-free zero q h f = absurd (omega arith)
   probe-free (suc m) q h f = step-free m q f
 
-  pub probe-here : (m q : ℕ) → 0 < m → freeAt t q ≡ false → keyAt t q s r ≡ true → probe t s r m q ≡ Found q (valueAt t q)
+  pub probe-here : (m q : ℕ) → 0 < m → freeAt t q ≡ false → keyAt t q s r ≡ true
+      → probe t s r m q ≡ Found q (valueAt t q)
   probe-here zero q h f k = absurd (omega arith)
   probe-here (suc m) q h f k = step-here m q f k
 
-  pub probe-on : (m q : ℕ) → 0 < m → freeAt t q ≡ false → keyAt t q s r ≡ false → probe t s r m q ≡ probe t s r (m - 1) (nextOf (places t) q)
+  pub probe-on : (m q : ℕ) → 0 < m → freeAt t q ≡ false → keyAt t q s r ≡ false
+      → probe t s r m q ≡ probe t s r (m - 1) (nextOf (places t) q)
   probe-on zero q h f k = absurd (omega arith)
   probe-on (suc m) q h f k = let e : suc m - 1 ≡ m = omega arith in rw e (step-on m q f k)
 

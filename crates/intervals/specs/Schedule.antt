@@ -1,8 +1,10 @@
 -- `scheduled_interval`: what the table gives under a key, and when a held interval may be used. Of the memory model
 -- it takes a curve, the chance of recall after so many days at the card's stability, and a fresh interval. Assumes
 -- nothing.
---     certifies curve stability retention interval most         `certifies_rounded_interval`; certifiesOne, certifiesRange: its two cases
---     slotIn certified fresh t s r        the slot of a key: kept, to be entered, or none; slotBy: by what the lookup found
+--     certifies curve stability retention interval most         `certifies_rounded_interval`; certifiesOne,
+--     certifiesRange: its two cases
+--     slotIn certified fresh t s r        the slot of a key: kept, to be entered, or none; slotBy: by what the lookup
+--     found
 --     isFull x, intervalOf x              whether there is none, and the interval of a slot
 --     entered t x     the table after what the slot asks
 --     slotOf curves stability retention most t                  the slot of a card, by a model's curves
@@ -43,16 +45,19 @@ certifiesOne curve retention most = isBelow (curve (min (oneAndHalf -ᶠ margin)
 -- a longer one: the chance falls below the retention within the rounding range
 unfoldable pub certifiesRange : (Float → Float) → Float → Float → Bool
 certifiesRange curve retention interval =
-    isNoLess (curve (max (interval -ᶠ half +ᶠ margin) 0ᶠ)) retention && isBelow (curve (interval +ᶠ half -ᶠ margin)) retention
+    isNoLess (curve (max (interval -ᶠ half +ᶠ margin) 0ᶠ)) retention && isBelow (curve (interval +ᶠ half -ᶠ margin))
+    retention
 
 abbrev pub allFinite : Float → Float → Float → Float → Bool
-allFinite stability retention interval most = isFinite stability && isFinite retention && isFinite interval && isFinite most
+allFinite stability retention interval most = isFinite stability && isFinite retention && isFinite interval
+    && isFinite most
 
 -- `certifies_rounded_interval`; an interval that was cut at the longest one is not certified
 unfoldable pub certifies : (Float → Float) → Float → Float → Float → Float → Bool
 certifies curve stability retention interval most =
     allFinite stability retention interval most
-    && cond (le interval 1ᶠ) (certifiesOne curve retention most) (cond (le most interval) false (certifiesRange curve retention interval))
+    && cond (le interval 1ᶠ) (certifiesOne curve retention most)
+    (cond (le most interval) false (certifiesRange curve retention interval))
 
 abbrev pub pickSlot : Bool → Slot → Slot → Slot
 pickSlot true a b = a

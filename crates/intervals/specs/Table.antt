@@ -3,7 +3,8 @@
 -- A key is the bit patterns of two buckets: s of the logarithm of the stability, r of the desired retention. Assumes
 -- nothing.
 --     Table, table keys intervals         the table of two lists; places t: how many places both lists have
---     isFree v        whether an interval marks a free place; freeAt t p, keyAt t p s r, valueAt t p: what stands at a place
+--     isFree v        whether an interval marks a free place; freeAt t p, keyAt t p s r, valueAt t p: what stands at a
+--     place
 --     homeOf n s r    where the search for a key starts; nextOf n p: the place after p, round the end
 --     probe t s r m p, lookupIn t s r     what a search of m places from p finds, and the whole search
 --     enterIn t p s r v                   the table with a key and its interval at a place
@@ -45,7 +46,8 @@ sameKey a b s r = eqb a s && eqb b r
 unfoldable pub mixOf : ℕ → ℕ → ℕ
 mixOf s r = (s * 2654435769 + r * 1540483477) % 4294967296
 
--- where the search for a key starts, the hash's share of the table's first 2 ^ 32 places, and the place after p, round the end
+-- where the search for a key starts, the hash's share of the table's first 2 ^ 32 places, and the place after p, round
+-- the end
 unfoldable pub homeOf : ℕ → ℕ → ℕ → ℕ
 homeOf n s r = mixOf s r * min n 4294967296 / 4294967296
 
@@ -113,11 +115,13 @@ pub record Stands (t : Table) (s r p : ℕ) : Type 0 where
   pub used : freeAt t p ≡ false
   pub key : keyAt t p s r ≡ true
 
--- a key that stands at a place is found there: so it is of an emptied table, and of every table that entries are made in where lookups say
+-- a key that stands at a place is found there: so it is of an emptied table, and of every table that entries are made
+-- in where lookups say
 pub record Sound (t : Table) : Type 0 where
   pub found : (s r p : ℕ) → Stands t s r p → lookupIn t s r ≡ Found p (valueAt t p)
 
--- WHAT A LOOKUP PROMISES: its entry, by the definition; and its answer, an interval or nothing, is what is held under the key, whatever the table's length
+-- WHAT A LOOKUP PROMISES: its entry, by the definition; and its answer, an interval or nothing, is what is held under
+-- the key, whatever the table's length
 pub record LookupContract (t : Table) (s r : ℕ) (f : Entry) : Type 0 where
   pub entry : f ≡ lookupIn t s r
   pub answer : Sound t → answerOf f ≡ heldIn t s r

@@ -15,7 +15,8 @@ ghost use Rattle.float32.specs.Float32.{max};
 ghost use Rattle.model.specs.Constants.{sMin};
 ghost use Rattle.intervals.specs.Bucket.{pattern, bucketIndex, stabilityBucket, retentionBucket};
 ghost use Rattle.intervals.specs.Accuracy.{IsLnBucket};
-ghost use Rattle.intervals.specs.Schedule.{isBelow, isNoLess, certifiesOne, certifiesRange, allFinite, certifies, slotOf, isFull, intervalOf, entered};
+ghost use Rattle.intervals.specs.Schedule.{isBelow, isNoLess, certifiesOne, certifiesRange, allFinite, certifies};
+ghost use Rattle.intervals.specs.Schedule.{slotOf, isFull, intervalOf, entered};
 ghost use Rattle.float32.specs.Numbers.{0ᶠ};
 ghost use Rattle.model.specs.Model as Model;
 ghost use Rattle.model.specs.Runtime as Runtime;
@@ -34,8 +35,8 @@ pub enum Entry {
     Full,
 }
 
-// How the table serves a schedule: an interval that it holds, one to be entered at a place under a key of two buckets, or
-// neither for want of a place.
+// How the table serves a schedule: an interval that it holds, one to be entered at a place under a key of two buckets,
+// or neither for want of a place.
 pub enum Slot {
     Keep(f32),
     Enter(usize, u32, u32, f32),
@@ -87,8 +88,8 @@ fn lesser(a: usize, b: usize) -> usize
     if a < b { a } else { b }
 }
 
-// A key's hash. The first factor is 2^32 over the golden ratio: neighbouring stabilities lie far apart, and any number of
-// them in a row lies evenly over the whole range.
+// A key's hash. The first factor is 2^32 over the golden ratio: neighbouring stabilities lie far apart, and any number
+// of them in a row lies evenly over the whole range.
 fn mixed(s: u32, r: u32) -> usize
     ensures { λ m. ⌜ m ≡ mixOf s r ⌝ }
 {
@@ -227,7 +228,8 @@ pub fn scheduled_interval(
     keys: &[[u32; 2]],
     intervals: &[f32],
 ) -> Slot
-    ensures { λ x. ⌜ x ≡ slotOf (Runtime.curveOf model) stability retention most (table (now (keys .entry)) (now (intervals .entry))) ⌝ }
+    ensures { λ x. ⌜ x ≡ slotOf (Runtime.curveOf model) stability retention most
+        (table (now (keys .entry)) (now (intervals .entry))) ⌝ }
 {
     let s = stability_bucket(stability);
     let r = retention_bucket(retention);
@@ -263,7 +265,8 @@ fn put_interval(intervals: &mut [f32], place: usize, v: f32)
 
 // A key with its interval is put at a place that the lookup of the key gave.
 pub fn enter(keys: &mut [[u32; 2]], intervals: &mut [f32], place: usize, s: u32, r: u32, v: f32)
-    ensures { λ _. ⌜ table (now (keys .exit)) (now (intervals .exit)) ≡ enterIn (table (now (keys .entry)) (now (intervals .entry))) place s r v ⌝ }
+    ensures { λ _. ⌜ table (now (keys .exit)) (now (intervals .exit))
+        ≡ enterIn (table (now (keys .entry)) (now (intervals .entry))) place s r v ⌝ }
 {
     put_key(keys, place, s, r);
     put_interval(intervals, place, v);
@@ -292,7 +295,8 @@ pub fn interval_in(slot: Slot) -> f32
 
 // What a slot asks to be entered is entered.
 pub fn enter_slot(keys: &mut [[u32; 2]], intervals: &mut [f32], slot: Slot)
-    ensures { λ _. ⌜ table (now (keys .exit)) (now (intervals .exit)) ≡ entered (table (now (keys .entry)) (now (intervals .entry))) slot ⌝ }
+    ensures { λ _. ⌜ table (now (keys .exit)) (now (intervals .exit))
+        ≡ entered (table (now (keys .entry)) (now (intervals .entry))) slot ⌝ }
 {
     let Slot::Enter(place, s, r, v) = slot else {
         return;

@@ -111,7 +111,19 @@ all-right = (
                 refl,
                 (
                   refl,
-                  (refl, (refl, (refl, (refl, (refl, (refl, (refl, (refl, (refl, (refl, (refl, (refl, (refl, tt))))))))))))),
+                  (
+                    refl,
+                    (
+                      refl,
+                      (
+                        refl,
+                        (
+                          refl,
+                          (refl, (refl, (refl, (refl, (refl, (refl, (refl, (refl, (refl, tt))))))))),
+                        ),
+                      ),
+                    ),
+                  ),
                 ),
               ),
             ),

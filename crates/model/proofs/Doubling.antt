@@ -49,11 +49,13 @@ lt-le x y h = go (lt x y) h
     go false e = absurd (true≢false (sym e))
 
 -- twice a number from m to S_MAX is at least 2 m
-double-ge : (m : ℕ) (h : Float) → 0 < m → m ≤ 2 ^ 24 → T (le (whole m) h) → lt h sMax ≡ true → T (le (whole (m * 2)) (h *ᶠ two))
+double-ge : (m : ℕ) (h : Float) → 0 < m → m ≤ 2 ^ 24 → T (le (whole m) h) → lt h sMax ≡ true
+    → T (le (whole (m * 2)) (h *ᶠ two))
 double-ge m h p k l t =
     let x = whole-positive m p k in
     let y : T (positive h) = between (whole m) h sMax x top-positive l (lt-le h sMax t) in
-    subst (λ (z : Float). T (le z (h *ᶠ two))) (mul-at binary32 (whole m) two m 1 2 1 x two-positive (lit< tt) (lit< tt) (round-whole binary32 false m k) two-value)
+    subst (λ (z : Float). T (le z (h *ᶠ two))) (mul-at binary32 (whole m) two m 1 2 1 x two-positive (lit< tt) (lit< tt)
+    (round-whole binary32 false m k) two-value)
     (mul-mono binary32 (whole m) h two two x y two-positive two-positive l (le-refl two (number two two-positive)))
   where
     number : (z : Float) → T (positive z) → isNan z ≡ false
@@ -74,7 +76,8 @@ too-far : (h : Float) → T (le (whole 65536) h) → lt h sMax ≡ true → ⊥
 too-far h l t =
     let x = whole-positive 65536 (lit< tt) (omega arith) in
     absurd-not (le (whole 65536) sMax) past-top
-    (le-trans-positive (whole 65536) h sMax x (between (whole 65536) h sMax x top-positive l (lt-le h sMax t)) top-positive l (lt-le h sMax t))
+    (le-trans-positive (whole 65536) h sMax x (between (whole 65536) h sMax x top-positive l (lt-le h sMax t))
+    top-positive l (lt-le h sMax t))
   where
     absurd-not : (b : Bool) → T (not b) → T b → ⊥
     absurd-not true p q = p
@@ -111,7 +114,8 @@ module _ (f : Float → Float) (r : Float) where
   abbrev Reached : ℕ → Float → Type 0
   Reached m h = T (le (whole m) h) ⊎ (lt h sMax ≡ false)
 
-  step : (m : ℕ) (h : Float) → 0 < m → m ≤ 2 ^ 24 → on h ≡ true → Reached m h → Reached (m * 2) (Float32.min (h *ᶠ two) sMax)
+  step : (m : ℕ) (h : Float) → 0 < m → m ≤ 2 ^ 24 → on h ≡ true → Reached m h
+      → Reached (m * 2) (Float32.min (h *ᶠ two) sMax)
   unfolding Float32.min
   step m h p k e (inr s) = absurd (true≢false (sym (and-right (lt r (f h)) (lt h sMax) e) ∙ s))
   step m h p k e (inl l) = go (isNan (h *ᶠ two)) (lt sMax (h *ᶠ two))
@@ -135,10 +139,12 @@ module _ (f : Float → Float) (r : Float) where
   enough (suc n) m h p e k =
       go (on h) refl
       (λ (q : on h ≡ true).
-      enough n (m * 2) (Float32.min (h *ᶠ two) sMax) (omega arith) (mul-assoc m 2 (2 ^ n) ∙ ap (λ (z : ℕ). m * z) (sym (pow-succ' 2 n)) ∙ e)
+      enough n (m * 2) (Float32.min (h *ᶠ two) sMax) (omega arith) (mul-assoc m 2 (2 ^ n) ∙ ap (λ (z : ℕ). m * z)
+      (sym (pow-succ' 2 n)) ∙ e)
       (step m h p (bound m (2 ^ suc n) e (pow-pos (suc n))) q k))
     where
-      go : (b : Bool) → on h ≡ b → (on h ≡ true → on (doubled n f r (Float32.min (h *ᶠ two) sMax)) ≡ false) → on (cond b (doubled n f r (Float32.min (h *ᶠ two) sMax)) h) ≡ false
+      go : (b : Bool) → on h ≡ b → (on h ≡ true → on (doubled n f r (Float32.min (h *ᶠ two) sMax)) ≡ false)
+          → on (cond b (doubled n f r (Float32.min (h *ᶠ two) sMax)) h) ≡ false
       go false q g = q
       go true q g = g q
 

@@ -1,7 +1,8 @@
 -- What the run asks of the model. Assumes nothing.
 --     interval-number curves s r          the interval is never a NaN
 --     scheduled-between curves s r maxIvl the interval that is scheduled lies between 1 and the largest, by any curves
---     stability-between p s d r rating    the stability after a rating lies between S_MIN and S_MAX, if the one before was a
+--     stability-between p s d r rating    the stability after a rating lies between S_MIN and S_MAX, if the one before
+--     was a
 --                                         number
 use mathlib.Core.Path.{_≡_, refl, sym}
 use mathlib.Core.Bool.{Bool, true, false, cond, _&&_, true≢false}
@@ -111,7 +112,8 @@ solved-number c top r =
     let u = newton 7 (newtonStep c r) (lnOf (Float32.max top minT)) in
     let interval = Float32.clamp (expOf u) 0ᶠ sMax in
     arms (Float32.isFinite u && nearEnough c r interval) interval (bisected c top r)
-    (λ e. clamped (expOf u) (exp-number u (finite-number u (and-left (Float32.isFinite u) (nearEnough c r interval) e))))
+    (λ e. clamped (expOf u)
+    (exp-number u (finite-number u (and-left (Float32.isFinite u) (nearEnough c r interval) e))))
     (bisected-number c top r)
 
 pub interval-number : (curves : Curves) (s r : Float) → isNan (nextInterval curves s r) ≡ false

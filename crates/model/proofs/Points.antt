@@ -15,7 +15,8 @@ use Rattle.elementary.specs.Pow.{powOf}
 use Rattle.model.specs.declared.forgetting_curve.MemoryState.{MemoryState}
 use Rattle.model.specs.declared.forgetting_curve.Curve.{Curve}
 use Rattle.model.specs.Constants.{half, ten}
-use Rattle.model.specs.Model.{curveOf, ofStability, decay1, decay2, factor1, factor2, dTimescale, weight1, weight2}
+use Rattle.model.specs.Model.{curveOf, ofStability, decay1, decay2, factor1, factor2, dTimescale, weight1}
+use Rattle.model.specs.Model.{weight2}
 use Rattle.model.specs.Model.{time}
 use Rattle.model.specs.Accuracy.{parts, Days, Factor, InRange}
 use Rattle.model.proofs.Rounding.{Clear}
@@ -47,11 +48,13 @@ unfolding Float32.max isNan lt round ofBits ofFields
 days = record { number = (refl, refl); most = lit≤ tt }
 
 factor1-in : Factor (c .factor1)
-unfolding curveOf ofStability decay1 factor1 powOf expOf lnOf sub round mul div neg Float32.max Float32.min Float32.clamp lt isNan ofBits ofFields toBits
+unfolding curveOf ofStability decay1 factor1 powOf expOf lnOf sub round mul div neg Float32.max Float32.min
+    Float32.clamp lt isNan ofBits ofFields toBits
 factor1-in = record { number = (refl, refl); most = lit≤ tt }
 
 rate2-in : Factor (c .rate2)
-unfolding curveOf ofStability decay2 factor2 dTimescale powOf expOf sub round mul div neg Float32.max Float32.clamp lt isNan ofBits ofFields toBits
+unfolding curveOf ofStability decay2 factor2 dTimescale powOf expOf sub round mul div neg Float32.max Float32.clamp lt
+    isNan ofBits ofFields toBits
 rate2-in = record { number = (refl, refl); most = lit≤ tt }
 
 weight1-clear : Clear (c .weight1)
@@ -59,15 +62,18 @@ unfolding curveOf ofStability weight1 powOf round mul neg Float32.max lt isNan o
 weight1-clear = (refl, refl)
 
 weight2-clear : Clear (c .weight2)
-unfolding curveOf ofStability weight2 powOf expOf sub round mul Float32.max Float32.clamp lt isNan ofBits ofFields toBits
+unfolding curveOf ofStability weight2 powOf expOf sub round mul Float32.max Float32.clamp lt isNan ofBits ofFields
+    toBits
 weight2-clear = (refl, refl)
 
 sum-least : den (c .weight1) * den (c .weight2) ≤ parts c * 2 ^ 100
-unfolding curveOf ofStability weight1 weight2 powOf expOf sub round mul neg Float32.max Float32.clamp lt isNan ofBits ofFields toBits
+unfolding curveOf ofStability weight1 weight2 powOf expOf sub round mul neg Float32.max Float32.clamp lt isNan ofBits
+    ofFields toBits
 sum-least = lit≤ tt
 
 sum-most : parts c ≤ 2 ^ 100 * (den (c .weight1) * den (c .weight2))
-unfolding curveOf ofStability weight1 weight2 powOf expOf sub round mul neg Float32.max Float32.clamp lt isNan ofBits ofFields toBits
+unfolding curveOf ofStability weight1 weight2 powOf expOf sub round mul neg Float32.max Float32.clamp lt isNan ofBits
+    ofFields toBits
 sum-most = lit≤ tt
 
 pub tenth-day : InRange (curveOf halves state) ten

@@ -32,4 +32,5 @@ pub retentions-are : (c : Curve) (a r b1 b2 b1₀ b2₀ p1 p2 : List Float) (n k
 unfolding retention weighted
 retentions-are c a r b1 b2 b1₀ b2₀ p1 p2 n k all long1 long2 e1 e2 q1 q2 e =
     e ∙ fill-alike _ _ n a (λ i h. ap₂ (λ (x y : Float). squeezed ((c .weight1 *ᶠ x +ᶠ c .weight2 *ᶠ y) /ᶠ c .total))
-    (power-at _ (c .decay1) b1 b1₀ p1 n k i all long1 e1 q1 h) (power-at _ (c .decay2) b2 b2₀ p2 n k i all long2 e2 q2 h))
+    (power-at _ (c .decay1) b1 b1₀ p1 n k i all long1 e1 q1 h) (power-at _ (c .decay2) b2 b2₀ p2 n k i all long2 e2 q2
+    h))

@@ -46,7 +46,9 @@ module _ (w : List Float) where
   init-stability-is rating = ratings w (Model.toRating rating) (rating-pos rating) (rating-le rating)
 
   pub curve-is : (x : MemoryState) → Runtime.curveOf (Runtime.runtimeOf w) x ≡ Model.curveOf w x
-  unfolding Runtime.curveOf Runtime.curveAt Runtime.runtimeOf Runtime.curveParametersOf Runtime.decay1 Runtime.factor1 Runtime.dTimescale Runtime.weight1 Runtime.weight2 Model.curveOf Model.decay1 Model.factor1 Model.dTimescale Model.weight1 Model.weight2
+  unfolding Runtime.curveOf Runtime.curveAt Runtime.runtimeOf Runtime.curveParametersOf Runtime.decay1 Runtime.factor1
+      Runtime.dTimescale Runtime.weight1 Runtime.weight2 Model.curveOf Model.decay1 Model.factor1 Model.dTimescale
+      Model.weight1 Model.weight2
   curve-is x = refl
 
   pub curves-are : Runtime.curveOf (Runtime.runtimeOf w) ≡ Model.curveOf w

@@ -1,5 +1,6 @@
 -- One turn of each of the solver's loops, counted down. Assumes nothing.
---     newton-on, newton-off, newton-still, newton-end     a finite step, one not finite, one that changes nothing; none left
+--     newton-on, newton-off, newton-still, newton-end     a finite step, one not finite, one that changes nothing; none
+--     left
 --     doubled-on, doubled-off, doubled-end                a doubling, its stop, none left
 --     halved-on, halved-end                               a halving, none left
 use mathlib.Core.Path.{_≡_, refl, ap}

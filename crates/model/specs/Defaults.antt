@@ -18,7 +18,8 @@ unfoldable pub learningStepTransitions : List Float
 learningStepTransitions = over 10000 (3686 ∷ 628 ∷ 5108 ∷ 577 ∷ 442 ∷ 4553 ∷ 4457 ∷ 549 ∷ 519 ∷ 470 ∷ 8462 ∷ 550 ∷ [])
 
 unfoldable pub relearningStepTransitions : List Float
-relearningStepTransitions = over 10000 (2157 ∷ 643 ∷ 6595 ∷ 604 ∷ 500 ∷ 4638 ∷ 4475 ∷ 387 ∷ 1057 ∷ 1434 ∷ 7266 ∷ 244 ∷ [])
+relearningStepTransitions = over 10000
+    (2157 ∷ 643 ∷ 6595 ∷ 604 ∷ 500 ∷ 4638 ∷ 4475 ∷ 387 ∷ 1057 ∷ 1434 ∷ 7266 ∷ 244 ∷ [])
 
 -- seconds
 unfoldable pub stateRatingCosts : List Float

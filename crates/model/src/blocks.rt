@@ -18,8 +18,12 @@ impl Curve {
     // What stands under the two powers at each time.
     fn bases(self, b1: &mut [f32; 64], b2: &mut [f32; 64], times: &[f32; 64], n: usize)
         requires { ⌜ n ≤ 64 ⌝ }
-        ensures first { λ _. ⌜ now (b1 .exit) ≡ filled (λ i. Model.base (self .factor1) (time (getD (now (times .entry)) i nan)) (self .fast)) n (now (b1 .entry)) ⌝ }
-        ensures second { λ _. ⌜ now (b2 .exit) ≡ filled (λ i. Model.base (self .rate2) (time (getD (now (times .entry)) i nan)) (self .stability)) n (now (b2 .entry)) ⌝ }
+        ensures first { λ _. ⌜ now (b1 .exit)
+            ≡ filled (λ i. Model.base (self .factor1) (time (getD (now (times .entry)) i nan)) (self .fast)) n
+            (now (b1 .entry)) ⌝ }
+        ensures second { λ _.
+            ⌜ now (b2 .exit) ≡ filled (λ i. Model.base (self .rate2) (time (getD (now (times .entry)) i nan))
+            (self .stability)) n (now (b2 .entry)) ⌝ }
     {
         let mut i: usize = 0;
         while i < n {
@@ -33,7 +37,10 @@ impl Curve {
     // The retentions, from the two powers.
     fn of_powers(self, r: &mut [f32; 64], p1: &[f32; 64], p2: &[f32; 64], n: usize)
         requires { ⌜ n ≤ 64 ⌝ }
-        ensures { λ _. ⌜ now (r .exit) ≡ filled (λ i. Model.squeezed ((self .weight1 *ᶠ getD (now (p1 .entry)) i nan +ᶠ self .weight2 *ᶠ getD (now (p2 .entry)) i nan) /ᶠ self .total)) n (now (r .entry)) ⌝ }
+        ensures { λ _. ⌜ now (r .exit)
+            ≡ filled (λ i. Model.squeezed
+            ((self .weight1 *ᶠ getD (now (p1 .entry)) i nan +ᶠ self .weight2 *ᶠ getD (now (p2 .entry)) i nan) /ᶠ self
+            .total)) n (now (r .entry)) ⌝ }
     {
         let mut i: usize = 0;
         while i < n {
@@ -44,7 +51,8 @@ impl Curve {
 
     // The first n times of a, or all 64 where n is more, become the chances of recall after them.
     pub fn retentions(self, a: &mut [f32; 64], n: usize)
-        ensures { λ _. ⌜ now (a .exit) ≡ filled (λ i. retention self (getD (now (a .entry)) i nan)) (min n 64) (now (a .entry)) ⌝ }
+        ensures { λ _. ⌜ now (a .exit) ≡ filled (λ i. retention self (getD (now (a .entry)) i nan)) (min n 64)
+            (now (a .entry)) ⌝ }
     {
         let mut b1: [f32; 64] = [0.0; 64];
         let mut b2: [f32; 64] = [0.0; 64];

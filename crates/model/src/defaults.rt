@@ -1,5 +1,5 @@
-// The tables of the default configuration, three rows of four numbers each: by the rating before in the transitions, and in
-// the costs by learning, review and relearning.
+// The tables of the default configuration, three rows of four numbers each: by the rating before in the transitions,
+// and in the costs by learning, review and relearning.
 ghost use mathlib.Core.Path.{_≡_};
 ghost use Rattle.model.specs.Defaults as Defaults;
 

@@ -36,7 +36,8 @@ pub struct StabilityParameters {
     pub w14: f32,
 }
 
-// Of the curve: w23, w33 - 0.3 and ln w25; the second decay and factor, w32 - 0.3; w27 and -w29; w28, w30 and w31 - 0.5.
+// Of the curve: w23, w33 - 0.3 and ln w25; the second decay and factor, w32 - 0.3; w27 and -w29; w28, w30 and w31 -
+// 0.5.
 pub struct CurveParameters {
     pub w23: f32,
     pub power: f32,

@@ -1,5 +1,5 @@
-// The heights of log2 and the powers once more, for the arm of large exponents: the compiler puts a table into its caller
-// only where it has one.
+// The heights of log2 and the powers once more, for the arm of large exponents: the compiler puts a table into its
+// caller only where it has one.
 ghost use mathlib.Core.Path.{_≡_};
 ghost use Prim.Native.Nat.{_<_};
 ghost use Rattle.power_tables.specs.Tables.{powerWord};

@@ -1,5 +1,5 @@
-// The tables of powf, each by a `match` whose arms are proved to be the entries of the definition (specs/Tables). An index
-// past the end is taken modulo the table's length.
+// The tables of powf, each by a `match` whose arms are proved to be the entries of the definition (specs/Tables). An
+// index past the end is taken modulo the table's length.
 ghost use mathlib.Core.Path.{_≡_};
 ghost use Prim.Native.Nat.{_%_};
 ghost use Rattle.power_tables.specs.Tables.{lineWord, curvature, height, powerWord};

@@ -1,9 +1,11 @@
-// The queue of cards: rows of an order key and a card number in heap order, in a list that the caller lends, the smallest
-// key first. Every function takes any list: a length beyond the list, or a full list, leaves the queue as it is.
+// The queue of cards: rows of an order key and a card number in heap order, in a list that the caller lends, the
+// smallest key first. Every function takes any list: a length beyond the list, or a full list, leaves the queue as it
+// is.
 ghost use mathlib.Core.Path.{_≡_};
 ghost use Prim.Native.Nat.{_+_, _-_, _*_, _^_, _<_, _≤_, min};
 ghost use lib.ListN.{set, length};
-ghost use Rattle.queue.specs.Queue.{keyAt, bubbleUp, sink, heapify, lesser, queue, front, pushed, popped, frontChanged};
+ghost use Rattle.queue.specs.Queue.{keyAt, bubbleUp, sink, heapify, lesser, queue, front, pushed, popped};
+ghost use Rattle.queue.specs.Queue.{frontChanged};
 ghost use Rattle.turns.specs.Sums.{bit};
 ghost use Rattle.queue.specs.Key.{shifted, cardPriority};
 
@@ -154,7 +156,8 @@ impl CardPriorityQueue {
 
     // The first card gets another key: what `change_priority` does to the card that was peeked at.
     pub fn change_front(self, rows: &mut [[u64; 2]], key: u64)
-        ensures { λ _. ⌜ queue (now (rows .exit)) (self .len) ≡ frontChanged (queue (now (rows .entry)) (self .len)) key ⌝ }
+        ensures { λ _. ⌜ queue (now (rows .exit)) (self .len) ≡ frontChanged (queue (now (rows .entry)) (self .len)) key
+            ⌝ }
     {
         let len = self.len;
         let at = len as usize;

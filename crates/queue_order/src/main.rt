@@ -1,7 +1,7 @@
-// Runs 6,000 random operations on a queue of up to 64 cards with twelve different keys, so with many ties, and writes the
-// order of service: `pop N` where card N leaves, `change N` where it is first and gets another key. stdout holds what the
-// Rust heap gives for the same operations: tools/queue-order/run SRC, where SRC is the folder of fsrs-rs, takes the heap out
-// of its simulation.rs, compiles it and writes that text.
+// Runs 6,000 random operations on a queue of up to 64 cards with twelve different keys, so with many ties, and writes
+// the order of service: `pop N` where card N leaves, `change N` where it is first and gets another key. stdout holds
+// what the Rust heap gives for the same operations: tools/queue-order/run SRC, where SRC is the folder of fsrs-rs,
+// takes the heap out of its simulation.rs, compiles it and writes that text.
 use queue::CardPriorityQueue;
 ghost use Prim.Native.Nat.{_<_};
 

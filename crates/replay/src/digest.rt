@@ -1,6 +1,7 @@
-// Digests of a run's lists, of every place that was lent: a word for the cards with their counts, for the days with their costs
-// and what is memorized, for the due counts, and for the interval table. Each word goes in by a draw from the digest and the
-// word. The table's is a sum over the places in use, since where a key lies is the port's own matter.
+// Digests of a run's lists, of every place that was lent: a word for the cards with their counts, for the days with
+// their costs and what is memorized, for the due counts, and for the interval table. Each word goes in by a draw from
+// the digest and the word. The table's is a sum over the places in use, since where a key lies is the port's own
+// matter.
 use crate::answers::drawn;
 use crate::answers::join;
 

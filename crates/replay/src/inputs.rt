@@ -1,9 +1,12 @@
 // The inputs of a run, as lines tell them: they stay from one run to the next.
-//   70: number a of the configuration is b: deck_size, learn_span, learn_limit, review_limit, new_cards_ignore_review_limit,
+//   70: number a of the configuration is b: deck_size, learn_span, learn_limit, review_limit,
+//   new_cards_ignore_review_limit,
 //       suspend_after_lapses, learning_step_count, relearning_step_count
-//   71: setting a is b: max_cost_perday, max_ivl, desired retention; then first_rating_prob, review_rating_prob, the two
+//   71: setting a is b: max_cost_perday, max_ivl, desired retention; then first_rating_prob, review_rating_prob, the
+//   two
 //       tables of transitions, and the costs, row by row
-//   72, 73: of existing card a difficulty, stability and last_date; due, interval and desired_retention. 74: reps and lapses
+//   72, 73: of existing card a difficulty, stability and last_date; due, interval and desired_retention. 74: reps and
+//   lapses
 //   75: list a is b places long: cards, counts, queue, days, costs, memorized, due, keys, intervals, existing cards,
 //       existing counts, parameters
 use crate::record::Record;

@@ -36,7 +36,8 @@ pub fn front(rows: &[[u64; 2]], len: u32) -> u32 {
     queue.peek_index(rows)
 }
 
-// 60: the interval at stability a and retention b, at most c, entered where the table did not serve; 61: the table is emptied.
+// 60: the interval at stability a and retention b, at most c, entered where the table did not serve; 61: the table is
+// emptied.
 pub fn scheduled(w: &[f32], keys: &mut [[u32; 2]], intervals: &mut [f32], r: Record) -> u32 {
     if r.function == 61 {
         intervals::clear(intervals);

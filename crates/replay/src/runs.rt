@@ -1,5 +1,6 @@
 // Whole runs over lists that are marked beforehand, as long as the lines say.
-//   76: a run with the seed a, b: its answer, its days and digests are printed; 77: the same, and its cards are the existing ones
+//   76: a run with the seed a, b: its answer, its days and digests are printed; 77: the same, and its cards are the
+//   existing ones
 //       of the next run
 use crate::answers;
 use crate::digest;

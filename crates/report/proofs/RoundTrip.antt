@@ -598,7 +598,10 @@ module _ (s base : Settings) (ok : Expressible s) where
                       (one-word (hex (s .maxcost)) (hex-word (s .maxcost))),
                   (
                     form-noFeed (bytes "first") (hexes (s .first)) word-first (hexes-words (s .first)),
-                    (form-noFeed (bytes "cost") ((bytes "all") ∷ hex (getD (s .cost) 0 0) ∷ []) word-cost (cost-words), tt),
+                    (
+                      form-noFeed (bytes "cost") ((bytes "all") ∷ hex (getD (s .cost) 0 0) ∷ []) word-cost (cost-words),
+                      tt,
+                    ),
                   ),
                 ),
               ),
@@ -618,7 +621,8 @@ module _ (s base : Settings) (ok : Expressible s) where
       (
         le-trans (one-length (bytes "span") (decimal (s .span)) (decimal-short (s .span)) (omega arith)) (omega arith),
         (
-          le-trans (one-length (bytes "seed") (decimal (s .seed)) (decimal-short (s .seed)) (omega arith)) (omega arith),
+          le-trans (one-length (bytes "seed") (decimal (s .seed)) (decimal-short (s .seed)) (omega arith))
+              (omega arith),
           (
             le-trans (one-length (bytes "learn") (decimal (s .learn)) (decimal-short (s .learn)) (omega arith))
                 (omega arith),

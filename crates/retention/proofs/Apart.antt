@@ -23,7 +23,8 @@ use Rattle.simulation.specs.declared.Check.{Check}
 use Rattle.simulation.specs.declared.Check.the-variants as check
 use Rattle.simulation.specs.declared.Answer.{Answer}
 use Rattle.simulation.specs.State.{State, Lent, state, listsOf, mostCards, mostDays}
-use Rattle.simulation.specs.Entry.{Inputs, firstWhere, notFinite, failIf, checkParameters, checkSettings, listsOk, checkedWith, checked}
+use Rattle.simulation.specs.Entry.{Inputs, firstWhere, notFinite, failIf, checkParameters, checkSettings, listsOk}
+use Rattle.simulation.specs.Entry.{checkedWith, checked}
 use Rattle.simulation.specs.Frame.{SameLengths}
 use Rattle.simulation.specs.Simulate.{simulated}
 use Rattle.simulation.proofs.Demands.{demands}

@@ -46,7 +46,8 @@ pub record SearchLaws (i : Inputs) (rounds : ℕ) (l : Lent Float) : Type 0 wher
   pub never-ten : 57 ≤ rounds → NeverTen (optimalRetention i rounds l .answer)
   -- a run of an accepted search says the same in any lists of the same lengths, whatever they held: so a host may make
   -- the runs of a trial in lists of their own, in any order
-  pub apart : checkedSearch rounds i l ≡ check.Passed → (l′ : Lent Float) → SameLengths l l′ → (u : Float) → T (within u)
+  pub apart : checkedSearch rounds i l ≡ check.Passed → (l′ : Lent Float) → SameLengths l l′ → (u : Float)
+      → T (within u)
       → (n : ℕ) → trialOf (runOf i u n l′) ≡ trialOf (runOf i u n l)
   -- and the stepper, driven with the trials' means, gives the whole search
   pub stepper : checkedSearch rounds i l ≡ check.Passed → (fuel : ℕ) → rounds < fuel

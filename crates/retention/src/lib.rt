@@ -13,7 +13,8 @@ ghost use Rattle.brent.specs.Search.{search};
 ghost use Rattle.brent.specs.Stepping.{told, answer};
 ghost use Rattle.simulation.specs.State.{lent};
 ghost use Rattle.retention.specs.Trials.{searchInputs, sample};
-ghost use Rattle.retention.specs.Retention.{mostRounds, roundsOk, answerOf, numberOf, secondOf, refusedBy, IsSearched, SearchContract};
+ghost use Rattle.retention.specs.Retention.{mostRounds, roundsOk, answerOf, numberOf, secondOf, refusedBy};
+ghost use Rattle.retention.specs.Retention.{IsSearched, SearchContract};
 
 mod sizes;
 mod trials;
@@ -111,10 +112,13 @@ fn search(
 ) -> SearchAnswer
     requires { ⌜ rounds ≤ mostRounds ⌝ }
     ensures { λ r. ⌜ IsSearched
-        (search (sample (searchInputs config (now (parameters .entry)) (now (existing .entry)) (now («existing_counts» .entry)))) rounds
-        (lent (now (cards .entry)) (now (counts .entry)) (now (rows .entry)) (now (days .entry)) (now (costs .entry)) (now (memorized .entry)) (now (due .entry)) (now (keys .entry)) (now (intervals .entry))))
+        (search (sample (searchInputs config (now (parameters .entry)) (now (existing .entry))
+        (now («existing_counts» .entry)))) rounds
+        (lent (now (cards .entry)) (now (counts .entry)) (now (rows .entry)) (now (days .entry)) (now (costs .entry))
+        (now (memorized .entry)) (now (due .entry)) (now (keys .entry)) (now (intervals .entry))))
         r
-        (lent (now (cards .exit)) (now (counts .exit)) (now (rows .exit)) (now (days .exit)) (now (costs .exit)) (now (memorized .exit)) (now (due .exit)) (now (keys .exit)) (now (intervals .exit))) ⌝ }
+        (lent (now (cards .exit)) (now (counts .exit)) (now (rows .exit)) (now (days .exit)) (now (costs .exit))
+        (now (memorized .exit)) (now (due .exit)) (now (keys .exit)) (now (intervals .exit))) ⌝ }
 {
     let mut stepper = brent::start(rounds);
     let mut made: u32 = 0;
@@ -148,8 +152,8 @@ fn search(
     ended(stepper)
 }
 
-// The retention from 0.70 to 0.95 at which a run costs least for each card that it has memorized in the end. The lists are
-// those of `simulation::simulate`, and are left as by the last run made.
+// The retention from 0.70 to 0.95 at which a run costs least for each card that it has memorized in the end. The lists
+// are those of `simulation::simulate`, and are left as by the last run made.
 pub fn optimal_retention(
     cards: &mut [[f32; 6]],
     counts: &mut [[u32; 2]],
@@ -168,9 +172,11 @@ pub fn optimal_retention(
 ) -> SearchAnswer
     ensures { λ r. ⌜ SearchContract
         (searchInputs config (now (parameters .entry)) (now (existing .entry)) (now («existing_counts» .entry))) rounds
-        (lent (now (cards .entry)) (now (counts .entry)) (now (rows .entry)) (now (days .entry)) (now (costs .entry)) (now (memorized .entry)) (now (due .entry)) (now (keys .entry)) (now (intervals .entry)))
+        (lent (now (cards .entry)) (now (counts .entry)) (now (rows .entry)) (now (days .entry)) (now (costs .entry))
+        (now (memorized .entry)) (now (due .entry)) (now (keys .entry)) (now (intervals .entry)))
         r
-        (lent (now (cards .exit)) (now (counts .exit)) (now (rows .exit)) (now (days .exit)) (now (costs .exit)) (now (memorized .exit)) (now (due .exit)) (now (keys .exit)) (now (intervals .exit))) ⌝ }
+        (lent (now (cards .exit)) (now (counts .exit)) (now (rows .exit)) (now (days .exit)) (now (costs .exit))
+        (now (memorized .exit)) (now (due .exit)) (now (keys .exit)) (now (intervals .exit))) ⌝ }
 {
     let lengths = Lengths {
         cards: cards.len(),

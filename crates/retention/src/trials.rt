@@ -7,7 +7,8 @@ ghost use Prim.Native.Nat.{_-_};
 ghost use lib.ListN.{getD};
 ghost use lib.Ieee.{nan};
 ghost use Rattle.simulation.specs.State.{lent};
-ghost use Rattle.retention.specs.Trials.{searchInputs, total, target, meanOf, trialFrom, runOf, sample, TrialContract};
+ghost use Rattle.retention.specs.Trials.{searchInputs, total, target, meanOf, trialFrom, runOf, sample};
+ghost use Rattle.retention.specs.Trials.{TrialContract};
 
 fn place(xs: &[f32], i: u32) -> f32
     ensures { λ r. ⌜ r ≡ getD (now (xs .entry)) i nan ⌝ }
@@ -82,10 +83,13 @@ fn run_of(
     n: u32,
 ) -> Trial
     ensures { λ r. ⌜ TrialContract
-        (runOf (searchInputs config (now (parameters .entry)) (now (existing .entry)) (now («existing_counts» .entry))) retention n
-        (lent (now (cards .entry)) (now (counts .entry)) (now (rows .entry)) (now (days .entry)) (now (costs .entry)) (now (memorized .entry)) (now (due .entry)) (now (keys .entry)) (now (intervals .entry))))
+        (runOf (searchInputs config (now (parameters .entry)) (now (existing .entry)) (now («existing_counts» .entry)))
+        retention n
+        (lent (now (cards .entry)) (now (counts .entry)) (now (rows .entry)) (now (days .entry)) (now (costs .entry))
+        (now (memorized .entry)) (now (due .entry)) (now (keys .entry)) (now (intervals .entry))))
         r
-        (lent (now (cards .exit)) (now (counts .exit)) (now (rows .exit)) (now (days .exit)) (now (costs .exit)) (now (memorized .exit)) (now (due .exit)) (now (keys .exit)) (now (intervals .exit))) ⌝ }
+        (lent (now (cards .exit)) (now (counts .exit)) (now (rows .exit)) (now (days .exit)) (now (costs .exit))
+        (now (memorized .exit)) (now (due .exit)) (now (keys .exit)) (now (intervals .exit))) ⌝ }
 {
     let answer = simulation::simulate(
         cards,
@@ -126,10 +130,12 @@ pub(crate) fn sample(
 ) -> Trial
     ensures { λ r. ⌜ TrialContract
         (sample (searchInputs config (now (parameters .entry)) (now (existing .entry)) (now («existing_counts» .entry)))
-        (lent (now (cards .entry)) (now (counts .entry)) (now (rows .entry)) (now (days .entry)) (now (costs .entry)) (now (memorized .entry)) (now (due .entry)) (now (keys .entry)) (now (intervals .entry)))
+        (lent (now (cards .entry)) (now (counts .entry)) (now (rows .entry)) (now (days .entry)) (now (costs .entry))
+        (now (memorized .entry)) (now (due .entry)) (now (keys .entry)) (now (intervals .entry)))
         retention)
         r
-        (lent (now (cards .exit)) (now (counts .exit)) (now (rows .exit)) (now (days .exit)) (now (costs .exit)) (now (memorized .exit)) (now (due .exit)) (now (keys .exit)) (now (intervals .exit))) ⌝ }
+        (lent (now (cards .exit)) (now (counts .exit)) (now (rows .exit)) (now (days .exit)) (now (costs .exit))
+        (now (memorized .exit)) (now (due .exit)) (now (keys .exit)) (now (intervals .exit))) ⌝ }
 {
     let n = super::sizes::sample_size(config.learn_span);
     let mut sum: f32 = -0.0;

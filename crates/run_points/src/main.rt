@@ -1,4 +1,5 @@
-// Runs small forecasts: the case of two streets and one day, a deck of eight over ten days, and calls at the entry's limits.
+// Runs small forecasts: the case of two streets and one day, a deck of eight over ten days, and calls at the entry's
+// limits.
 use cards::SimulatorConfig;
 use simulation::Answer;
 use simulation::Progress;
@@ -22,7 +23,8 @@ fn float(x: f32) {
     io::print_hex(1, wide(float32::to_bits(x)), 8);
 }
 
-// Two streets, every first rating 4, costs of 8 seconds and at most 10 a day; the rest as `SimulatorConfig::default` has it.
+// Two streets, every first rating 4, costs of 8 seconds and at most 10 a day; the rest as `SimulatorConfig::default`
+// has it.
 fn config(deck_size: u32, learn_span: u32) -> SimulatorConfig {
     SimulatorConfig {
         deck_size,

@@ -1,5 +1,5 @@
-// Runs small searches: two that find a retention, one whose every mean is a NaN, one with too few rounds, one with too many.
-// `harness/run store` writes what it must print, from the Rust.
+// Runs small searches: two that find a retention, one whose every mean is a NaN, one with too few rounds, one with too
+// many. `harness/run store` writes what it must print, from the Rust.
 use cards::SimulatorConfig;
 use retention::Optimum;
 use retention::SearchAnswer;

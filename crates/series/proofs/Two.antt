@@ -3,12 +3,15 @@
 use mathlib.Core.Path.{_≡_, subst}
 use mathlib.Core.Logic.{_⊎_, inl, inr}
 use Prim.Native.Nat.{ℕ, zero, suc, _+_, _*_, _^_, _≤_, _<_}
-use native.Mathlib.Nat.{zero-mul, suc-mul, pow-zero, pow-suc, le-trans, lt-irrefl, lt-of-lt-of-le, mul-le-mul, mul-le-mul-left, mul-le-mul-right, mul-pos, one-le-pow, pow-le-pow-left, pow-lt-pow-left, le-of-mul-le-mul-right}
+use native.Mathlib.Nat.{zero-mul, suc-mul, pow-zero, pow-suc, le-trans, lt-irrefl, lt-of-lt-of-le, mul-le-mul}
+use native.Mathlib.Nat.{mul-le-mul-left, mul-le-mul-right, mul-pos, one-le-pow, pow-le-pow-left, pow-lt-pow-left}
+use native.Mathlib.Nat.{le-of-mul-le-mul-right}
 use native.Mathlib.Omega.{arith}
 use lib.Dec.{lit<, lit≤}
 use lib.Pow.{pow-pos, pow-add, pow-mono}
 use Rattle.series.specs.Exp.{sum, scale, ExpGe, ExpLe, ln2}
-use Rattle.series.proofs.Cuts.{lt-or-ge, le-pow, ge-pow, le-two-pow, ge-two-pow, le-same, ge-same, le-by, cut, mul-pow}
+use Rattle.series.proofs.Cuts.{lt-or-ge, le-pow, ge-pow, le-two-pow, ge-two-pow, le-same, ge-same, le-by, cut}
+use Rattle.series.proofs.Cuts.{mul-pow}
 
 -- ---- powers
 pub pow-pow : (a j k : ℕ) → (a ^ j) ^ k ≡ a ^ (k * j)

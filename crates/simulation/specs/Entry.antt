@@ -125,8 +125,8 @@ checkFirst cards counts n =
     let i = firstWhere (notOk cards counts) n 0 in
     failIf (ltb i n) (refusal.ExistingCard i) check.Passed
 
--- all tests before that of the cards, of which n exist, and then `next`; `ok` is the test of what a run and a search each
--- have of their own: a retention, rounds; `lists` is that of refusal 6
+-- all tests before that of the cards, of which n exist, and then `next`; `ok` is the test of what a run and a search
+-- each have of their own: a retention, rounds; `lists` is that of refusal 6
 unfoldable pub checkSettings : Bool → Bool → List Float → SimulatorConfig → ℕ → Check → Check
 checkSettings ok lists w g n next =
     checkParameters w

@@ -14,7 +14,8 @@ ghost use Rattle.float32.specs.Numbers.{0ᶠ};
 ghost use Rattle.cards.specs.Cards.{isKept, cardOk};
 ghost use Rattle.simulation.specs.State.{lent, state};
 ghost use Rattle.simulation.specs.declared.Check.the-variants as check;
-ghost use Rattle.simulation.specs.Entry.{inputs, firstWhere, notFinite, notOk, failIf, checkParameters, lengthsOk, shortList, checkFirst, checkSettings, checkEntry};
+ghost use Rattle.simulation.specs.Entry.{inputs, firstWhere, notFinite, notOk, failIf, checkParameters};
+ghost use Rattle.simulation.specs.Entry.{lengthsOk, shortList, checkFirst, checkSettings, checkEntry};
 
 fn parameter(w: &[f32], i: u32) -> f32
     ensures { λ r. ⌜ r ≡ getD (now (w .entry)) i nan ⌝ }
@@ -133,8 +134,8 @@ pub fn short_list(
     number_if(!(existing == existing_counts), 1, intervals)
 }
 
-// The tests before that of the cards, of n existing ones; `setting_ok` is the test of what a run and a search each have of their own,
-// `lists_ok` that of the lists' lengths.
+// The tests before that of the cards, of n existing ones; `setting_ok` is the test of what a run and a search each have
+// of their own, `lists_ok` that of the lists' lengths.
 pub fn check_settings(
     parameters: &[f32],
     config: SimulatorConfig,
@@ -165,7 +166,8 @@ pub fn check_entry(
     setting_ok: bool,
 ) -> Check
     ensures { λ r. ⌜ r ≡ checkEntry «setting_ok»
-        (inputs config (now (parameters .entry)) 0ᶠ 0 (now (existing .entry)) (now («existing_counts» .entry))) lengths ⌝ }
+        (inputs config (now (parameters .entry)) 0ᶠ 0 (now (existing .entry)) (now («existing_counts» .entry))) lengths
+        ⌝ }
 {
     let n = existing.len();
     let long = lists_ok(config, n, existing_counts.len(), lengths);

@@ -1,4 +1,5 @@
-// The run: the types of its answer, and the entry. Its parts are entry (the tests), set_up, turn and run; refusals has the numbers.
+// The run: the types of its answer, and the entry. Its parts are entry (the tests), set_up, turn and run; refusals has
+// the numbers.
 use cards::SimulatorConfig;
 ghost use Rattle.simulation.specs.State.{lent, state};
 ghost use Rattle.simulation.specs.Entry.{inputs};
@@ -49,8 +50,8 @@ pub struct Lengths {
     pub intervals: usize,
 }
 
-// How far a run came: the turns taken, refused ones left out, the run's cards, how many of them are still queued, and the state of
-// the draws.
+// How far a run came: the turns taken, refused ones left out, the run's cards, how many of them are still queued, and
+// the state of the draws.
 pub struct Progress {
     pub turns: u32,
     pub cards: u32,
@@ -83,8 +84,9 @@ pub struct RunEnd {
     pub draws: u64,
 }
 
-// A run, from its entry to its answer. The first nine lists are written: rows of cards and of their counts, of the queue and of
-// days' counts, the days' costs, what is memorized on each, the due counts, and the interval table; the others are read.
+// A run, from its entry to its answer. The first nine lists are written: rows of cards and of their counts, of the
+// queue and of days' counts, the days' costs, what is memorized on each, the due counts, and the interval table; the
+// others are read.
 pub fn simulate(
     cards: &mut [[f32; 6]],
     counts: &mut [[u32; 2]],
@@ -103,10 +105,14 @@ pub fn simulate(
     seed: u64,
 ) -> Answer
     ensures { λ r. ⌜ (
-        let i = inputs config (now (parameters .entry)) retention seed (now (existing .entry)) (now («existing_counts» .entry)) in
-        let s = state (lent (now (cards .entry)) (now (counts .entry)) (now (rows .entry)) (now (days .entry)) (now (costs .entry)) (now (memorized .entry)) (now (due .entry)) (now (keys .entry)) (now (intervals .entry))) 0 seed in
+        let i = inputs config (now (parameters .entry)) retention seed (now (existing .entry))
+        (now («existing_counts» .entry)) in
+        let s = state (lent (now (cards .entry)) (now (counts .entry)) (now (rows .entry)) (now (days .entry))
+        (now (costs .entry)) (now (memorized .entry)) (now (due .entry)) (now (keys .entry))
+        (now (intervals .entry))) 0 seed in
         RunContract i s r
-        (lent (now (cards .exit)) (now (counts .exit)) (now (rows .exit)) (now (days .exit)) (now (costs .exit)) (now (memorized .exit)) (now (due .exit)) (now (keys .exit)) (now (intervals .exit)))) ⌝ }
+        (lent (now (cards .exit)) (now (counts .exit)) (now (rows .exit)) (now (days .exit)) (now (costs .exit))
+        (now (memorized .exit)) (now (due .exit)) (now (keys .exit)) (now (intervals .exit)))) ⌝ }
 {
     let lengths = Lengths {
         cards: cards.len(),

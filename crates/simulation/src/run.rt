@@ -47,9 +47,12 @@ fn run_turns(
     bound: u32,
 ) -> RunEnd
     ensures { λ r. ⌜ RunTurns (rulesOf config (kept m))
-        (state (lent (now (cards .entry)) (now (counts .entry)) (now (rows .entry)) (now (days .entry)) (now (costs .entry)) (now (memorized .entry)) (now (due .entry)) (now (keys .entry)) (now (intervals .entry))) len seed)
+        (state (lent (now (cards .entry)) (now (counts .entry)) (now (rows .entry)) (now (days .entry))
+        (now (costs .entry)) (now (memorized .entry)) (now (due .entry)) (now (keys .entry))
+        (now (intervals .entry))) len seed)
         bound r
-        (lent (now (cards .exit)) (now (counts .exit)) (now (rows .exit)) (now (days .exit)) (now (costs .exit)) (now (memorized .exit)) (now (due .exit)) (now (keys .exit)) (now (intervals .exit))) ⌝ }
+        (lent (now (cards .exit)) (now (counts .exit)) (now (rows .exit)) (now (days .exit)) (now (costs .exit))
+        (now (memorized .exit)) (now (due .exit)) (now (keys .exit)) (now (intervals .exit))) ⌝ }
 {
     let mut n = len;
     let mut draws = seed;
@@ -133,14 +136,19 @@ pub(crate) fn simulate_inner(
 ) -> Answer
     requires { ⌜ checked
         (inputs config (now parameters) retention seed (now existing) (now «existing_counts»))
-        (state (lent (now cards) (now counts) (now rows) (now days) (now costs) (now memorized) (now due) (now keys) (now intervals)) 0 seed) ≡ check.Passed ⌝ }
+        (state (lent (now cards) (now counts) (now rows) (now days) (now costs) (now memorized) (now due) (now keys)
+        (now intervals)) 0 seed) ≡ check.Passed ⌝ }
     ensures { λ r. ⌜ InnerContract
         (rulesOf config (kept (Runtime.runtimeOf (now (parameters .entry)))))
         (setUp 0ᶠ
-        (inputs config (now (parameters .entry)) retention seed (now (existing .entry)) (now («existing_counts» .entry)))
-        (state (lent (now (cards .entry)) (now (counts .entry)) (now (rows .entry)) (now (days .entry)) (now (costs .entry)) (now (memorized .entry)) (now (due .entry)) (now (keys .entry)) (now (intervals .entry))) 0 seed))
+        (inputs config (now (parameters .entry)) retention seed (now (existing .entry))
+        (now («existing_counts» .entry)))
+        (state (lent (now (cards .entry)) (now (counts .entry)) (now (rows .entry)) (now (days .entry))
+        (now (costs .entry)) (now (memorized .entry)) (now (due .entry)) (now (keys .entry))
+        (now (intervals .entry))) 0 seed))
         r
-        (lent (now (cards .exit)) (now (counts .exit)) (now (rows .exit)) (now (days .exit)) (now (costs .exit)) (now (memorized .exit)) (now (due .exit)) (now (keys .exit)) (now (intervals .exit))) ⌝ }
+        (lent (now (cards .exit)) (now (counts .exit)) (now (rows .exit)) (now (days .exit)) (now (costs .exit))
+        (now (memorized .exit)) (now (due .exit)) (now (keys .exit)) (now (intervals .exit))) ⌝ }
 {
     let len = super::set_up::set_up(
         cards,

@@ -16,7 +16,8 @@ ghost use Rattle.cards.specs.Cards.{isKept};
 ghost use Rattle.simulation.specs.State.{lent, state, mostCards, mostDays};
 ghost use Rattle.simulation.specs.Entry.{inputs};
 ghost use Rattle.simulation.specs.Steps.{CardAdded};
-ghost use Rattle.simulation.specs.SetUp.{deck, filled, newCard, addExistingCard, addExistingCards, introducedBefore, addNewCards, newCardCount, setUp};
+ghost use Rattle.simulation.specs.SetUp.{deck, filled, newCard, addExistingCard, addExistingCards};
+ghost use Rattle.simulation.specs.SetUp.{introducedBefore, addNewCards, newCardCount, setUp};
 
 fn put_due(due: &mut [u32], i: u32)
     ensures { λ _. ⌜ now (due .exit) ≡ set (now (due .entry)) i 0 ⌝ }
@@ -84,7 +85,8 @@ fn add_card(
     len: u32,
 ) -> u32
     ensures { λ r. ⌜ CardAdded card len
-        (now (cards .entry)) (now (counts .entry)) (now (rows .entry)) r (now (cards .exit)) (now (counts .exit)) (now (rows .exit)) ⌝ }
+        (now (cards .entry)) (now (counts .entry)) (now (rows .entry)) r (now (cards .exit)) (now (counts .exit))
+        (now (rows .exit)) ⌝ }
 {
     let key = super::turn::key_of(card);
     cards::write_floats(cards, len, card);
@@ -104,7 +106,8 @@ fn add_existing_card(
     len: u32,
 ) -> u32
     ensures { λ r. ⌜ deck (now (cards .exit)) (now (counts .exit)) (now (rows .exit)) (now (due .exit)) r
-        ≡ addExistingCard span (deck (now (cards .entry)) (now (counts .entry)) (now (rows .entry)) (now (due .entry)) len) card ⌝ }
+        ≡ addExistingCard span (deck (now (cards .entry)) (now (counts .entry)) (now (rows .entry)) (now (due .entry))
+        len) card ⌝ }
 {
     if cards::is_kept(card) {
         let more = add_card(cards, counts, rows, card, len);
@@ -126,7 +129,8 @@ fn add_existing_cards(
     n: u32,
 ) -> u32
     ensures { λ r. ⌜ deck (now (cards .exit)) (now (counts .exit)) (now (rows .exit)) (now (due .exit)) r
-        ≡ addExistingCards span (now (existing .entry)) (now («existing_counts» .entry)) n (deck (now (cards .entry)) (now (counts .entry)) (now (rows .entry)) (now (due .entry)) 0) ⌝ }
+        ≡ addExistingCards span (now (existing .entry)) (now («existing_counts» .entry)) n
+        (deck (now (cards .entry)) (now (counts .entry)) (now (rows .entry)) (now (due .entry)) 0) ⌝ }
 {
     let mut len: u32 = 0;
     let mut i: u32 = 0;
@@ -225,7 +229,8 @@ fn add_new_cards(
     len
 }
 
-// The lists as a run finds them, and how many cards it has. Neither the parameters, nor the seed, nor the table's keys are looked at.
+// The lists as a run finds them, and how many cards it has. Neither the parameters, nor the seed, nor the table's keys
+// are looked at.
 pub(crate) fn set_up(
     cards: &mut [[f32; 6]],
     counts: &mut [[u32; 2]],
@@ -242,9 +247,11 @@ pub(crate) fn set_up(
 ) -> u32
     requires { ⌜ (length (now existing) ≤ mostCards) × (config .«learn_span» ≤ mostDays) ⌝ }
     ensures { λ r. ⌜ ((w : List Float) (seed : ℕ) (keys : List (List ℕ)) →
-        state (lent (now (cards .exit)) (now (counts .exit)) (now (rows .exit)) (now (days .exit)) (now (costs .exit)) (now (memorized .exit)) (now (due .exit)) keys (now (intervals .exit))) r seed
+        state (lent (now (cards .exit)) (now (counts .exit)) (now (rows .exit)) (now (days .exit)) (now (costs .exit))
+        (now (memorized .exit)) (now (due .exit)) keys (now (intervals .exit))) r seed
         ≡ setUp 0ᶠ (inputs config w retention seed (now (existing .entry)) (now («existing_counts» .entry)))
-        (state (lent (now (cards .entry)) (now (counts .entry)) (now (rows .entry)) (now (days .entry)) (now (costs .entry)) (now (memorized .entry)) (now (due .entry)) keys (now (intervals .entry))) 0 seed)) ⌝ }
+        (state (lent (now (cards .entry)) (now (counts .entry)) (now (rows .entry)) (now (days .entry))
+        (now (costs .entry)) (now (memorized .entry)) (now (due .entry)) keys (now (intervals .entry))) 0 seed)) ⌝ }
 {
     let span = config.learn_span;
     let n = existing.len() as u32;

@@ -102,7 +102,8 @@ fn add_forgetting_curve(
     to: u32,
 )
     requires { ⌜ curve ≡ curveFor m card ⌝ }
-    ensures { λ _. ⌜ now (memorized .exit) ≡ addForgettingCurve (modelOf config (kept m)) (now (memorized .entry)) card to ⌝ }
+    ensures { λ _. ⌜ now (memorized .exit) ≡ addForgettingCurve (modelOf config (kept m)) (now (memorized .entry)) card
+        to ⌝ }
 {
     if cards::is_new(card.last_date) {
         return;
@@ -194,7 +195,8 @@ fn write_days(
 )
     requires { ⌜ curve ≡ curveFor m card ⌝ }
     ensures { λ _. ⌜ DaysWritten (rulesOf config (kept m)) card new d x
-        (now (days .entry)) (now (costs .entry)) (now (memorized .entry)) (now (days .exit)) (now (costs .exit)) (now (memorized .exit)) ⌝ }
+        (now (days .entry)) (now (costs .entry)) (now (memorized .entry)) (now (days .exit)) (now (costs .exit))
+        (now (memorized .exit)) ⌝ }
 {
     days::add_event(days, config.learn_span, new, d, x.recalled);
     days::add_cost(costs, d, x.cost);
@@ -210,7 +212,8 @@ fn write_card(
     len: u32,
 )
     ensures { λ _. ⌜ CardWritten c card len
-        (now (cards .entry)) (now (counts .entry)) (now (rows .entry)) (now (cards .exit)) (now (counts .exit)) (now (rows .exit)) ⌝ }
+        (now (cards .entry)) (now (counts .entry)) (now (rows .entry)) (now (cards .exit)) (now (counts .exit))
+        (now (rows .exit)) ⌝ }
 {
     let key = key_of(card);
     cards::write_floats(cards, c, card);
@@ -256,9 +259,12 @@ fn event_step(
     draws: u64,
 ) -> Outcome
     ensures { λ r. ⌜ (
-        let before = state (lent (now (cards .entry)) (now (counts .entry)) (now (rows .entry)) (now (days .entry)) (now (costs .entry)) (now (memorized .entry)) (now (due .entry)) (now (keys .entry)) (now (intervals .entry))) len draws in
+        let before = state (lent (now (cards .entry)) (now (counts .entry)) (now (rows .entry)) (now (days .entry))
+        (now (costs .entry)) (now (memorized .entry)) (now (due .entry)) (now (keys .entry))
+        (now (intervals .entry))) len draws in
         TurnContract (eventOn (rulesOf config (kept m)) before c card new d) before r
-        (lent (now (cards .exit)) (now (counts .exit)) (now (rows .exit)) (now (days .exit)) (now (costs .exit)) (now (memorized .exit)) (now (due .exit)) (now (keys .exit)) (now (intervals .exit)))) ⌝ }
+        (lent (now (cards .exit)) (now (counts .exit)) (now (rows .exit)) (now (days .exit)) (now (costs .exit))
+        (now (memorized .exit)) (now (due .exit)) (now (keys .exit)) (now (intervals .exit)))) ⌝ }
 {
     let curve = m.curve(card.stability);
     let drawn = event_of(config, m, curve, card, new, d, draws);
@@ -301,9 +307,12 @@ pub(crate) fn turn(
     draws: u64,
 ) -> Outcome
     ensures { λ r. ⌜ (
-        let before = state (lent (now (cards .entry)) (now (counts .entry)) (now (rows .entry)) (now (days .entry)) (now (costs .entry)) (now (memorized .entry)) (now (due .entry)) (now (keys .entry)) (now (intervals .entry))) len draws in
+        let before = state (lent (now (cards .entry)) (now (counts .entry)) (now (rows .entry)) (now (days .entry))
+        (now (costs .entry)) (now (memorized .entry)) (now (due .entry)) (now (keys .entry))
+        (now (intervals .entry))) len draws in
         TurnContract (next (rulesOf config (kept m)) before) before r
-        (lent (now (cards .exit)) (now (counts .exit)) (now (rows .exit)) (now (days .exit)) (now (costs .exit)) (now (memorized .exit)) (now (due .exit)) (now (keys .exit)) (now (intervals .exit)))) ⌝ }
+        (lent (now (cards .exit)) (now (counts .exit)) (now (rows .exit)) (now (days .exit)) (now (costs .exit))
+        (now (memorized .exit)) (now (due .exit)) (now (keys .exit)) (now (intervals .exit)))) ⌝ }
 {
     if len == 0 {
         return Outcome::Stopped(Stop::Ended);

@@ -2,7 +2,8 @@
 use mathlib.Core.Bool.{true, false}
 use mathlib.Core.Path.{_≡_, refl, ap}
 use Prim.Native.Nat.{ℕ, _+_}
-use lib.Ieee.{Float, nan, inf, fin, ofBits, ofFields, toBits, neg, binary32, ofInt, round, add, mul, sum, lt, isNan, toSigned, toUnsigned}
+use lib.Ieee.{Float, nan, inf, fin, ofBits, ofFields, toBits, neg, binary32, ofInt, round, add, mul, sum, lt, isNan}
+use lib.Ieee.{toSigned, toUnsigned}
 use Rattle.float32.specs.Float32 as Float32
 use Rattle.elementary.proofs.Points as elementary
 use Rattle.draws.specs.Draws.{advance}
@@ -16,7 +17,8 @@ one-more : (i n : ℕ) → i ≡ n → i + 1 ≡ n + 1
 one-more i n e = ap (λ (z : ℕ). z + 1) e
 
 pub starred : Starred
-unfolding Float32.round Float32.mulAdd Float32.max ofBits ofFields ofInt round mul sum lt isNan toSigned toUnsigned neg dayOf priorityOf newCard advance
+unfolding Float32.round Float32.mulAdd Float32.max ofBits ofFields ofInt round mul sum lt isNan toSigned toUnsigned neg
+    dayOf priorityOf newCard advance
 starred = record {
   rating-4 = λ word h. one-more _ 3 (draws.fourth word);
   rating-3 = one-more _ 2 draws.third;

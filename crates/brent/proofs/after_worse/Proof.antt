@@ -53,7 +53,8 @@ returns c = rw (
   c .before .before .before .before .before .before .before .before .choose .ensures,
   c .before .before .before .before .before .before .before .before .before .before .before .either3 .ensures,
   c .before .before .before .before .before .before .before .before .before .before .before .before .either2 .ensures,
-  c .before .before .before .before .before .before .before .before .before .before .before .before .before .before .before .before .either .ensures,
+  c .before .before .before .before .before .before .before .before .before .before .before .before .before .before
+      .before .before .either .ensures,
 )
 
 pub after-worse-spec : {M : Type 1} → statement M

@@ -63,7 +63,8 @@ array-share-prefix-parameters c =
 
 slice-aggregate-optimal-retention-10 : tie.Need-slice-aggregate-optimal-retention-10
 slice-aggregate-optimal-retention-10 c =
-    let at-parameter-count = c .before .before .before .before .before .before .before .before .before .before .before in
+    let at-parameter-count = c .before .before .before .before .before .before .before .before .before .before .before
+    in
     let at-floats-of-34 = at-parameter-count .before in
     let start = at-floats-of-34 .before .before in
     sym (length-take-le (at-parameter-count .parameter-count .result) (at-floats-of-34 .floats-of-34 .result)
@@ -87,7 +88,8 @@ returns : tie.Need-returns
 unfolding lists parametersOf
 returns c =
     let at-optimal-retention = c .before .before .before .before .before .before .before .before .before in
-    let at-config-of = at-optimal-retention .before .before .before .before .before .before .before .before .before .before .before .before .before in
+    let at-config-of = at-optimal-retention .before .before .before .before .before .before .before .before .before
+    .before .before .before .before in
     let at-parameter-count = at-config-of .before in
     let at-floats-of-34 = at-parameter-count .before in
     let start = at-floats-of-34 .before .before in

@@ -13,7 +13,8 @@ use Rattle.draws.proofs.rating.Statement.{statement}
 use Rattle.draws.proofs.rating.Tie as tie
 
 abbrev Inv-loop : tie.InvT-loop
-Inv-loop weights word target sum₀ positive₀ i₀ sum positive i = (i ≤ length weights) × (choose target 0ᶠ 0 0 weights ≡ choose target sum i positive (drop i weights))
+Inv-loop weights word target sum₀ positive₀ i₀ sum positive i = (i ≤ length weights)
+    × (choose target 0ᶠ 0 0 weights ≡ choose target sum i positive (drop i weights))
 
 abbrev μ-loop : tie.MeasureT-loop
 μ-loop weights word target sum₀ positive₀ i₀ sum positive i = length weights - i
@@ -41,7 +42,9 @@ returns c =
     let at-unit = at-total .before in
     let start = at-unit .before .before in
     sym
-    (rw (← at-unit .unit .ensures, ← at-total .total .ensures) (at-loop .loop .inv .1 ∙ choose-here (start .args .weights .now) _ (at-loop .loop .sum) (at-loop .loop .i) (at-loop .loop .positive) (omega arith) (c .if1 .taken)))
+    (rw (← at-unit .unit .ensures, ← at-total .total .ensures) (at-loop .loop .inv .1
+    ∙ choose-here (start .args .weights .now) _ (at-loop .loop .sum) (at-loop .loop .i) (at-loop .loop .positive)
+    (omega arith) (c .if1 .taken)))
 
 last-positive-requires : tie.Need-last-positive-requires Inv-loop μ-loop
 last-positive-requires c κs = search needs
@@ -57,12 +60,15 @@ loop-again c =
     let at-loop = c .before .before .before .before in
     let start = at-loop .before .before .before .before in (
       omega arith,
-      rw (c .last-positive .ensures) (at-loop .loop .inv .1 ∙ choose-next (start .args .weights .now) _ (at-loop .loop .sum) (at-loop .loop .i) (at-loop .loop .positive) (omega arith) (c .before .if1 .left)),
+      rw (c .last-positive .ensures) (at-loop .loop .inv .1 ∙ choose-next (start .args .weights .now) _
+          (at-loop .loop .sum) (at-loop .loop .i) (at-loop .loop .positive) (omega arith) (c .before .if1 .left)),
     )
 
 returns-2 : tie.Need-returns-2 Inv-loop μ-loop
 unfolding rating
-returns-2 c = sym (rw (← c .before .before .before .unit .ensures, ← c .before .before .total .ensures) (c .before .loop .inv .1 ∙ choose-end (c .before .before .before .before .before .args .weights .now) _ (c .before .loop .sum) (c .before .loop .i) (c .before .loop .positive) (omega arith)))
+returns-2 c = sym (rw (← c .before .before .before .unit .ensures, ← c .before .before .total .ensures)
+    (c .before .loop .inv .1 ∙ choose-end (c .before .before .before .before .before .args .weights .now) _
+    (c .before .loop .sum) (c .before .loop .i) (c .before .loop .positive) (omega arith)))
 
 pub rating-spec : {M : Type 1} → statement M
 rating-spec =

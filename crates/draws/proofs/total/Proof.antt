@@ -33,10 +33,15 @@ loop-less : tie.Need-loop-less Inv-loop μ-loop
 loop-less c = search needs
 
 loop-again : tie.Need-loop-again Inv-loop μ-loop
-loop-again c = (omega arith, c .before .before .loop .inv .1 ∙ sum-next (c .before .before .before .args .weights .now) (c .before .before .loop .i) (c .before .before .loop .sum) (omega arith))
+loop-again c = (
+  omega arith,
+  c .before .before .loop .inv .1 ∙ sum-next (c .before .before .before .args .weights .now)
+      (c .before .before .loop .i) (c .before .before .loop .sum) (omega arith),
+)
 
 returns : tie.Need-returns Inv-loop μ-loop
-returns c = sym (c .before .loop .inv .1 ∙ sum-end (c .before .before .args .weights .now) (c .before .loop .i) (c .before .loop .sum) (omega arith))
+returns c = sym (c .before .loop .inv .1 ∙ sum-end (c .before .before .args .weights .now) (c .before .loop .i)
+    (c .before .loop .sum) (omega arith))
 
 pub total-spec : {M : Type 1} → statement M
 total-spec =

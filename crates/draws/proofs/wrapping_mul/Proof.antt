@@ -8,16 +8,25 @@ use Rattle.draws.proofs.wrapping_mul.Statement.{statement}
 use Rattle.draws.proofs.wrapping_mul.Tie as tie
 
 mul-wrapping-add-u64 : tie.Need-mul-wrapping-add-u64
-mul-wrapping-add-u64 c = record { fits = product-lt (c .args .a / 2 ^ 32) (c .args .b % 2 ^ 32) (omega arith) (omega arith) }
+mul-wrapping-add-u64 c = record {
+  fits = product-lt (c .args .a / 2 ^ 32) (c .args .b % 2 ^ 32) (omega arith)
+      (omega arith);
+}
 
 mul-wrapping-add-u64-2 : tie.Need-mul-wrapping-add-u64-2
-mul-wrapping-add-u64-2 c = record { fits = product-lt (c .args .a % 2 ^ 32) (c .args .b / 2 ^ 32) (omega arith) (omega arith) }
+mul-wrapping-add-u64-2 c = record {
+  fits = product-lt (c .args .a % 2 ^ 32) (c .args .b / 2 ^ 32) (omega arith)
+      (omega arith);
+}
 
 wrapping-add-u64-requires : tie.Need-wrapping-add-u64-requires
 wrapping-add-u64-requires c κs = search needs
 
 mul-wrapping-add-u64-3 : tie.Need-mul-wrapping-add-u64-3
-mul-wrapping-add-u64-3 c = record { fits = product-lt (c .before .args .a % 2 ^ 32) (c .before .args .b % 2 ^ 32) (omega arith) (omega arith) }
+mul-wrapping-add-u64-3 c = record {
+  fits = product-lt (c .before .args .a % 2 ^ 32) (c .before .args .b % 2 ^ 32)
+      (omega arith) (omega arith);
+}
 
 mul-wrapping-add-u64-4 : tie.Need-mul-wrapping-add-u64-4
 mul-wrapping-add-u64-4 c = search needs

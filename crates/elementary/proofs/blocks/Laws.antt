@@ -35,7 +35,8 @@ module _ (b c : ℕ) (low : 0x3F800000 ≤ b) (high : b < 0x4F800000) (d : IsDec
   -- the exponent and the product add up to 126
   whole : quickArg b c + (c % 2 ^ 23 + 2 ^ 23) * log2Of (b - 0x3F800000) / 2 ^ (399 - c / 2 ^ 23) ≡ 69269232549888
   unfolding quickArg
-  whole = go ((c % 2 ^ 23 + 2 ^ 23) * log2Of (b - 0x3F800000) / 2 ^ (399 - c / 2 ^ 23)) (quick-size (c % 2 ^ 23 + 2 ^ 23)
+  whole = go ((c % 2 ^ 23 + 2 ^ 23) * log2Of (b - 0x3F800000) / 2 ^ (399 - c / 2 ^ 23))
+      (quick-size (c % 2 ^ 23 + 2 ^ 23)
       (log2Of (b - 0x3F800000)) (399 - c / 2 ^ 23) l-most (omega arith) (omega (arith, d .low, d .high)) .1)
     where
       go : (p : ℕ) → p ≤ 69269232549888 → 126 * 2 ^ 39 - p + p ≡ 69269232549888

@@ -38,7 +38,8 @@ pub abs-one : (s : Bool) (a : ℕ) → a < 855638016 → expAbs s a ≡ 0x3F8000
 unfolding expAbs
 abs-one s a h = simp (lt-ltb a 855638016 h)
 
-pub abs-mid : (s : Bool) (a : ℕ) → 855638016 ≤ a → a < limit s → expAbs s a ≡ packed (shifted s (fixed a) / (ln2 + 1)) (shifted s (fixed a) % (ln2 + 1))
+pub abs-mid : (s : Bool) (a : ℕ) → 855638016 ≤ a → a < limit s → expAbs s a ≡ packed (shifted s (fixed a) / (ln2 + 1))
+    (shifted s (fixed a) % (ln2 + 1))
 unfolding expAbs
 abs-mid s a h l = simp (le-ltb a 855638016 h, lt-ltb a (limit s) l)
 

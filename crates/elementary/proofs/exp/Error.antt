@@ -39,7 +39,8 @@ from-right d i t D I h =
       low = leb→le (2 ^ 31) t (both-left x (both y (both z w)) h);
       high = leb→le t 8589934591 (both-left y (both z w) h1);
       ge = (16, leb→le (t * scale d 16) (2 ^ 31 * sum i d 16) (both-left z w h2));
-      le = le-by i d (t + 1) (2 ^ 31) 16 D I (leb→le (2 ^ 31 * (sum i d 16 + i ^ 16)) ((t + 1) * scale d 16) (both-right z w h2));
+      le = le-by i d (t + 1) (2 ^ 31) 16 D I (leb→le (2 ^ 31 * (sum i d 16 + i ^ 16)) ((t + 1) * scale d 16)
+          (both-right z w h2));
     }
 
 coarse-entry : (i : ℕ) → i < 16 → Entry 16 i (getD coarse i 0)
@@ -58,25 +59,37 @@ pub coarse-high : (i : ℕ) → i < 12 → getD coarse i 0 ≤ 4294967295
 coarse-high i h = go (getD coarse i 0) (coarse-entry i (omega arith) .ge)
   where
     go : (t : ℕ) → ExpGe i 16 t (2 ^ 31) → t ≤ 4294967295
-    go t g = omega (arith, cut i 16 t (2 ^ 31) 4294967295 (2 ^ 31) (lit< tt) g (le-mono i 11 16 4294967295 (2 ^ 31) (omega arith) (le-by 11 16 4294967295 (2 ^ 31) 12 (lit< tt) (lit≤ tt) (unfold sum scale in lit≤ tt))))
+    go t g = omega (
+      arith,
+      cut i 16 t (2 ^ 31) 4294967295 (2 ^ 31) (lit< tt) g
+          (le-mono i 11 16 4294967295 (2 ^ 31) (omega arith) (le-by 11 16 4294967295 (2 ^ 31) 12 (lit< tt) (lit≤ tt)
+          (unfold sum scale in lit≤ tt))),
+    )
 
 -- e^(31 / 512)
 pub fine-high : (i : ℕ) → i < 32 → getD fine i 0 ≤ 2290649225
 fine-high i h = go (getD fine i 0) (fine-entry i h .ge)
   where
     go : (t : ℕ) → ExpGe i 512 t (2 ^ 31) → t ≤ 2290649225
-    go t g = omega (arith, cut i 512 t (2 ^ 31) 2290649225 (2 ^ 31) (lit< tt) g (le-mono i 31 512 2290649225 (2 ^ 31) (omega arith) (le-by 31 512 2290649225 (2 ^ 31) 8 (lit< tt) (lit≤ tt) (unfold sum scale in lit≤ tt))))
+    go t g = omega (
+      arith,
+      cut i 512 t (2 ^ 31) 2290649225 (2 ^ 31) (lit< tt) g
+          (le-mono i 31 512 2290649225 (2 ^ 31) (omega arith) (le-by 31 512 2290649225 (2 ^ 31) 8 (lit< tt) (lit≤ tt)
+          (unfold sum scale in lit≤ tt))),
+    )
 
 pub table-low : (i : ℕ) → i < 355 → 2 ^ 31 ≤ power i
 unfolding power
-table-low i h = go (getD coarse (i / 32 % 16) 0) (getD fine (i % 32) 0) (coarse-entry (i / 32 % 16) (omega arith) .low) (fine-entry (i % 32) (omega arith) .low)
+table-low i h = go (getD coarse (i / 32 % 16) 0) (getD fine (i % 32) 0) (coarse-entry (i / 32 % 16) (omega arith) .low)
+    (fine-entry (i % 32) (omega arith) .low)
   where
     go : (a b : ℕ) → 2 ^ 31 ≤ a → 2 ^ 31 ≤ b → 2 ^ 31 ≤ a * b / 2 ^ 31
     go a b h k = omega (arith, mul-le-mul h k)
 
 pub table-high : (i : ℕ) → i < 355 → power i ≤ 4581298449
 unfolding power
-table-high i h = go (getD coarse (i / 32 % 16) 0) (getD fine (i % 32) 0) (coarse-high (i / 32 % 16) (omega arith)) (fine-high (i % 32) (omega arith))
+table-high i h = go (getD coarse (i / 32 % 16) 0) (getD fine (i % 32) 0) (coarse-high (i / 32 % 16) (omega arith))
+    (fine-high (i % 32) (omega arith))
   where
     go : (a b : ℕ) → a ≤ 4294967295 → b ≤ 2290649225 → a * b / 2 ^ 31 ≤ 4581298449
     go a b h k = omega (arith, mul-le-mul h k)
@@ -98,7 +111,8 @@ table-ge i h =
     let a = getD coarse k 0 in
     let b = getD fine j 0 in
     subst (λ (z : ℕ). ExpGe z (2 ^ 48) (a * b / 2 ^ 31) (2 ^ 31)) (parts-of i h)
-    (ge-weaken (k * 17592186044416 + j * 2 ^ 39) (2 ^ 48) (a * b) (2 ^ 31 * 2 ^ 31) (a * b / 2 ^ 31) (2 ^ 31) (lit< tt) (omega arith)
+    (ge-weaken (k * 17592186044416 + j * 2 ^ 39) (2 ^ 48) (a * b) (2 ^ 31 * 2 ^ 31) (a * b / 2 ^ 31) (2 ^ 31) (lit< tt)
+    (omega arith)
     (ge-mul (2 ^ 48) (k * 17592186044416) (j * 2 ^ 39) a (2 ^ 31) b (2 ^ 31) (lit< tt)
     (ge-same k 16 (k * 17592186044416) (2 ^ 48) a (2 ^ 31) (lit< tt) (wide-16 k) (coarse-entry k (omega arith) .ge))
     (ge-same j 512 (j * 2 ^ 39) (2 ^ 48) b (2 ^ 31) (lit< tt) (wide-512 j) (fine-entry j (omega arith) .ge))))
@@ -111,13 +125,16 @@ table-le i h =
     let a = getD coarse k 0 in
     let b = getD fine j 0 in
     subst (λ (z : ℕ). ExpLe z (2 ^ 48) (a * b / 2 ^ 31 + 5) (2 ^ 31)) (parts-of i h)
-    (le-weaken (k * 17592186044416 + j * 2 ^ 39) (2 ^ 48) ((a + 1) * (b + 1)) (2 ^ 31 * 2 ^ 31) (a * b / 2 ^ 31 + 5) (2 ^ 31) (lit< tt)
+    (le-weaken (k * 17592186044416 + j * 2 ^ 39) (2 ^ 48) ((a + 1) * (b + 1)) (2 ^ 31 * 2 ^ 31) (a * b / 2 ^ 31 + 5)
+    (2 ^ 31) (lit< tt)
     (go a b (coarse-high k (omega arith)) (fine-high j (omega arith)))
     (le-mul (2 ^ 48) (k * 17592186044416) (j * 2 ^ 39) (a + 1) (2 ^ 31) (b + 1) (2 ^ 31) (lit< tt)
-    (le-same k 16 (k * 17592186044416) (2 ^ 48) (a + 1) (2 ^ 31) (lit< tt) (wide-16 k) (coarse-entry k (omega arith) .le))
+    (le-same k 16 (k * 17592186044416) (2 ^ 48) (a + 1) (2 ^ 31) (lit< tt) (wide-16 k)
+    (coarse-entry k (omega arith) .le))
     (le-same j 512 (j * 2 ^ 39) (2 ^ 48) (b + 1) (2 ^ 31) (lit< tt) (wide-512 j) (fine-entry j (omega arith) .le))))
   where
-    go : (a b : ℕ) → a ≤ 4294967295 → b ≤ 2290649225 → (a + 1) * (b + 1) * 2 ^ 31 ≤ (a * b / 2 ^ 31 + 5) * (2 ^ 31 * 2 ^ 31)
+    go : (a b : ℕ) → a ≤ 4294967295 → b ≤ 2290649225
+        → (a + 1) * (b + 1) * 2 ^ 31 ≤ (a * b / 2 ^ 31 + 5) * (2 ^ 31 * 2 ^ 31)
     go a b h k = omega arith
 
 -- ---- the polynomial, a step at a time, with q = 2^48 and f = 2^31
@@ -143,10 +160,12 @@ small-ge p =
 le-2 : (p : ℕ) → p < 2 ^ 39 → 2 ^ 31 * (2 ^ 48 * 3) + p * (2 * 2 ^ 31) ≤ (2 ^ 31 + 2796203) * (2 ^ 48 * 3)
 le-2 p h = omega arith
 
-le-1 : (p : ℕ) → p < 2 ^ 39 → 2 ^ 31 * (2 ^ 48 * 2) + p * (2 ^ 31 + 2796203) ≤ (2 ^ 31 + p / 256 / 1024 + 2732) * (2 ^ 48 * 2)
+le-1 : (p : ℕ) → p < 2 ^ 39
+    → 2 ^ 31 * (2 ^ 48 * 2) + p * (2 ^ 31 + 2796203) ≤ (2 ^ 31 + p / 256 / 1024 + 2732) * (2 ^ 48 * 2)
 le-1 p h = omega arith
 
-le-0 : (p g : ℕ) → p < 2 ^ 39 → g < 2 ^ 32 → 2 ^ 31 * (2 ^ 48 * 1) + p * (g + 2732) ≤ (2 ^ 31 + p / 256 * g / 2 ^ 40 + 8) * (2 ^ 48 * 1)
+le-0 : (p g : ℕ) → p < 2 ^ 39 → g < 2 ^ 32
+    → 2 ^ 31 * (2 ^ 48 * 1) + p * (g + 2732) ≤ (2 ^ 31 + p / 256 * g / 2 ^ 40 + 8) * (2 ^ 48 * 1)
 le-0 p g h l =
     let k : p ≤ p / 256 * 256 + 256 = omega arith in
     omega (arith, mul-le-mul-right g k)
@@ -183,7 +202,8 @@ parts r = omega arith
 times-ge : (t g : ℕ) → t * g / 2 ^ 31 * (2 ^ 31 * 2 ^ 31) ≤ t * g * 2 ^ 31
 times-ge t g = omega arith
 
-times-le : (t g : ℕ) → t ≤ 4581298449 → g < 2155872256 → (t + 5) * (g + 8) * 2 ^ 31 ≤ (t * g / 2 ^ 31 + 25) * (2 ^ 31 * 2 ^ 31)
+times-le : (t g : ℕ) → t ≤ 4581298449 → g < 2155872256
+    → (t + 5) * (g + 8) * 2 ^ 31 ≤ (t * g / 2 ^ 31 + 25) * (2 ^ 31 * 2 ^ 31)
 times-le t g h l = omega arith
 
 pub mant-ge : (r : ℕ) → r < 195163313930240 → ExpGe r (2 ^ 48) (mant r) (2 ^ 31)
@@ -193,7 +213,8 @@ mant-ge r h =
     let p = r % 2 ^ 39 in
     let t = power i in
     subst (λ (z : ℕ). ExpGe z (2 ^ 48) (t * small p / 2 ^ 31) (2 ^ 31)) (parts r)
-    (ge-weaken (i * 2 ^ 39 + p) (2 ^ 48) (t * small p) (2 ^ 31 * 2 ^ 31) (t * small p / 2 ^ 31) (2 ^ 31) (lit< tt) (times-ge t (small p))
+    (ge-weaken (i * 2 ^ 39 + p) (2 ^ 48) (t * small p) (2 ^ 31 * 2 ^ 31) (t * small p / 2 ^ 31) (2 ^ 31) (lit< tt)
+    (times-ge t (small p))
     (ge-mul (2 ^ 48) (i * 2 ^ 39) p t (2 ^ 31) (small p) (2 ^ 31) (lit< tt) (table-ge i (omega arith)) (small-ge p)))
 
 pub mant-le : (r : ℕ) → r < 195163313930240 → ExpLe r (2 ^ 48) (mant r + 25) (2 ^ 31)
@@ -205,7 +226,8 @@ mant-le r h =
     let I : i < 355 = omega arith in
     let P : p < 2 ^ 39 = omega arith in
     subst (λ (z : ℕ). ExpLe z (2 ^ 48) (t * small p / 2 ^ 31 + 25) (2 ^ 31)) (parts r)
-    (le-weaken (i * 2 ^ 39 + p) (2 ^ 48) ((t + 5) * (small p + 8)) (2 ^ 31 * 2 ^ 31) (t * small p / 2 ^ 31 + 25) (2 ^ 31) (lit< tt)
+    (le-weaken (i * 2 ^ 39 + p) (2 ^ 48) ((t + 5) * (small p + 8)) (2 ^ 31 * 2 ^ 31) (t * small p / 2 ^ 31 + 25)
+    (2 ^ 31) (lit< tt)
     (times-le t (small p) (table-high i I) (small-lt p P))
     (le-mul (2 ^ 48) (i * 2 ^ 39) p (t + 5) (2 ^ 31) (small p + 8) (2 ^ 31) (lit< tt) (table-le i I) (small-le p P)))
 
@@ -215,7 +237,8 @@ small-low p = le-add-right (2 ^ 31) (p / 256 * (2 ^ 31 + p / 256 / 1024) / 2 ^ 4
 
 pub mant-low : (r : ℕ) → r < 195163313930240 → 2 ^ 31 ≤ mant r
 unfolding mant
-mant-low r h = go (power (r / 2 ^ 39)) (small (r % 2 ^ 39)) (table-low (r / 2 ^ 39) (omega arith)) (small-low (r % 2 ^ 39))
+mant-low r h = go (power (r / 2 ^ 39)) (small (r % 2 ^ 39)) (table-low (r / 2 ^ 39) (omega arith))
+    (small-low (r % 2 ^ 39))
   where
     go : (t g : ℕ) → 2 ^ 31 ≤ t → 2 ^ 31 ≤ g → 2 ^ 31 ≤ t * g / 2 ^ 31
     go t g h k = omega (arith, mul-le-mul h k)

@@ -7,7 +7,8 @@ use native.Mathlib.Omega.{arith}
 use lib.Dec.{lit<, lit≤}
 use Rattle.series.specs.Exp.{sum, scale, ln2}
 use Rattle.series.proofs.Cuts.{le-by}
-use Rattle.series.proofs.Two.{TwoLe, TwoGe, two-le-mono, two-le-weaken, two-ge-weaken, two-le-mul, two-ge-mul, two-le-up, two-ge-up, two-le-whole, two-cut, two-le-exp, ln2-ge}
+use Rattle.series.proofs.Two.{TwoLe, TwoGe, two-le-mono, two-le-weaken, two-ge-weaken, two-le-mul, two-ge-mul}
+use Rattle.series.proofs.Two.{two-le-up, two-ge-up, two-le-whole, two-cut, two-le-exp, ln2-ge}
 use Rattle.power_tables.specs.Tables.{power}
 use Rattle.power_tables.proofs.Rules.{power-rule}
 use Rattle.elementary.specs.Power.{exp2m1, exp2Of}

@@ -4,7 +4,8 @@ use mathlib.Core.Path.{_≡_, refl, sym, _∙_, subst}
 use mathlib.Core.Logic.{_⊎_, inl, inr}
 use mathlib.Core.Bool.{false}
 use Prim.Native.Nat.{ℕ, zero, suc, _+_, _-_, _*_, _/_, _%_, _^_, _≤_, _<_}
-use native.Mathlib.Nat.{le-trans, le-of-eq, eq-or-lt-of-le, mul-comm, mul-sub, pow-suc, mul-le-mul-left, div-eq-of-lt, mod-eq-of-lt}
+use native.Mathlib.Nat.{le-trans, le-of-eq, eq-or-lt-of-le, mul-comm, mul-sub, pow-suc, mul-le-mul-left, div-eq-of-lt}
+use native.Mathlib.Nat.{mod-eq-of-lt}
 use native.Mathlib.Omega.{arith}
 use borrow.Author.Tests.{lt-ltb, le-ltb}
 use lib.Dec.{lit<, lit≤}
@@ -14,12 +15,15 @@ use lib.Ieee.Exact.{HasValue}
 use Rattle.series.specs.Exp.{Step, Within}
 use Rattle.series.proofs.Cuts.{lt-or-ge}
 use Rattle.series.proofs.Value.{units, value-pos, packed-units}
-use Rattle.series.proofs.Two.{TwoLe, TwoGe, two-le-mono, two-ge-mono, two-le-weaken, two-ge-weaken, two-le-mul, two-ge-mul, two-ge-quot, two-ge-one, two-le-up, two-ge-up, two-le-whole, two-ge-whole}
+use Rattle.series.proofs.Two.{TwoLe, TwoGe, two-le-mono, two-ge-mono, two-le-weaken, two-ge-weaken, two-le-mul}
+use Rattle.series.proofs.Two.{two-ge-mul, two-ge-quot, two-ge-one, two-le-up, two-ge-up, two-le-whole, two-ge-whole}
 use Rattle.series.proofs.Two as Two
 use Rattle.elementary.specs.Power.{exp2Of, exp2Bits}
-use Rattle.elementary.proofs.exp2.Digits.{digits, digits-low, digits-high, digits-ge, digits-le, digits-one, lesser, lesser-low, lesser-high, lesser-ge, lesser-le, width}
+use Rattle.elementary.proofs.exp2.Digits.{digits, digits-low, digits-high, digits-ge, digits-le, digits-one}
+use Rattle.elementary.proofs.exp2.Digits.{lesser, lesser-low, lesser-high, lesser-ge, lesser-le, width}
 
--- ---- the cases of exp2Bits: 36028522141057024 is 2^55 - 2^38, 36028797018963968 is 2^55, 36168434995691520 is 2^55 + 254 * 2^39
+-- ---- the cases of exp2Bits: 36028522141057024 is 2^55 - 2^38, 36028797018963968 is 2^55, 36168434995691520 is 2^55 +
+-- 254 * 2^39
 pub value-zero : (z : ℕ) → z < 2 ^ 55 - 2 ^ 38 → exp2Bits z ≡ 0
 unfolding exp2Bits
 value-zero z h = simp (lt-ltb z (2 ^ 55 - 2 ^ 38) h)

@@ -3,7 +3,8 @@ use mathlib.Core.Path.{_≡_, refl, sym, ap, ap₂, _∙_, subst}
 use mathlib.Core.Logic.{_⊎_, inl, inr}
 use mathlib.Core.Bool.{Bool, true, false, not, cond}
 use Prim.Native.Nat.{ℕ, zero, suc, _+_, _-_, _*_, _/_, _%_, _^_, _≤_, _<_}
-use native.Mathlib.Nat.{le-trans, le-of-eq, not-le-of-lt, zero-add, mul-comm, mul-assoc, mul-le-mul, mul-le-mul-left, mul-le-mul-right, le-of-mul-le-mul-right, eq-of-mul-eq-mul-right, pow-zero, pow-suc}
+use native.Mathlib.Nat.{le-trans, le-of-eq, not-le-of-lt, zero-add, mul-comm, mul-assoc, mul-le-mul, mul-le-mul-left}
+use native.Mathlib.Nat.{mul-le-mul-right, le-of-mul-le-mul-right, eq-of-mul-eq-mul-right, pow-zero, pow-suc}
 use native.Mathlib.Omega.{arith}
 use lib.Dec.{ltb, lit<, lit≤}
 use lib.Pow.{pow-pos, pow-add, pow-mono}
@@ -14,7 +15,8 @@ use lib.Ieee.Positive.{num, den, den-pos}
 use Rattle.series.proofs.Cuts.{lt-or-ge}
 use Rattle.series.proofs.Value.{units}
 use Rattle.series.proofs.Two.{TwoLe, TwoGe}
-use Rattle.elementary.specs.Power.{normalized, absDiff, exp2Bits, squares, fineLog2, fineArg, squared, largeArg, largeBits}
+use Rattle.elementary.specs.Power.{normalized, absDiff, exp2Bits, squares, fineLog2, fineArg, squared, largeArg}
+use Rattle.elementary.specs.Power.{largeBits}
 use Rattle.elementary.specs.Accuracy.{signOf, RatioGe, RatioLe, PowGe, PowLe}
 use Rattle.elementary.proofs.Common.{infinity-is, zero-is, sign-is, fraction-is}
 use Rattle.elementary.proofs.ln.Parts.{Sub, sub32}
@@ -27,8 +29,10 @@ use Rattle.elementary.proofs.power.Shown as S
 use Rattle.elementary.proofs.large.Squaring.{State, Result, run}
 use Rattle.elementary.proofs.large.Squaring as Q
 use Rattle.elementary.proofs.large.Log.{power-low, power-high, fine-range}
-use Rattle.elementary.proofs.large.Ends.{ge-of-squares, le-of-squares, above-ge, above-le, below-ge, below-le, four-times}
-use Rattle.elementary.proofs.large.Cases.{squared-1, squared-2, squared-3, squared-4, squared-5, arg-low, arg-mid, arg-high}
+use Rattle.elementary.proofs.large.Ends.{ge-of-squares, le-of-squares, above-ge, above-le, below-ge, below-le}
+use Rattle.elementary.proofs.large.Ends.{four-times}
+use Rattle.elementary.proofs.large.Cases.{squared-1, squared-2, squared-3, squared-4, squared-5, arg-low}
+use Rattle.elementary.proofs.large.Cases.{arg-mid, arg-high}
 
 -- the product, for |y| = n / 2^17
 sized : (n g : ℕ) → Sized n (2 ^ 17) g (n * g / 2 ^ 13)

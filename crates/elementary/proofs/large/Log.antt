@@ -2,14 +2,16 @@
 use mathlib.Core.Path.{_≡_, refl, sym, ap, _∙_, subst}
 use mathlib.Core.Logic.{_⊎_, inl, inr}
 use Prim.Native.Nat.{ℕ, suc, _+_, _-_, _*_, _/_, _%_, _^_, _≤_, _<_}
-use native.Mathlib.Nat.{le-trans, le-of-eq, lt-of-lt-of-le, mul-comm, mul-assoc, mul-left-comm, mul-le-mul-left, mul-le-mul-right, mul-lt-mul-of-pos-right, le-of-mul-le-mul-right}
+use native.Mathlib.Nat.{le-trans, le-of-eq, lt-of-lt-of-le, mul-comm, mul-assoc, mul-left-comm, mul-le-mul-left}
+use native.Mathlib.Nat.{mul-le-mul-right, mul-lt-mul-of-pos-right, le-of-mul-le-mul-right}
 use native.Mathlib.Omega.{arith}
 use lib.Dec.{lit<, lit≤}
 use lib.Pow.{pow-pos, pow-add, pow-mono}
 use lib.Count.{leadingZeros, leading-top}
 use Rattle.series.specs.Exp.{sum, scale, ln2}
 use Rattle.series.proofs.Cuts.{lt-or-ge}
-use Rattle.series.proofs.Two.{TwoLe, TwoGe, two-le-mono, two-ge-mono, two-le-weaken, two-ge-weaken, two-le-mul, two-ge-mul, two-le-whole, two-ge-whole, two-ge-exp, two-cut, ln2-le}
+use Rattle.series.proofs.Two.{TwoLe, TwoGe, two-le-mono, two-ge-mono, two-le-weaken, two-ge-weaken, two-le-mul}
+use Rattle.series.proofs.Two.{two-ge-mul, two-le-whole, two-ge-whole, two-ge-exp, two-cut, ln2-le}
 use Rattle.elementary.specs.Power.{fineLog2At, fineLog2}
 use Rattle.elementary.proofs.log2.Law.{floor}
 use Rattle.elementary.proofs.log2.Fine.{fine-below, fine-above}

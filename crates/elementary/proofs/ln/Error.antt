@@ -28,7 +28,8 @@ from-right a g c t h =
     let z = leb (a * scale (2 ^ 52) 22) (c * sum (t + g) (2 ^ 52) 22) in
     let l : t ≤ 2 ^ 52 = leb→le t (2 ^ 52) (both-left x (both y z) h) in (
       l,
-      le-by t (2 ^ 52) a c 22 (lit< tt) (omega arith) (leb→le (c * (sum t (2 ^ 52) 22 + t ^ 22)) (a * scale (2 ^ 52) 22) (both-left y z (both-right x (both y z) h))),
+      le-by t (2 ^ 52) a c 22 (lit< tt) (omega arith) (leb→le (c * (sum t (2 ^ 52) 22 + t ^ 22)) (a * scale (2 ^ 52) 22)
+          (both-left y z (both-right x (both y z) h))),
       (22, leb→le (a * scale (2 ^ 52) 22) (c * sum (t + g) (2 ^ 52) 22) (both-right y z (both-right x (both y z) h))),
     )
 
@@ -37,7 +38,11 @@ between v w a b c = both (leb v (a * c)) (leb (b * c) w)
 
 from-between : (v w a b c : ℕ) → T (between v w a b c) → (v ≤ a * c) × (b * c ≤ w)
 unfolding between
-from-between v w a b c h = (leb→le v (a * c) (both-left (leb v (a * c)) (leb (b * c) w) h), leb→le (b * c) w (both-right (leb v (a * c)) (leb (b * c) w) h))
+from-between v w a b c h = (
+  leb→le v (a * c) (both-left (leb v (a * c)) (leb (b * c) w) h),
+  leb→le (b * c) w
+      (both-right (leb v (a * c)) (leb (b * c) w) h),
+)
 
 -- the parts of an entry
 abbrev pub c-of : ℕ → ℕ
@@ -64,13 +69,15 @@ fits1 i e = between (2 ^ 38) 277025390592 ((128 + i) * 2 ^ 16) ((129 + i) * 2 ^ 
 abbrev fits2 : ℕ → ℕ → Bool
 fits2 j e = between (2 ^ 55) 36031270685245440 (2 ^ 38 + j * 2 ^ 24) (2 ^ 38 + (j + 1) * 2 ^ 24) (e % 2 ^ 18)
 
-pub log-entry : (i : ℕ) → i < 128 → (l-of i ≤ 2 ^ 52) × ExpLe (l-of i) (2 ^ 52) 32768 (c-of i) × ExpGe (l-of i + 32) (2 ^ 52) 32768 (c-of i)
+pub log-entry : (i : ℕ) → i < 128 → (l-of i ≤ 2 ^ 52) × ExpLe (l-of i) (2 ^ 52) 32768 (c-of i) × ExpGe (l-of i + 32)
+    (2 ^ 52) 32768 (c-of i)
 log-entry i h = from-right 32768 32 (c-of i) (l-of i) (go i h)
   where
     go : (i : ℕ) → i < 128 → T (right1 i (getD first i 0))
     go i h = unfold right first in at right1 first tt i h
 
-pub log2-entry : (j : ℕ) → j < 128 → (l2-of j ≤ 2 ^ 52) × ExpLe (l2-of j) (2 ^ 52) (2 ^ 17) (c2-of j) × ExpGe (l2-of j + 1) (2 ^ 52) (2 ^ 17) (c2-of j)
+pub log2-entry : (j : ℕ) → j < 128 → (l2-of j ≤ 2 ^ 52) × ExpLe (l2-of j) (2 ^ 52) (2 ^ 17) (c2-of j)
+    × ExpGe (l2-of j + 1) (2 ^ 52) (2 ^ 17) (c2-of j)
 log2-entry j h = from-right (2 ^ 17) 1 (c2-of j) (l2-of j) (go j h)
   where
     go : (j : ℕ) → j < 128 → T (right2 j (getD second j 0))
@@ -105,7 +112,8 @@ small-is : (d : ℕ) → lnSmall d ≡ d - square d
 unfolding lnSmall
 small-is d = refl
 
-module _ (d e p : ℕ) (s : p + e ≡ d) (D : d ≤ 2415689728) (lo : d * d ≤ e * 2 ^ 46) (hi : e * 2 ^ 46 ≤ d * d + 70368744177663) where
+module _ (d e p : ℕ) (s : p + e ≡ d) (D : d ≤ 2415689728) (lo : d * d ≤ e * 2 ^ 46)
+    (hi : e * 2 ^ 46 ≤ d * d + 70368744177663) where
   by-d : p * d + e * d ≡ d * d
   by-d = omega (arith, ap (λ (z : ℕ). z * d) s)
 
@@ -137,17 +145,20 @@ module _ (d e p : ℕ) (s : p + e ≡ d) (D : d ≤ 2415689728) (lo : d * d ≤ 
       key : 2 ^ 45 * 2 * (d + 1) ≤ 2 ^ 45 * 2 * (p + 6) + (d + 1) * (p + 6)
       key = last (bound (mul-le-mul-right d e-small)) by-d
         where
-          last : e * d ≤ 2 ^ 48 → p * d + e * d ≡ d * d → 2 ^ 45 * 2 * (d + 1) ≤ 2 ^ 45 * 2 * (p + 6) + (d + 1) * (p + 6)
+          last : e * d ≤ 2 ^ 48 → p * d + e * d ≡ d * d
+              → 2 ^ 45 * 2 * (d + 1) ≤ 2 ^ 45 * 2 * (p + 6) + (d + 1) * (p + 6)
           last k b = omega arith
 
       cross : (q D P f : ℕ) → f + P ≡ q * 2 → q * 2 * D ≤ q * 2 * P + D * P → (q + D) * f ≤ (q * 2 + P) * q
       cross q D P f F k = omega (arith, ap (λ (z : ℕ). q * z) F, ap (λ (z : ℕ). D * z) F)
 
 small-le : (d : ℕ) → d ≤ 2415689728 → ExpLe (lnSmall d) (2 ^ 45) (2 ^ 45 + d) (2 ^ 45)
-small-le d h = rw (small-is d) (less d (square d) (d - square d) (omega (arith, square-le d h)) h (omega arith) (omega arith))
+small-le d h = rw (small-is d) (less d (square d) (d - square d) (omega (arith, square-le d h)) h (omega arith)
+    (omega arith))
 
 small-ge : (d : ℕ) → d ≤ 2415689728 → ExpGe (lnSmall d + 6 + 4) (2 ^ 45) (2 ^ 45 + (d + 1)) (2 ^ 45)
-small-ge d h = rw (small-is d) (more d (square d) (d - square d) (omega (arith, square-le d h)) h (omega arith) (omega arith))
+small-ge d h = rw (small-is d) (more d (square d) (d - square d) (omega (arith, square-le d h)) h (omega arith)
+    (omega arith))
 
 pub small-lt : (d : ℕ) → d ≤ 2415689728 → lnSmall d ≤ 2415689728
 small-lt d h = rw (small-is d) (omega arith)
@@ -160,7 +171,8 @@ module _ (t j : ℕ) (J : j < 128) (lo : 2 ^ 38 + j * 2 ^ 24 ≤ t) (hi : t ≤ 
   pub product : (2 ^ 55 ≤ t * c2-of j) × (t * c2-of j ≤ 36031270685245440)
   product =
       let c = c2-of j in
-      let r = from-between (2 ^ 55) 36031270685245440 (2 ^ 38 + j * 2 ^ 24) (2 ^ 38 + (j + 1) * 2 ^ 24) c (recip2-entry j J) in
+      let r = from-between (2 ^ 55) 36031270685245440 (2 ^ 38 + j * 2 ^ 24) (2 ^ 38 + (j + 1) * 2 ^ 24) c
+      (recip2-entry j J) in
       (le-trans (r .0) (mul-le-mul-right c lo), le-trans (mul-le-mul-right c hi) (r .1))
 
   pub D-le : D-of t j ≤ 2415689728
@@ -178,7 +190,8 @@ module _ (t j : ℕ) (J : j < 128) (lo : 2 ^ 38 + j * 2 ^ 24 ≤ t) (hi : t ≤ 
       let c = c2-of j in
       let d = D-of t j in
       let p = lnSmall d in
-      le-weaken (l2-of j + p * 128) (2 ^ 52) (2 ^ 17 * (2 ^ 45 + d)) (c * 2 ^ 45) t (2 ^ 38) (mul-pos c-pos (lit< tt)) (omega (arith, product))
+      le-weaken (l2-of j + p * 128) (2 ^ 52) (2 ^ 17 * (2 ^ 45 + d)) (c * 2 ^ 45) t (2 ^ 38) (mul-pos c-pos (lit< tt))
+      (omega (arith, product))
       (le-mul (2 ^ 52) (l2-of j) (p * 128) (2 ^ 17) c (2 ^ 45 + d) (2 ^ 45) (lit< tt) (log2-entry j J .1)
       (le-same p (2 ^ 45) (p * 128) (2 ^ 52) (2 ^ 45 + d) (2 ^ 45) (lit< tt) (widen p) (small-le d D-le)))
 
@@ -189,9 +202,12 @@ module _ (t j : ℕ) (J : j < 128) (lo : 2 ^ 38 + j * 2 ^ 24 ≤ t) (hi : t ≤ 
       let d = D-of t j in
       let p = lnSmall d in
       ge-mono (l2-of j + 1 + (p + 6 + 4) * 128) (l2-of j + p * 128 + 1281) (2 ^ 52) t (2 ^ 38) (omega arith)
-      (ge-weaken (l2-of j + 1 + (p + 6 + 4) * 128) (2 ^ 52) (2 ^ 17 * (2 ^ 45 + (d + 1))) (c * 2 ^ 45) t (2 ^ 38) (mul-pos c-pos (lit< tt)) (omega (arith, product))
-      (ge-mul (2 ^ 52) (l2-of j + 1) ((p + 6 + 4) * 128) (2 ^ 17) c (2 ^ 45 + (d + 1)) (2 ^ 45) (lit< tt) (log2-entry j J .2)
-      (ge-same (p + 6 + 4) (2 ^ 45) ((p + 6 + 4) * 128) (2 ^ 52) (2 ^ 45 + (d + 1)) (2 ^ 45) (lit< tt) (widen (p + 6 + 4)) (small-ge d D-le))))
+      (ge-weaken (l2-of j + 1 + (p + 6 + 4) * 128) (2 ^ 52) (2 ^ 17 * (2 ^ 45 + (d + 1))) (c * 2 ^ 45) t (2 ^ 38)
+      (mul-pos c-pos (lit< tt)) (omega (arith, product))
+      (ge-mul (2 ^ 52) (l2-of j + 1) ((p + 6 + 4) * 128) (2 ^ 17) c (2 ^ 45 + (d + 1)) (2 ^ 45) (lit< tt)
+      (log2-entry j J .2)
+      (ge-same (p + 6 + 4) (2 ^ 45) ((p + 6 + 4) * 128) (2 ^ 52) (2 ^ 45 + (d + 1)) (2 ^ 45) (lit< tt)
+      (widen (p + 6 + 4)) (small-ge d D-le))))
 
   pub rest-lt : lnRest t j ≤ 2 ^ 53
   unfolding lnRest
@@ -243,7 +259,8 @@ module _ (m : ℕ) (lo : 2 ^ 23 ≤ m) (hi : m < 2 ^ 24) where
       let L = l-of (i-of m) in
       let R = lnRest (t-of m) (j-of m) in
       le-weaken (L + R) (2 ^ 52) (32768 * (m * c)) (c * 2 ^ 38) m (2 ^ 23) (mul-pos recip-pos (lit< tt)) (omega arith)
-      (le-mul (2 ^ 52) L R 32768 c (m * c) (2 ^ 38) (lit< tt) (log-entry (i-of m) i-lt .1) (rest-le (t-of m) (j-of m) j-lt j-lo j-hi))
+      (le-mul (2 ^ 52) L R 32768 c (m * c) (2 ^ 38) (lit< tt) (log-entry (i-of m) i-lt .1)
+      (rest-le (t-of m) (j-of m) j-lt j-lo j-hi))
 
   pub lnMant-ge : ExpGe (lnMant m + 1320) (2 ^ 52) m (2 ^ 23)
   unfolding lnMant
@@ -252,5 +269,7 @@ module _ (m : ℕ) (lo : 2 ^ 23 ≤ m) (hi : m < 2 ^ 24) where
       let L = l-of (i-of m) in
       let R = lnRest (t-of m) (j-of m) in
       ge-mono (L + 32 + (R + 1281)) (L + R + 1320) (2 ^ 52) m (2 ^ 23) (omega arith)
-      (ge-weaken (L + 32 + (R + 1281)) (2 ^ 52) (32768 * (m * c)) (c * 2 ^ 38) m (2 ^ 23) (mul-pos recip-pos (lit< tt)) (omega arith)
-      (ge-mul (2 ^ 52) (L + 32) (R + 1281) 32768 c (m * c) (2 ^ 38) (lit< tt) (log-entry (i-of m) i-lt .2) (rest-ge (t-of m) (j-of m) j-lt j-lo j-hi)))
+      (ge-weaken (L + 32 + (R + 1281)) (2 ^ 52) (32768 * (m * c)) (c * 2 ^ 38) m (2 ^ 23) (mul-pos recip-pos (lit< tt))
+      (omega arith)
+      (ge-mul (2 ^ 52) (L + 32) (R + 1281) 32768 c (m * c) (2 ^ 38) (lit< tt) (log-entry (i-of m) i-lt .2)
+      (rest-ge (t-of m) (j-of m) j-lt j-lo j-hi)))

@@ -9,7 +9,8 @@ use lib.IntN.{pos}
 use lib.Ieee.{Float, nan, inf, fin, binary32, isNan, ofBits, toBits, fits}
 use lib.Ieee.Bits.{ofBits-toBits, toBits-lt, cond-no}
 use Rattle.elementary.proofs.Common.{number-of-bits}
-use Rattle.elementary.specs.Ln.{lnMant, exponent, significand, lnWide, lnFixed, lnSize, rounded, lnRounded, lnAt, lnOf}
+use Rattle.elementary.specs.Ln.{lnMant, exponent, significand, lnWide, lnFixed, lnSize, rounded, lnRounded, lnAt}
+use Rattle.elementary.specs.Ln.{lnOf}
 use Rattle.elementary.specs.Accuracy.{WithinLn, IsLn}
 use Rattle.elementary.proofs.ln.Fixed.{lnMant-lt}
 use Rattle.elementary.proofs.ln.Rounding.{near-up, near-down, rounded-lt, size-lt, sign-mod}
@@ -19,11 +20,15 @@ fixed-is : (b : ℕ) → lnFixed b ≡ exponent b * 3121657384082679 + lnMant (s
 unfolding lnFixed lnWide
 fixed-is b = refl
 
-near-of : (x : Float) (b : ℕ) → x ≡ ofBits binary32 b → 0 < b → b < 0x7F800000 → WithinLn x (ofBits binary32 (lnRounded (lnFixed b)))
-near-of x b e p h = rw (fixed-is b) (at-parts x (λ n m. WithinLn x (ofBits binary32 (lnRounded (n * 3121657384082679 + lnMant m)))) (λ u n m up v lo hi. near-up x u n m up v lo hi) (λ u n m up v lo hi. near-down x u n m up v lo hi) b e p h)
+near-of : (x : Float) (b : ℕ) → x ≡ ofBits binary32 b → 0 < b → b < 0x7F800000
+    → WithinLn x (ofBits binary32 (lnRounded (lnFixed b)))
+near-of x b e p h = rw (fixed-is b)
+    (at-parts x (λ n m. WithinLn x (ofBits binary32 (lnRounded (n * 3121657384082679 + lnMant m))))
+    (λ u n m up v lo hi. near-up x u n m up v lo hi) (λ u n m up v lo hi. near-down x u n m up v lo hi) b e p h)
 
 -- ---- what the code's proofs ask
-pub range-of : {b n m : ℕ} → 0 < b → b < 0x7F800000 → n ≡ exponent b → m ≡ significand b → (n ≤ 286) × (2 ^ 23 ≤ m) × (m < 2 ^ 24)
+pub range-of : {b n m : ℕ} → 0 < b → b < 0x7F800000 → n ≡ exponent b → m ≡ significand b
+    → (n ≤ 286) × (2 ^ 23 ≤ m) × (m < 2 ^ 24)
 range-of {b = b} p h e f = let r = range b p h in rw (e, f) (r .most, r .low, r .high)
 
 pub fixed-of : (b n m : ℕ) {w : ℕ} → w ≡ lnWide n m → n ≡ exponent b → m ≡ significand b → w ≡ lnFixed b
@@ -31,11 +36,13 @@ unfolding lnFixed
 fixed-of b n m g e f = g ∙ ap₂ lnWide e f
 
 pub fixed-lt : (b : ℕ) → 0 < b → b < 0x7F800000 → lnFixed b < 900000000000000000
-fixed-lt b p h = let r = range b p h in rw (fixed-is b) (omega (arith, r .most, lnMant-lt (significand b) (r .low) (r .high)))
+fixed-lt b p h = let r = range b p h in rw (fixed-is b)
+    (omega (arith, r .most, lnMant-lt (significand b) (r .low) (r .high)))
 
 -- lnFixed is not just below 159 ln 2
 pub fixed-gap : (b : ℕ) → 0 < b → b < 0x7F800000 → lnFixed b < 496343524069145961 → lnFixed b ≤ 496343524069144641
-fixed-gap b p h = let r = range b p h in rw (fixed-is b) (λ l. omega (arith, l, lnMant-lt (significand b) (r .low) (r .high)))
+fixed-gap b p h = let r = range b p h in rw (fixed-is b)
+    (λ l. omega (arith, l, lnMant-lt (significand b) (r .low) (r .high)))
 
 pub rounded-mod : (w : ℕ) → w < 2 ^ 64 → lnRounded w % 2 ^ 31 ≤ 0x7F800000
 unfolding lnRounded
@@ -80,10 +87,13 @@ ln-law x f =
     record {
       of-nan = of-nan x;
       at-zero = λ n z. of-x x n ∙ at-zero b z;
-      below = λ n h. of-x x n ∙ at-rest b (λ (e : b % 2 ^ 31 ≡ 0). beyond b top h e) (omega arith) (λ (e : b ≡ 0x7F800000). apart b h e);
+      below = λ n h. of-x x n ∙ at-rest b (λ (e : b % 2 ^ 31 ≡ 0). beyond b top h e) (omega arith)
+          (λ (e : b ≡ 0x7F800000). apart b h e);
       at-one = λ (z : b ≡ 0x3F800000). of-x x (number-of-bits x (omega arith)) ∙ ap lnAt z ∙ at-one;
       at-infinity = λ (z : b ≡ 0x7F800000). of-x x (number-of-bits x (omega arith)) ∙ ap lnAt z ∙ at-infinity;
-      near = λ (p : 0 < b) (h : b < 0x7F800000). subst (WithinLn x) (sym (of-x x (number-of-bits x (omega arith)) ∙ at-near b (λ (e : b % 2 ^ 31 ≡ 0). above b p h e) h)) (near-of x b e p h);
+      near = λ (p : 0 < b) (h : b < 0x7F800000). subst (WithinLn x)
+          (sym (of-x x (number-of-bits x (omega arith)) ∙ at-near b (λ (e : b % 2 ^ 31 ≡ 0). above b p h e) h))
+          (near-of x b e p h);
     }
   where
     beyond : (b : ℕ) → b < 2 ^ 32 → 2 ^ 31 < b → b % 2 ^ 31 ≡ 0 → ⊥

@@ -3,7 +3,8 @@ use mathlib.Core.Path.{_≡_, sym, ap, _∙_, subst}
 use mathlib.Core.Logic.{_⊎_, inl, inr}
 use mathlib.Core.Bool.{false}
 use Prim.Native.Nat.{ℕ, suc, _+_, _-_, _*_, _/_, _%_, _^_, _≤_, _<_}
-use native.Mathlib.Nat.{le-trans, le-of-eq, mul-pos, mul-le-mul-right, mul-lt-mul-of-pos-right, lt-of-lt-of-le, mod-eq-of-lt, div-eq-of-lt}
+use native.Mathlib.Nat.{le-trans, le-of-eq, mul-pos, mul-le-mul-right, mul-lt-mul-of-pos-right, lt-of-lt-of-le}
+use native.Mathlib.Nat.{mod-eq-of-lt, div-eq-of-lt}
 use native.Mathlib.Omega.{arith}
 use borrow.Author.Tests.{lt-ltb, le-ltb}
 use lib.Dec.{lit<, lit≤}
@@ -72,15 +73,29 @@ range b p h = go (lt-or-ge b (2 ^ 23))
     go : (b < 2 ^ 23) ⊎ (2 ^ 23 ≤ b) → Range (exponent b) (significand b)
     go (inl l) =
         let s = sub32 b p l in
-        record { least = rw (exponent-sub b l) (omega arith); most = rw (exponent-sub b l) (omega arith); low = rw (significand-sub b l) (s .low); high = rw (significand-sub b l) (s .high) }
-    go (inr l) = record { least = rw (exponent-normal b l) (omega arith); most = rw (exponent-normal b l) (omega arith); low = rw (significand-normal b l) (omega arith); high = rw (significand-normal b l) (omega arith) }
+        record {
+          least = rw (exponent-sub b l) (omega arith);
+          most = rw (exponent-sub b l) (omega arith);
+          low = rw
+              (significand-sub b l) (s .low);
+          high = rw (significand-sub b l) (s .high);
+        }
+    go (inr l) = record {
+      least = rw (exponent-normal b l) (omega arith);
+      most = rw (exponent-normal b l) (omega arith);
+      low = rw (significand-normal b l) (omega arith);
+      high = rw (significand-normal b l) (omega arith);
+    }
 
 -- x = m / 2^23 * 2^(n - 159): what holds at every such n and m, from 159 up and below, holds of x's own
 module _ (x : Float) (G : ℕ → ℕ → Type 0)
-    (up-case : (u n m : ℕ) → 0 < u → HasValue x false u (2 ^ 149) → 2 ^ 23 ≤ m → m < 2 ^ 24 → 159 ≤ n → n ≤ 286 → u * 2 ^ 23 ≡ 2 ^ (n - 159) * m * 2 ^ 149 → G n m)
-    (down-case : (u n m : ℕ) → 0 < u → HasValue x false u (2 ^ 149) → 2 ^ 23 ≤ m → m < 2 ^ 24 → n < 159 → u * (2 ^ (159 - n) * 2 ^ 23) ≡ m * 2 ^ 149 → G n m) where
+    (up-case : (u n m : ℕ) → 0 < u → HasValue x false u (2 ^ 149) → 2 ^ 23 ≤ m → m < 2 ^ 24 → 159 ≤ n → n ≤ 286
+    → u * 2 ^ 23 ≡ 2 ^ (n - 159) * m * 2 ^ 149 → G n m)
+    (down-case : (u n m : ℕ) → 0 < u → HasValue x false u (2 ^ 149) → 2 ^ 23 ≤ m → m < 2 ^ 24 → n < 159
+    → u * (2 ^ (159 - n) * 2 ^ 23) ≡ m * 2 ^ 149 → G n m) where
   -- a normal x: f + 1 is the field, and t the digits
-  normal : (f t : ℕ) → f < 254 → t < 2 ^ 23 → HasValue x false ((2 ^ 23 + t) * 2 ^ f) (2 ^ 149) → G (32 + suc f) (t + 2 ^ 23)
+  normal : (f t : ℕ) → f < 254 → t < 2 ^ 23 → HasValue x false ((2 ^ 23 + t) * 2 ^ f) (2 ^ 149)
+      → G (32 + suc f) (t + 2 ^ 23)
   normal f t F D h = go (lt-or-ge (32 + suc f) 159)
     where
       up : 0 < (2 ^ 23 + t) * 2 ^ f
@@ -95,12 +110,14 @@ module _ (x : Float) (G : ℕ → ℕ → Type 0)
       go : (32 + suc f < 159) ⊎ (159 ≤ 32 + suc f) → G (32 + suc f) (t + 2 ^ 23)
       go (inl l) =
           let e : (159 - (32 + suc f)) + f ≡ 126 = omega arith in
-          let p : 2 ^ (159 - (32 + suc f)) * 2 ^ f ≡ 2 ^ 126 = sym (pow-add 2 (159 - (32 + suc f)) f) ∙ ap (λ (i : ℕ). 2 ^ i) e in
+          let p : 2 ^ (159 - (32 + suc f)) * 2 ^ f ≡ 2 ^ 126 = sym (pow-add 2 (159 - (32 + suc f)) f)
+          ∙ ap (λ (i : ℕ). 2 ^ i) e in
           down-case ((2 ^ 23 + t) * 2 ^ f) (32 + suc f) (t + 2 ^ 23) up h (omega arith) (omega arith) l
           (under (2 ^ (159 - (32 + suc f))) (2 ^ f) ∙ ap (λ (i : ℕ). (t + 2 ^ 23) * (i * 2 ^ 23)) p)
       go (inr l) =
           let e : f ≡ (32 + suc f - 159) + 126 = omega arith in
-          let p : 2 ^ f ≡ 2 ^ (32 + suc f - 159) * 2 ^ 126 = ap (λ (i : ℕ). 2 ^ i) e ∙ pow-add 2 (32 + suc f - 159) 126 in
+          let p : 2 ^ f ≡ 2 ^ (32 + suc f - 159) * 2 ^ 126 = ap (λ (i : ℕ). 2 ^ i) e ∙ pow-add 2 (32 + suc f - 159) 126
+          in
           up-case ((2 ^ 23 + t) * 2 ^ f) (32 + suc f) (t + 2 ^ 23) up h (omega arith) (omega arith) l (omega arith)
           (ap (λ (i : ℕ). (2 ^ 23 + t) * i * 2 ^ 23) p ∙ above (2 ^ (32 + suc f - 159)) (2 ^ 126))
 
@@ -146,15 +163,19 @@ module _ (x : Float) (G : ℕ → ℕ → Type 0)
           regroup : (k g : ℕ) → b * 1 * (k * g * 2 ^ 23) ≡ b * k * (g * 2 ^ 23)
           regroup k g = omega arith
 
-  value : (b : ℕ) → x ≡ ofBits binary32 b → b < 0x7F800000 → HasValue x false (units (b / 2 ^ 23) (b % 2 ^ 23)) (2 ^ 149)
-  value b e h = subst (λ (y : Float). HasValue y false (units (b / 2 ^ 23) (b % 2 ^ 23)) (2 ^ 149)) (sym e) (value-pos b h)
+  value : (b : ℕ) → x ≡ ofBits binary32 b → b < 0x7F800000 → HasValue x false (units (b / 2 ^ 23) (b % 2 ^ 23))
+      (2 ^ 149)
+  value b e h = subst (λ (y : Float). HasValue y false (units (b / 2 ^ 23) (b % 2 ^ 23)) (2 ^ 149)) (sym e)
+      (value-pos b h)
 
   pub at-parts : (b : ℕ) → x ≡ ofBits binary32 b → 0 < b → b < 0x7F800000 → G (exponent b) (significand b)
   at-parts b e p h = go (lt-or-ge b (2 ^ 23))
     where
       go : (b < 2 ^ 23) ⊎ (2 ^ 23 ≤ b) → G (exponent b) (significand b)
-      go (inl l) = rw (exponent-sub b l, significand-sub b l) (subnormal b p l (rw (div-eq-of-lt l, mod-eq-of-lt l) at (value b e h)))
+      go (inl l) = rw (exponent-sub b l, significand-sub b l)
+          (subnormal b p l (rw (div-eq-of-lt l, mod-eq-of-lt l) at (value b e h)))
       go (inr l) =
           let f = b / 2 ^ 23 - 1 in
           let F : b / 2 ^ 23 ≡ suc f = omega arith in
-          rw (exponent-normal b l, significand-normal b l, F) (normal f (b % 2 ^ 23) (omega arith) (omega arith) (rw F at (value b e h)))
+          rw (exponent-normal b l, significand-normal b l, F) (normal f (b % 2 ^ 23) (omega arith) (omega arith)
+          (rw F at (value b e h)))

@@ -3,7 +3,8 @@ use mathlib.Core.Path.{_≡_, refl, sym, ap, _∙_, subst}
 use mathlib.Core.Logic.{_⊎_, inl, inr}
 use mathlib.Core.Bool.{Bool, true, false, cond}
 use Prim.Native.Nat.{ℕ, suc, _+_, _-_, _*_, _/_, _%_, _^_, _≤_, _<_, zero-le}
-use native.Mathlib.Nat.{le-trans, le-of-eq, mul-le-mul-right, add-zero, add-sub-cancel, mul-lt-mul-of-pos-right, lt-of-lt-of-le, eq-zero-or-pos}
+use native.Mathlib.Nat.{le-trans, le-of-eq, mul-le-mul-right, add-zero, add-sub-cancel, mul-lt-mul-of-pos-right}
+use native.Mathlib.Nat.{lt-of-lt-of-le, eq-zero-or-pos}
 use native.Mathlib.Omega.{arith}
 use borrow.Author.Tests.{lt-ltb, le-ltb, ne-eqb}
 use lib.Dec.{T, ltb, lit<, lit≤}
@@ -63,7 +64,8 @@ round-low w z y h t e T =
     let b : w * (z * y) ≡ w * (h * 2 ^ 40) = ap (λ (i : ℕ). w * i) e in
     omega arith
 
-round-high : (w z y h t : ℕ) → z * y ≡ h * 2 ^ 40 → y + 3000 * h ≤ 2 * t → (w + 1500) * (h * 2 ^ 52) ≤ (m-of (w * z) * y + t) * 2 ^ 52
+round-high : (w z y h t : ℕ) → z * y ≡ h * 2 ^ 40 → y + 3000 * h ≤ 2 * t
+    → (w + 1500) * (h * 2 ^ 52) ≤ (m-of (w * z) * y + t) * 2 ^ 52
 unfolding m-of
 round-high w z y h t e T =
     let m = (w * z / 2 ^ 39 + 1) / 2 in
@@ -79,10 +81,12 @@ round-step w z y h e k =
     omega arith
 
 -- ---- a pattern with its sign
-signed : (s : Bool) (r : ℕ) → r < 0x7F800000 → HasValue (ofBits binary32 (r + cond s (2 ^ 31) 0)) s (units (r / 2 ^ 23) (r % 2 ^ 23)) (2 ^ 149)
+signed : (s : Bool) (r : ℕ) → r < 0x7F800000 → HasValue (ofBits binary32 (r + cond s (2 ^ 31) 0)) s
+    (units (r / 2 ^ 23) (r % 2 ^ 23)) (2 ^ 149)
 signed false r h = rw (add-zero r) (value-pos r h)
 signed true r h =
-    subst (λ (z : ℕ). HasValue (ofBits binary32 (r + 2 ^ 31)) true (units (z / 2 ^ 23) (z % 2 ^ 23)) (2 ^ 149)) (add-sub-cancel r (2 ^ 31))
+    subst (λ (z : ℕ). HasValue (ofBits binary32 (r + 2 ^ 31)) true (units (z / 2 ^ 23) (z % 2 ^ 23)) (2 ^ 149))
+    (add-sub-cancel r (2 ^ 31))
     (value-neg (r + 2 ^ 31) (omega arith) (omega arith))
 
 pub rounded-zero : rounded 0 ≡ 0
@@ -104,7 +108,8 @@ pub m-high : (W : ℕ) → W < 2 ^ 64 → m-of W ≤ 2 ^ 24
 unfolding m-of
 m-high W h = omega arith
 
-module _ (x : Float) (s : Bool) (u v w : ℕ) (up : 0 < u) (vp : 0 < v) (h : HasValue x false u v) (g : Ge s u v w (2 ^ 52)) (l : Le s u v (w + 1500) (2 ^ 52)) where
+module _ (x : Float) (s : Bool) (u v w : ℕ) (up : 0 < u) (vp : 0 < v) (h : HasValue x false u v)
+    (g : Ge s u v w (2 ^ 52)) (l : Le s u v (w + 1500) (2 ^ 52)) where
   near-zero : w ≡ 0 → WithinLn x (ofBits binary32 (0 + cond s (2 ^ 31) 0))
   near-zero e = record {
     sign = s;
@@ -113,8 +118,10 @@ module _ (x : Float) (s : Bool) (u v w : ℕ) (up : 0 < u) (vp : 0 < v) (h : Has
     near = record {
       units = 0 * 2 ^ 0;
       value = signed s 0 (lit< tt);
-      low = ge-float x u v up vp h s (0 - 2 ^ 109) (2 ^ 149) (ge-at s u v w (0 - 2 ^ 109) (2 ^ 149) (pow-pos 149) zero-le g);
-      high = le-float x u v up vp h s (0 + 2 ^ 109) (2 ^ 149) (le-at s u v (w + 1500) (0 + 2 ^ 109) (2 ^ 149) (pow-pos 149) (rw e (lit≤ tt)) l);
+      low = ge-float x u v up vp h s (0 - 2 ^ 109) (2 ^ 149) (ge-at s u v w (0 - 2 ^ 109) (2 ^ 149) (pow-pos 149)
+          zero-le g);
+      high = le-float x u v up vp h s (0 + 2 ^ 109) (2 ^ 149) (le-at s u v (w + 1500) (0 + 2 ^ 109) (2 ^ 149)
+          (pow-pos 149) (rw e (lit≤ tt)) l);
     };
   }
 
@@ -123,7 +130,8 @@ module _ (x : Float) (s : Bool) (u v w : ℕ) (up : 0 < u) (vp : 0 < v) (h : Has
       let top = leading-top 64 w W0 W1 in
       go (leadingZeros 64 w) (top .0) (top .1) (top .2) (top .3) (rounded-is w W0)
     where
-      go : (z j : ℕ) → z + suc j ≡ 64 → 2 ^ j ≤ w → w < 2 ^ suc j → rounded w ≡ (137 - z) * 2 ^ 23 + m-of (w * 2 ^ z) → WithinLn x (ofBits binary32 (rounded w + cond s (2 ^ 31) 0))
+      go : (z j : ℕ) → z + suc j ≡ 64 → 2 ^ j ≤ w → w < 2 ^ suc j → rounded w ≡ (137 - z) * 2 ^ 23 + m-of (w * 2 ^ z)
+          → WithinLn x (ofBits binary32 (rounded w + cond s (2 ^ 31) 0))
       go z j e lo hi is =
           let Z : ℕ = 2 ^ z in
           let Y : ℕ = 2 ^ (137 - z) in
@@ -136,9 +144,11 @@ module _ (x : Float) (s : Bool) (u v w : ℕ) (up : 0 < u) (vp : 0 < v) (h : Has
           let m = m-of W in
           let r = (137 - z) * 2 ^ 23 + m in
           let val : HasValue (ofBits binary32 (rounded w + cond s (2 ^ 31) 0)) s (m * Y) (2 ^ 149) =
-          rw is (subst (λ (i : ℕ). HasValue (ofBits binary32 (r + cond s (2 ^ 31) 0)) s i (2 ^ 149)) (packed-units (137 - z) m (m-low W W-lo) (m-high W W-hi))
+          rw is (subst (λ (i : ℕ). HasValue (ofBits binary32 (r + cond s (2 ^ 31) 0)) s i (2 ^ 149))
+          (packed-units (137 - z) m (m-low W W-lo) (m-high W W-hi))
           (signed s r (pattern z m (m-high W W-hi)))) in
-          let fin : (t : ℕ) → Y + 3000 * 2 ^ 97 ≤ 2 * t → (t ≡ 2 ^ 109) ⊎ (j : ℕ) × (t ≡ 2 ^ j) × Step (LnGe s x) j → WithinLn x (ofBits binary32 (rounded w + cond s (2 ^ 31) 0)) =
+          let fin : (t : ℕ) → Y + 3000 * 2 ^ 97 ≤ 2 * t → (t ≡ 2 ^ 109) ⊎ (j : ℕ) × (t ≡ 2 ^ j) × Step (LnGe s x) j
+          → WithinLn x (ofBits binary32 (rounded w + cond s (2 ^ 31) 0)) =
           λ t T S. record {
             sign = s;
             tolerance = t;
@@ -146,14 +156,22 @@ module _ (x : Float) (s : Bool) (u v w : ℕ) (up : 0 < u) (vp : 0 < v) (h : Has
             near = record {
               units = m * Y;
               value = val;
-              low = ge-float x u v up vp h s (m * Y - t) (2 ^ 149) (ge-at s u v w (m * Y - t) (2 ^ 149) (pow-pos 149) (round-low w Z Y (2 ^ 97) t ZY (less Y t (2 ^ 97) T)) g);
-              high = le-float x u v up vp h s (m * Y + t) (2 ^ 149) (le-at s u v (w + 1500) (m * Y + t) (2 ^ 149) (pow-pos 149) (round-high w Z Y (2 ^ 97) t ZY T) l);
+              low = ge-float x u v up vp h s (m * Y - t) (2 ^ 149) (ge-at s u v w (m * Y - t) (2 ^ 149) (pow-pos 149)
+                  (round-low w Z Y (2 ^ 97) t ZY (less Y t (2 ^ 97) T)) g);
+              high = le-float x u v up vp h s (m * Y + t) (2 ^ 149) (le-at s u v (w + 1500) (m * Y + t) (2 ^ 149)
+                  (pow-pos 149) (round-high w Z Y (2 ^ 97) t ZY T) l);
             };
           } in
           elim (lt-or-ge Y (2 ^ 109)) [
             | inl k ↦ fin (2 ^ 109) (small-y Y (2 ^ 97) k) (inl refl)
             | inr k ↦ fin Y (large-y Y (2 ^ 97) k)
-                (inr (137 - z, refl, inr (ge-float x u v up vp h s (2 ^ (23 + (137 - z))) (2 ^ 149) (rw (pow-add 2 23 (137 - z)) (ge-at s u v w (2 ^ 23 * Y) (2 ^ 149) (pow-pos 149) (round-step w Z Y (2 ^ 97) ZY W-lo) g)))))
+                (inr (
+                  137 - z,
+                  refl,
+                  inr (ge-float x u v up vp h s (2 ^ (23 + (137 - z))) (2 ^ 149)
+                      (rw (pow-add 2 23 (137 - z)) (ge-at s u v w (2 ^ 23 * Y) (2 ^ 149) (pow-pos 149)
+                      (round-step w Z Y (2 ^ 97) ZY W-lo) g))),
+                ))
           ]
         where
           sixty-three : (z j : ℕ) → z + suc j ≡ 64 → j + z ≡ 63
@@ -177,11 +195,13 @@ module _ (x : Float) (s : Bool) (u v w : ℕ) (up : 0 < u) (vp : 0 < v) (h : Has
           large-y : (y h : ℕ) → h * 4096 ≤ y → y + 3000 * h ≤ 2 * y
           large-y y h k = omega arith
 
-near-any : (x : Float) (s : Bool) (u v w : ℕ) → 0 < u → 0 < v → HasValue x false u v → Ge s u v w (2 ^ 52) → Le s u v (w + 1500) (2 ^ 52) → w < 2 ^ 64
+near-any : (x : Float) (s : Bool) (u v w : ℕ) → 0 < u → 0 < v → HasValue x false u v → Ge s u v w (2 ^ 52)
+    → Le s u v (w + 1500) (2 ^ 52) → w < 2 ^ 64
     → WithinLn x (ofBits binary32 (rounded w + cond s (2 ^ 31) 0))
 near-any x s u v w up vp h g l W1 =
     elim (eq-zero-or-pos w) [
-      | inl e ↦ subst (λ (i : ℕ). WithinLn x (ofBits binary32 (i + cond s (2 ^ 31) 0))) (sym (ap rounded e ∙ rounded-zero)) (near-zero x s u v w up vp h g l e)
+      | inl e ↦ subst (λ (i : ℕ). WithinLn x (ofBits binary32 (i + cond s (2 ^ 31) 0)))
+          (sym (ap rounded e ∙ rounded-zero)) (near-zero x s u v w up vp h g l e)
       | inr p ↦ near-rounded x s u v w up vp h g l p W1
     ]
 
@@ -195,24 +215,29 @@ unfolding lnRounded lnSize lnSign
 down-is w h = simp (lt-ltb w 496343524069145961 h)
 
 -- ---- x = u / 2^149 = m / 2^23 * 2^(n - 159)
-module _ (x : Float) (u n m : ℕ) (up : 0 < u) (h : HasValue x false u (2 ^ 149)) (lo : 2 ^ 23 ≤ m) (hi : m < 2 ^ 24) where
-  pub near-up : 159 ≤ n → n ≤ 286 → u * 2 ^ 23 ≡ 2 ^ (n - 159) * m * 2 ^ 149 → WithinLn x (ofBits binary32 (lnRounded (n * 3121657384082679 + lnMant m)))
-  near-up N N′ e =
-      let k = n - 159 in
-      let w = n * 3121657384082679 + lnMant m in
-      let E : w - 496343524069145961 ≡ k * 3121657384082679 + lnMant m = omega arith in
-      rw (up-is w (omega arith), E)
-      (near-any x false u (2 ^ 149) (k * 3121657384082679 + lnMant m) up (pow-pos 149) h (up-le m lo hi k u (2 ^ 149) e) (up-ge m lo hi k u (2 ^ 149) (omega arith) e) (omega (arith, lnMant-lt m lo hi)))
+module _ (x : Float) (u n m : ℕ) (up : 0 < u) (h : HasValue x false u (2 ^ 149)) (lo : 2 ^ 23 ≤ m) (hi : m < 2 ^ 24)
+  where
+    pub near-up : 159 ≤ n → n ≤ 286 → u * 2 ^ 23 ≡ 2 ^ (n - 159) * m * 2 ^ 149
+        → WithinLn x (ofBits binary32 (lnRounded (n * 3121657384082679 + lnMant m)))
+    near-up N N′ e =
+        let k = n - 159 in
+        let w = n * 3121657384082679 + lnMant m in
+        let E : w - 496343524069145961 ≡ k * 3121657384082679 + lnMant m = omega arith in
+        rw (up-is w (omega arith), E)
+        (near-any x false u (2 ^ 149) (k * 3121657384082679 + lnMant m) up (pow-pos 149) h (up-le m lo hi k u (2 ^ 149) e)
+        (up-ge m lo hi k u (2 ^ 149) (omega arith) e) (omega (arith, lnMant-lt m lo hi)))
 
-  pub near-down : n < 159 → u * (2 ^ (159 - n) * 2 ^ 23) ≡ m * 2 ^ 149 → WithinLn x (ofBits binary32 (lnRounded (n * 3121657384082679 + lnMant m)))
-  near-down N e =
-      let k = 159 - n in
-      let w = n * 3121657384082679 + lnMant m in
-      let t = 496343524069144641 - w in
-      let l = lnMant-lt m lo hi in
-      let E : t + (lnMant m + 1320) ≡ k * 3121657384082679 = omega arith in
-      rw (down-is w (omega arith))
-      (near-any x true u (2 ^ 149) t up (pow-pos 149) h (down-le m lo hi k t u (2 ^ 149) e E) (down-ge m lo hi k t u (2 ^ 149) (omega arith) e E) (omega arith))
+    pub near-down : n < 159 → u * (2 ^ (159 - n) * 2 ^ 23) ≡ m * 2 ^ 149
+        → WithinLn x (ofBits binary32 (lnRounded (n * 3121657384082679 + lnMant m)))
+    near-down N e =
+        let k = 159 - n in
+        let w = n * 3121657384082679 + lnMant m in
+        let t = 496343524069144641 - w in
+        let l = lnMant-lt m lo hi in
+        let E : t + (lnMant m + 1320) ≡ k * 3121657384082679 = omega arith in
+        rw (down-is w (omega arith))
+        (near-any x true u (2 ^ 149) t up (pow-pos 149) h (down-le m lo hi k t u (2 ^ 149) e E)
+        (down-ge m lo hi k t u (2 ^ 149) (omega arith) e E) (omega arith))
 
 -- ---- leading zeros
 pub top64 : (w : ℕ) → 0 < w → w < 2 ^ 64 → (leadingZeros 64 w ≤ 63) × (w * 2 ^ leadingZeros 64 w < 2 ^ 64)
@@ -230,7 +255,9 @@ pub rounded-lt : (w : ℕ) → w < 2 ^ 64 → rounded w < 0x7F800000
 rounded-lt w h =
     elim (eq-zero-or-pos w) [
       | inl e ↦ subst (λ (i : ℕ). i < 0x7F800000) (sym (ap rounded e ∙ rounded-zero)) (lit< tt)
-      | inr p ↦ subst (λ (i : ℕ). i < 0x7F800000) (sym (rounded-is w p)) (go (leadingZeros 64 w) (m-of (w * 2 ^ leadingZeros 64 w)) (m-high (w * 2 ^ leadingZeros 64 w) (top64 w p h .1)))
+      | inr p ↦ subst (λ (i : ℕ). i < 0x7F800000) (sym (rounded-is w p))
+          (go (leadingZeros 64 w) (m-of (w * 2 ^ leadingZeros 64 w))
+          (m-high (w * 2 ^ leadingZeros 64 w) (top64 w p h .1)))
     ]
   where
     go : (z m : ℕ) → m ≤ 2 ^ 24 → (137 - z) * 2 ^ 23 + m < 0x7F800000

@@ -7,7 +7,8 @@ use native.Mathlib.Omega.{arith}
 use lib.Dec.{lit<}
 use Rattle.series.specs.Exp.{sum}
 use Rattle.series.proofs.Cuts.{lt-or-ge}
-use Rattle.series.proofs.Two.{TwoLe, TwoGe, two-le-mono, two-ge-mono, two-le-weaken, two-ge-weaken, two-le-mul, two-ge-mul, two-le-up, two-ge-up, two-le-down, two-ge-down}
+use Rattle.series.proofs.Two.{TwoLe, TwoGe, two-le-mono, two-ge-mono, two-le-weaken, two-ge-weaken, two-le-mul}
+use Rattle.series.proofs.Two.{two-ge-mul, two-le-up, two-ge-up, two-le-down, two-ge-down}
 use Rattle.power_tables.specs.Tables.{height, slope, curvature, lineWord}
 use Rattle.power_tables.proofs.Rules.{height-rule}
 use Rattle.elementary.specs.Power.{fineLog2At}

@@ -5,7 +5,8 @@ use Prim.Native.Nat.{ℕ, _+_, _-_, _*_, _/_, _%_, _^_, _≤_, _<_}
 use native.Mathlib.Nat.{mul-pos, mul-le-mul, mul-le-mul-left, mul-le-mul-right, mod-lt, div-add-mod'}
 use native.Mathlib.Omega.{arith}
 use lib.Dec.{lit<}
-use Rattle.series.proofs.Two.{TwoLe, TwoGe, two-le-mono, two-ge-mono, two-le-weaken, two-ge-weaken, two-le-mul, two-ge-mul, two-le-up, two-ge-up, two-le-down, two-ge-down}
+use Rattle.series.proofs.Two.{TwoLe, TwoGe, two-le-mono, two-ge-mono, two-le-weaken, two-ge-weaken, two-le-mul}
+use Rattle.series.proofs.Two.{two-ge-mul, two-le-up, two-ge-up, two-le-down, two-ge-down}
 use Rattle.power_tables.specs.Tables.{height, heights, slope, curvature}
 use Rattle.power_tables.proofs.Rules.{height-rule}
 use Rattle.elementary.specs.Power.{log2At}

@@ -8,7 +8,8 @@ use native.Mathlib.Omega.{arith}
 use lib.Dec.{lit<, lit≤}
 use Rattle.series.specs.Exp.{sum, scale, ln2}
 use Rattle.series.proofs.Cuts.{lt-or-ge, le-below, ge-above}
-use Rattle.series.proofs.Two.{TwoLe, TwoGe, two-le-weaken, two-ge-weaken, two-ge-mul, two-le-quot, two-le-one, two-le-exp, two-ge-exp, ln2-le, ln2-ge}
+use Rattle.series.proofs.Two.{TwoLe, TwoGe, two-le-weaken, two-ge-weaken, two-ge-mul, two-le-quot, two-le-one}
+use Rattle.series.proofs.Two.{two-le-exp, two-ge-exp, ln2-le, ln2-ge}
 use Rattle.elementary.proofs.log2.Curve.{curve-le, curve-ge}
 
 -- 2^(3888119808 / 2^67) ≥ 1 + 2^-36, and 2^(12 / 2^35) ≥ 1 + 8.25 / 2^35

@@ -15,7 +15,8 @@ use lib.Ieee.Positive.{num, den, den-pos}
 use Rattle.series.proofs.Cuts.{lt-or-ge}
 use Rattle.series.proofs.Value.{units, value-pos}
 use Rattle.series.proofs.Two.{root, one-pow}
-use Rattle.elementary.specs.Power.{normalized, log2Of, argOf, exp2Bits, nearBits, squared, largeArg, largeBits, powBits}
+use Rattle.elementary.specs.Power.{normalized, log2Of, argOf, exp2Bits, nearBits, squared, largeArg, largeBits}
+use Rattle.elementary.specs.Power.{powBits}
 use Rattle.elementary.specs.Accuracy.{signOf, RatioGe, RatioLe, PowGe, PowLe, Finite}
 use Rattle.elementary.proofs.power.Shown.{Shown}
 use Rattle.elementary.proofs.exp2.Words.{exp2-le}

@@ -2,7 +2,8 @@
 -- exponents in order, what is below 2^(u / q) / 2^g is below x^y; the exponents are only compared, never taken.
 use mathlib.Core.Path.{_≡_, subst}
 use Prim.Native.Nat.{ℕ, _+_, _-_, _*_, _^_, _≤_, _<_}
-use native.Mathlib.Nat.{le-trans, le-of-eq, mul-comm, mul-le-mul, mul-le-mul-right, le-of-mul-le-mul-left, pow-le-pow-left}
+use native.Mathlib.Nat.{le-trans, le-of-eq, mul-comm, mul-le-mul, mul-le-mul-right, le-of-mul-le-mul-left}
+use native.Mathlib.Nat.{pow-le-pow-left}
 use native.Mathlib.Omega.{arith}
 use lib.Pow.{pow-pos, pow-add, pow-mono}
 use Rattle.series.proofs.Cuts.{mul-pow}

@@ -13,11 +13,13 @@ use lib.Ieee.{Float, binary32, ofBits}
 use lib.Ieee.Exact.{HasValue}
 use lib.Ieee.Positive.{num, den}
 use Rattle.series.proofs.Cuts.{lt-or-ge}
-use Rattle.series.proofs.Two.{TwoLe, TwoGe, two-le-mono, two-ge-mono, two-le-weaken, two-ge-weaken, two-le-mul, two-ge-mul, two-le-whole, two-ge-whole, two-cut}
+use Rattle.series.proofs.Two.{TwoLe, TwoGe, two-le-mono, two-ge-mono, two-le-weaken, two-ge-weaken, two-le-mul}
+use Rattle.series.proofs.Two.{two-ge-mul, two-le-whole, two-ge-whole, two-cut}
 use Rattle.elementary.specs.Ln.{exponent, significand}
 use Rattle.elementary.specs.Power.{normalized, log2At, log2Of}
 use Rattle.elementary.proofs.Common.{fraction-is}
-use Rattle.elementary.proofs.ln.Parts.{exponent-sub, exponent-normal, significand-sub, significand-normal, range, at-parts}
+use Rattle.elementary.proofs.ln.Parts.{exponent-sub, exponent-normal, significand-sub, significand-normal, range}
+use Rattle.elementary.proofs.ln.Parts.{at-parts}
 use Rattle.elementary.proofs.log2.Law.{significand-below, significand-above, log-zero}
 
 pub normalized-sub : (b : ℕ) → b < 2 ^ 23 → normalized

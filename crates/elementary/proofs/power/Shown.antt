@@ -3,7 +3,8 @@ use mathlib.Core.Path.{_≡_, sym, ap, _∙_, subst}
 use mathlib.Core.Logic.{_⊎_, inl, inr}
 use mathlib.Core.Bool.{Bool, true, false, not}
 use Prim.Native.Nat.{ℕ, zero, suc, _+_, _-_, _*_, _/_, _%_, _^_, _≤_, _<_}
-use native.Mathlib.Nat.{not-le-of-lt, mul-pos, mul-le-mul-left, mul-le-mul-right, le-of-mul-le-mul-right, one-le-pow, pow-le-pow-left}
+use native.Mathlib.Nat.{not-le-of-lt, mul-pos, mul-le-mul-left, mul-le-mul-right, le-of-mul-le-mul-right, one-le-pow}
+use native.Mathlib.Nat.{pow-le-pow-left}
 use native.Mathlib.Omega.{arith}
 use borrow.Author.Tests.{lt-ltb, le-ltb}
 use lib.Dec.{ltb, lit<, lit≤}
@@ -18,7 +19,8 @@ use Rattle.series.proofs.Two.{TwoLe, TwoGe, root}
 use Rattle.elementary.specs.Power.{exp2Bits}
 use Rattle.elementary.specs.Accuracy.{signOf, RatioGe, RatioLe, PowGe, PowLe}
 use Rattle.elementary.proofs.Common.{infinity-is, zero-is, fraction-is}
-use Rattle.elementary.proofs.exp2.Value.{value-zero, value-inf, not-under, is-under, is-over, not-over, sub-near, normal-near}
+use Rattle.elementary.proofs.exp2.Value.{value-zero, value-inf, not-under, is-under, is-over, not-over, sub-near}
+use Rattle.elementary.proofs.exp2.Value.{normal-near}
 
 -- ---- y: its sign, and |y| = u 2^-149
 pub record Sign (y : Float) (c : ℕ) : Type 0 where

@@ -2,13 +2,15 @@
 use mathlib.Core.Path.{_≡_, refl, sym, ap, ap₂, _∙_, subst}
 use mathlib.Core.Bool.{Bool, true, false, not, cond, true≢false}
 use Prim.Native.Nat.{ℕ, _+_, _-_, _*_, _/_, _%_, _^_, _≤_, _<_}
-use native.Mathlib.Nat.{le-trans, le-of-eq, lt-of-le-of-lt, mul-le-mul, mul-le-mul-left, mul-div-cancel, div-div-eq-div-mul, div-eq-of-lt, div-mul-le-self, zero-mul, mul-zero, zero-div}
+use native.Mathlib.Nat.{le-trans, le-of-eq, lt-of-le-of-lt, mul-le-mul, mul-le-mul-left, mul-div-cancel}
+use native.Mathlib.Nat.{div-div-eq-div-mul, div-eq-of-lt, div-mul-le-self, zero-mul, mul-zero, zero-div}
 use native.Mathlib.Omega.{arith}
 use borrow.Author.Tests.{le-ltb}
 use lib.Dec.{T, ltb, eqb, eqb→eq, lit<, lit≤}
 use lib.Pow.{pow-pos, pow-add, pow-mono}
 use lib.Ieee.{unlike}
-use Rattle.elementary.specs.Power.{normalized, log2At, log2Of, absDiff, signedArg, product, argOf, exp2Of, exp2Bits, nearBits}
+use Rattle.elementary.specs.Power.{normalized, log2At, log2Of, absDiff, signedArg, product, argOf, exp2Of}
+use Rattle.elementary.specs.Power.{exp2Bits, nearBits}
 use Rattle.elementary.specs.Quick.{Quick, ArgAsked, ArgIs}
 use Rattle.elementary.proofs.power.Parts.{normalized-normal, is, w-le, parts, log-range}
 use Rattle.elementary.proofs.power.Order.{diff-le}

@@ -15,7 +15,10 @@ use Rattle.elementary.specs.Accuracy.{signOf, Finite, IsZero, IsOne, IsP
 use Rattle.elementary.proofs.Common.{number-of-bits, bits-of-number, infinity-is, minus-infinity-is, zero-is}
 use Rattle.elementary.proofs.power.Shown.{Shown}
 use Rattle.elementary.proofs.power.Finite.{finite-law}
-use Rattle.elementary.proofs.powf.Cases.{zero-odd, zero-even, size-plus, size-minus, inf-plus, inf-minus, to-inf-low, to-inf-high, num-zero, num-inf, num-to-inf, at-zero, at-one, at-below, at-num, at-regular, nan-not-one, of-nan-y, of-nan-y-one, of-nan-x, of-nan-x-zero, of-numbers}
+use Rattle.elementary.proofs.powf.Cases.{zero-odd, zero-even, size-plus, size-minus, inf-plus, inf-minus}
+use Rattle.elementary.proofs.powf.Cases.{to-inf-low, to-inf-high, num-zero, num-inf, num-to-inf, at-zero, at-one}
+use Rattle.elementary.proofs.powf.Cases.{at-below, at-num, at-regular, nan-not-one, of-nan-y, of-nan-y-one}
+use Rattle.elementary.proofs.powf.Cases.{of-nan-x, of-nan-x-zero, of-numbers}
 use Rattle.elementary.proofs.powf.Odd.{is-odd, not-odd}
 
 -- ---- NaN

@@ -3,7 +3,8 @@ use mathlib.Core.Path.{_≡_, refl, sym, ap, _∙_, subst}
 use mathlib.Core.Logic.{_⊎_, inl, inr}
 use mathlib.Core.Bool.{Bool, true, false, true≢false}
 use Prim.Native.Nat.{ℕ, zero, suc, _+_, _-_, _*_, _/_, _%_, _^_, _≤_, _<_}
-use native.Mathlib.Nat.{mul-le-mul, eq-of-mul-eq-mul-right, lt-of-le-of-lt, lt-irrefl, mod-eq-of-lt, mul-add-mod-self-right, div-add-mod'}
+use native.Mathlib.Nat.{mul-le-mul, eq-of-mul-eq-mul-right, lt-of-le-of-lt, lt-irrefl, mod-eq-of-lt}
+use native.Mathlib.Nat.{mul-add-mod-self-right, div-add-mod'}
 use native.Mathlib.Omega.{arith}
 use borrow.Author.Tests.{eq-eqb}
 use lib.Dec.{T, eqb→eq, lit<}

@@ -28,7 +28,10 @@ clamp-requires c κs = search needs
 
 of-rating-requires : tie.Need-of-rating-requires
 unfolding learning
-of-rating-requires c κs = (omega (arith, c .before .before .before .before .before .before .drawn-rating .ensures), omega (arith, c .before .before .before .before .before .before .drawn-rating .ensures))
+of-rating-requires c κs = (
+  omega (arith, c .before .before .before .before .before .before .drawn-rating .ensures),
+  omega (arith, c .before .before .before .before .before .before .drawn-rating .ensures),
+)
 
 learning-limit-requires : tie.Need-learning-limit-requires
 learning-limit-requires c κs = search needs

@@ -34,8 +34,10 @@ returns c =
     let at-if1 = at-new .before in
     let at-chance-ok = at-if1 .before in
     let start = at-chance-ok .before in
-    let e : recalled (start .args .chance) (word (mix (advance (start .args .state)))) ≡ c .before .before .recalled .result = sym
-    (c .before .before .recalled .ensures ∙ ap (λ (z : ℕ). recalled (start .args .chance) z) (at-word .word .ensures ∙ ap (λ (z : ℕ). word z) (at-next .next .ensures .1 ∙ ap (λ (z : ℕ). mix (advance z)) (at-new .new .ensures))))
+    let e : recalled (start .args .chance) (word (mix (advance (start .args .state)))) ≡ c .before .before .recalled
+    .result = sym
+    (c .before .before .recalled .ensures ∙ ap (λ (z : ℕ). recalled (start .args .chance) z) (at-word .word .ensures
+    ∙ ap (λ (z : ℕ). word z) (at-next .next .ensures .1 ∙ ap (λ (z : ℕ). mix (advance z)) (at-new .new .ensures))))
     in rw (
       ← at-chance-ok .chance-ok .ensures,
       at-if1 .if1 .taken,
@@ -58,10 +60,20 @@ returns-2 c =
     let at-if1 = at-new .before in
     let at-chance-ok = at-if1 .before in
     let start = at-chance-ok .before in
-    let e : recalled (start .args .chance) (word (mix (advance (start .args .state)))) ≡ c .before .before .recalled .result = sym
-    (c .before .before .recalled .ensures ∙ ap (λ (z : ℕ). recalled (start .args .chance) z) (at-word .word .ensures ∙ ap (λ (z : ℕ). word z) (at-next .next .ensures .1 ∙ ap (λ (z : ℕ). mix (advance z)) (at-new .new .ensures))))
-    in rw
-    (← at-chance-ok .chance-ok .ensures, at-if1 .if1 .taken, e, c .before .if2 .left, c .lapse .ensures, at-next .next .ensures .0, at-new .new .ensures)
+    let e : recalled (start .args .chance) (word (mix (advance (start .args .state)))) ≡ c .before .before .recalled
+    .result = sym
+    (c .before .before .recalled .ensures ∙ ap (λ (z : ℕ). recalled (start .args .chance) z) (at-word .word .ensures
+    ∙ ap (λ (z : ℕ). word z) (at-next .next .ensures .1 ∙ ap (λ (z : ℕ). mix (advance z)) (at-new .new .ensures))))
+    in rw (
+      ← at-chance-ok .chance-ok .ensures,
+      at-if1 .if1 .taken,
+      e,
+      c .before .if2 .left,
+      c .lapse .ensures,
+      at-next .next
+          .ensures .0,
+      at-new .new .ensures,
+    )
 
 returns-3 : tie.Need-returns-3
 unfolding reviewing

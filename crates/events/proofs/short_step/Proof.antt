@@ -28,7 +28,11 @@ next-difficulty-requires c κs = search needs
 
 of-rating-requires : tie.Need-of-rating-requires
 unfolding shortStep
-of-rating-requires c κs = (omega (arith, c .before .before .before .drawn-rating .ensures), omega (arith, c .before .before .before .drawn-rating .ensures))
+of-rating-requires c κs = (
+  omega (arith, c .before .before .before .drawn-rating .ensures),
+  omega
+      (arith, c .before .before .before .drawn-rating .ensures),
+)
 
 consecutive-after-requires : tie.Need-consecutive-after-requires
 unfolding shortStep

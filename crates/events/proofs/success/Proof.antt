@@ -25,7 +25,10 @@ stability-after-success-requires c κs = search needs
 
 of-rating-requires : tie.Need-of-rating-requires
 unfolding success
-of-rating-requires c κs = (omega (arith, c .before .before .before .before .before .drawn-recalled-rating .ensures), omega (arith, c .before .before .before .before .before .drawn-recalled-rating .ensures))
+of-rating-requires c κs = (
+  omega (arith, c .before .before .before .before .before .drawn-recalled-rating .ensures),
+  omega (arith, c .before .before .before .before .before .drawn-recalled-rating .ensures),
+)
 
 returns : tie.Need-returns
 unfolding success

@@ -13,7 +13,8 @@ returns c = abs-negative (c .before .args .x) (yes (c .if1 .taken))
 
 returns-2 : tie.Need-returns-2
 unfolding ofBits
-returns-2 c = abs-zero (c .before .before .args .x) (subst T (sym (c .before .before .good .0 .1)) tt) (yes (c .if2 .taken))
+returns-2 c = abs-zero (c .before .before .args .x) (subst T (sym (c .before .before .good .0 .1)) tt)
+    (yes (c .if2 .taken))
 
 returns-3 : tie.Need-returns-3
 unfolding ofBits

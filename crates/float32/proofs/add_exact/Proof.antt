@@ -8,7 +8,8 @@ use borrow.Author.Needs.{needs}
 use lib.Pow.{pow-pos}
 use lib.Ieee.{binary32, round, sum}
 use Rattle.float32.proofs.Sums.{sum-swap}
-use Rattle.float32.proofs.Normal.{z-le, n-over, n-under, n-fours, n-value, ordered, back, zero-left, zero-right, zero-both}
+use Rattle.float32.proofs.Normal.{z-le, n-over, n-under, n-fours, n-value, ordered, back, zero-left, zero-right}
+use Rattle.float32.proofs.Normal.{zero-both}
 use Rattle.float32.proofs.add_exact.Statement.{statement}
 use Rattle.float32.proofs.add_exact.Tie as tie
 
@@ -40,13 +41,15 @@ bit-length-requires : tie.Need-bit-length-requires
 bit-length-requires c κs = search needs
 
 sub-i : tie.Need-sub-i
-sub-i c = let t = c .before .before .before in le-trans (z-le (t .args .p) (c .bit-length .result) (omega (arith, c .before .before .if1 .left)) (t .pre .0 .digits) (c .bit-length .ensures)) (omega arith)
+sub-i c = let t = c .before .before .before in le-trans (z-le (t .args .p) (c .bit-length .result)
+    (omega (arith, c .before .before .if1 .left)) (t .pre .0 .digits) (c .bit-length .ensures)) (omega arith)
 
 bit-length-requires-2 : tie.Need-bit-length-requires-2
 bit-length-requires-2 c κs = search needs
 
 sub-j : tie.Need-sub-j
-sub-j c = let t = c .before .before .before .before in le-trans (z-le (t .args .c) (c .bit-length2 .result) (omega (arith, c .before .before .if3 .left)) (t .pre .1 .digits) (c .bit-length2 .ensures)) (omega arith)
+sub-j c = let t = c .before .before .before .before in le-trans (z-le (t .args .c) (c .bit-length2 .result)
+    (omega (arith, c .before .before .if3 .left)) (t .pre .1 .digits) (c .bit-length2 .ensures)) (omega arith)
 
 shl-pn : tie.Need-shl-pn
 shl-pn c = search needs
@@ -99,7 +102,8 @@ module _ (k : tie.After-bit-length2) where
   p-fours = n-fours (t .args .p) zp p-pos (t .pre .0 .digits) (k .before .bit-length .ensures)
 
   p-value : pn * 2 ^ an ≡ t .args .p * 2 ^ t .args .a
-  p-value = n-value (t .args .p) zp p-pos (t .pre .0 .digits) (k .before .bit-length .ensures) (t .args .a) (t .pre .0 .low)
+  p-value = n-value (t .args .p) zp p-pos (t .pre .0 .digits) (k .before .bit-length .ensures) (t .args .a)
+      (t .pre .0 .low)
 
   c-over : 2 ^ 61 ≤ cn
   c-over = n-over (t .args .c) zc c-pos (t .pre .1 .digits) (k .bit-length2 .ensures)
@@ -122,7 +126,8 @@ short x y h = omega arith
 add-ordered-requires : tie.Need-add-ordered-requires
 add-ordered-requires c κs =
     let k = c .before in
-    ordered (pn k) (an k) (cn k) (an k - bn k) (p-over k) (p-under k) (c-under k) (p-fours k) (c-fours k) (less (an k) (bn k)) (short (t k .args .a) (62 - zp k) (t k .pre .0 .high))
+    ordered (pn k) (an k) (cn k) (an k - bn k) (p-over k) (p-under k) (c-under k) (p-fours k) (c-fours k)
+    (less (an k) (bn k)) (short (t k .args .a) (62 - zp k) (t k .pre .0 .high))
 
 sub-add-ordered : tie.Need-sub-add-ordered
 sub-add-ordered c = search needs
@@ -130,26 +135,33 @@ sub-add-ordered c = search needs
 add-ordered-requires-2 : tie.Need-add-ordered-requires-2
 add-ordered-requires-2 c κs =
     let k = c .before in
-    ordered (cn k) (bn k) (pn k) (bn k - an k) (c-over k) (c-under k) (p-under k) (c-fours k) (p-fours k) (less (bn k) (an k)) (short (t k .args .b) (62 - zc k) (t k .pre .1 .high))
+    ordered (cn k) (bn k) (pn k) (bn k - an k) (c-over k) (c-under k) (p-under k) (c-fours k) (p-fours k)
+    (less (bn k) (an k)) (short (t k .args .b) (62 - zc k) (t k .pre .1 .high))
 
 returns : tie.Need-returns
 returns c =
     let q = c .before .before .before .before in
     c .pack .ensures
     ∙ ap (λ (z : Bool). round binary32 z (0 * 2 ^ 0) (2 ^ 1074)) (c .before .both .ensures)
-    ∙ zero-both (q .args .s) (q .args .t) (q .args .p * 2 ^ q .args .a) (q .args .c * 2 ^ q .args .b) (2 ^ 1074) (nothing (q .args .p) (q .args .a) (c .before .before .before .if1 .taken)) (nothing (q .args .c) (q .args .b) (c .before .before .if2 .taken))
+    ∙ zero-both (q .args .s) (q .args .t) (q .args .p * 2 ^ q .args .a) (q .args .c * 2 ^ q .args .b) (2 ^ 1074)
+    (nothing (q .args .p) (q .args .a) (c .before .before .before .if1 .taken))
+    (nothing (q .args .c) (q .args .b) (c .before .before .if2 .taken))
 
 returns-2 : tie.Need-returns-2
 returns-2 c =
     let q = c .before .before .before in
     c .pack2 .ensures
-    ∙ zero-left (q .args .s) (q .args .t) (q .args .p * 2 ^ q .args .a) (q .args .c * 2 ^ q .args .b) (2 ^ 1074) (nothing (q .args .p) (q .args .a) (c .before .before .if1 .taken)) (something (q .args .c) (q .args .b) (c .before .if2 .left))
+    ∙ zero-left (q .args .s) (q .args .t) (q .args .p * 2 ^ q .args .a) (q .args .c * 2 ^ q .args .b) (2 ^ 1074)
+    (nothing (q .args .p) (q .args .a) (c .before .before .if1 .taken))
+    (something (q .args .c) (q .args .b) (c .before .if2 .left))
 
 returns-3 : tie.Need-returns-3
 returns-3 c =
     let q = c .before .before .before in
     c .pack3 .ensures
-    ∙ zero-right (q .args .s) (q .args .t) (q .args .p * 2 ^ q .args .a) (q .args .c * 2 ^ q .args .b) (2 ^ 1074) (something (q .args .p) (q .args .a) (c .before .before .if1 .left)) (nothing (q .args .c) (q .args .b) (c .before .if3 .taken))
+    ∙ zero-right (q .args .s) (q .args .t) (q .args .p * 2 ^ q .args .a) (q .args .c * 2 ^ q .args .b) (2 ^ 1074)
+    (something (q .args .p) (q .args .a) (c .before .before .if1 .left))
+    (nothing (q .args .c) (q .args .b) (c .before .if3 .taken))
 
 returns-4 : tie.Need-returns-4
 returns-4 c =
@@ -157,7 +169,8 @@ returns-4 c =
     let s = t k .args .s in
     let u = t k .args .t in
     c .add-ordered .ensures
-    ∙ ap (λ (z : ℕ). sum binary32 s (pn k * 2 ^ an k) u (cn k * 2 ^ z) (2 ^ 1074)) (back (an k) (bn k) (c .before .if4 .taken))
+    ∙ ap (λ (z : ℕ). sum binary32 s (pn k * 2 ^ an k) u (cn k * 2 ^ z) (2 ^ 1074))
+    (back (an k) (bn k) (c .before .if4 .taken))
     ∙ ap (λ (z : ℕ). sum binary32 s z u (cn k * 2 ^ bn k) (2 ^ 1074)) (p-value k)
     ∙ ap (λ (z : ℕ). sum binary32 s (t k .args .p * 2 ^ t k .args .a) u z (2 ^ 1074)) (c-value k)
 
@@ -167,7 +180,8 @@ returns-5 c =
     let s = t k .args .s in
     let u = t k .args .t in
     c .add-ordered2 .ensures
-    ∙ ap (λ (z : ℕ). sum binary32 u (cn k * 2 ^ bn k) s (pn k * 2 ^ z) (2 ^ 1074)) (back (bn k) (an k) (le-of-lt (c .before .if4 .left)))
+    ∙ ap (λ (z : ℕ). sum binary32 u (cn k * 2 ^ bn k) s (pn k * 2 ^ z) (2 ^ 1074))
+    (back (bn k) (an k) (le-of-lt (c .before .if4 .left)))
     ∙ ap (λ (z : ℕ). sum binary32 u (cn k * 2 ^ bn k) s z (2 ^ 1074)) (p-value k)
     ∙ ap (λ (z : ℕ). sum binary32 u z s (t k .args .p * 2 ^ t k .args .a) (2 ^ 1074)) (c-value k)
     ∙ sum-swap binary32 u (t k .args .c * 2 ^ t k .args .b) s (t k .args .p * 2 ^ t k .args .a) (2 ^ 1074)

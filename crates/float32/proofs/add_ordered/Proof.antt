@@ -6,7 +6,8 @@ use native.Mathlib.Nat.{zero-mul}
 use native.Mathlib.Omega.{arith}
 use borrow.Author.Needs.{needs}
 use lib.Ieee.{binary32, round, unlike}
-use Rattle.float32.proofs.Sums.{sum-like, sum-over, sum-under, sum-level, like-round, over-round, under-round, is-less, is-more, is-level, j-small}
+use Rattle.float32.proofs.Sums.{sum-like, sum-over, sum-under, sum-level, like-round, over-round, under-round}
+use Rattle.float32.proofs.Sums.{is-less, is-more, is-level, j-small}
 use Rattle.float32.proofs.add_ordered.Statement.{statement}
 use Rattle.float32.proofs.add_ordered.Tie as tie
 
@@ -37,7 +38,12 @@ pack-requires-3 c κs = search needs
 add-pack : tie.Need-add-pack
 add-pack c =
     let t = c .before .before .before in
-    omega (arith, t .pre .h-lt, j-small (t .args .h) (t .args .e) (t .args .l) (t .args .d) (c .before .before .shift-right-jam .result) (t .pre) (c .before .before .shift-right-jam .ensures))
+    omega (
+      arith,
+      t .pre .h-lt,
+      j-small (t .args .h) (t .args .e) (t .args .l) (t .args .d)
+          (c .before .before .shift-right-jam .result) (t .pre) (c .before .before .shift-right-jam .ensures),
+    )
 
 cast-pack-3 : tie.Need-cast-pack-3
 cast-pack-3 c = search needs
@@ -57,7 +63,8 @@ returns c =
     let u = sym (c .before .before .before .unlike .ensures) ∙ c .before .before .if1 .taken in
     c .pack .ensures
     ∙ over-round h e l d j (t .pre) (J .ensures) (c .before .if2 .taken) (t .args .s)
-    ∙ sym (sum-over binary32 (h * 2 ^ e) (l * 2 ^ (e - d)) (2 ^ 1074) (t .args .s) (t .args .t) u (is-less h e l d j (t .pre) (J .ensures) (c .before .if2 .taken)))
+    ∙ sym (sum-over binary32 (h * 2 ^ e) (l * 2 ^ (e - d)) (2 ^ 1074) (t .args .s) (t .args .t) u
+    (is-less h e l d j (t .pre) (J .ensures) (c .before .if2 .taken)))
 
 returns-2 : tie.Need-returns-2
 returns-2 c =
@@ -71,7 +78,8 @@ returns-2 c =
     let u = sym (c .before .before .before .before .unlike .ensures) ∙ c .before .before .before .if1 .taken in
     c .pack2 .ensures
     ∙ under-round h e l d j (t .pre) (J .ensures) (c .before .if3 .taken) (t .args .t)
-    ∙ sym (sum-under binary32 (h * 2 ^ e) (l * 2 ^ (e - d)) (2 ^ 1074) (t .args .s) (t .args .t) u (is-more h e l d j (t .pre) (J .ensures) (c .before .if3 .taken)))
+    ∙ sym (sum-under binary32 (h * 2 ^ e) (l * 2 ^ (e - d)) (2 ^ 1074) (t .args .s) (t .args .t) u
+    (is-more h e l d j (t .pre) (J .ensures) (c .before .if3 .taken)))
 
 returns-3 : tie.Need-returns-3
 returns-3 c =
@@ -85,7 +93,8 @@ returns-3 c =
     let u = sym (c .before .before .before .before .unlike .ensures) ∙ c .before .before .before .if1 .taken in
     c .pack3 .ensures
     ∙ ap (λ (z : ℕ). round binary32 false z (2 ^ 1074)) (zero-mul (2 ^ 0))
-    ∙ sym (sum-level binary32 (h * 2 ^ e) (l * 2 ^ (e - d)) (2 ^ 1074) (t .args .s) (t .args .t) u (is-level h e l d j (t .pre) (J .ensures) (omega (arith, c .before .if3 .left, c .before .before .if2 .left))))
+    ∙ sym (sum-level binary32 (h * 2 ^ e) (l * 2 ^ (e - d)) (2 ^ 1074) (t .args .s) (t .args .t) u
+    (is-level h e l d j (t .pre) (J .ensures) (omega (arith, c .before .if3 .left, c .before .before .if2 .left))))
 
 returns-4 : tie.Need-returns-4
 returns-4 c =

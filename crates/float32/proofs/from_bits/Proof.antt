@@ -19,7 +19,8 @@ float-from-bits-result c = no (nanBits-above binary32 (c .before .args .b) ∙ l
 
 returns : tie.Need-returns
 unfolding ofBits div
-returns c = let b = c .before .args .b in is-nan (ofBits binary32 b) (sym (nanBits-is binary32 b) ∙ nanBits-above binary32 b ∙ lt-ltb _ _ (c .if1 .taken))
+returns c = let b = c .before .args .b in is-nan (ofBits binary32 b) (sym (nanBits-is binary32 b)
+    ∙ nanBits-above binary32 b ∙ lt-ltb _ _ (c .if1 .taken))
 
 returns-2 : tie.Need-returns-2
 returns-2 c = refl

@@ -55,12 +55,19 @@ add-add-exact-3 c = search needs
 add-exact-requires : tie.Need-add-exact-requires
 add-exact-requires c κs =
     let t = c .before .before .before .before .before .before .before in
-    let px : c .before .before .before .exponent .result ≤ 253 = subst (λ (n : ℕ). n ≤ 253) (sym (c .before .before .before .exponent .ensures)) (t .pre .0) in
-    let py : c .before .before .exponent2 .result ≤ 253 = subst (λ (n : ℕ). n ≤ 253) (sym (c .before .before .exponent2 .ensures)) (t .pre .1 .0) in
+    let px : c .before .before .before .exponent .result ≤ 253 = subst (λ (n : ℕ). n ≤ 253)
+    (sym (c .before .before .before .exponent .ensures)) (t .pre .0) in
+    let py : c .before .before .exponent2 .result ≤ 253 = subst (λ (n : ℕ). n ≤ 253)
+    (sym (c .before .before .exponent2 .ensures)) (t .pre .1 .0) in
     let pz : c .exponent3 .result ≤ 253 = subst (λ (n : ℕ). n ≤ 253) (sym (c .exponent3 .ensures)) (t .pre .1 .1) in (
-      record { digits = lt-of-lt-of-le (product (c .before .before .before .before)) (lit≤ tt); low = omega arith; high = omega arith },
       record {
-        digits = lt-of-lt-of-le (subst (λ (n : ℕ). n < 2 ^ 24) (sym (c .before .significand3 .ensures)) (significand-lt binary32 (t .args .z))) (lit≤ tt);
+        digits = lt-of-lt-of-le (product (c .before .before .before .before)) (lit≤ tt);
+        low = omega arith;
+        high = omega arith;
+      },
+      record {
+        digits = lt-of-lt-of-le (subst (λ (n : ℕ). n < 2 ^ 24) (sym (c .before .significand3 .ensures))
+            (significand-lt binary32 (t .args .z))) (lit≤ tt);
         low = omega arith;
         high = omega arith;
       },

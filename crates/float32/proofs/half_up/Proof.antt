@@ -27,7 +27,8 @@ returns-2 : tie.Need-returns-2
 returns-2 c =
     let q = c .before .args .q in
     let sh = c .before .args .sh in
-    ap (λ (z : ℕ). (2 * q + z) / 2 / 2 ^ sh) (one-shifted sh (c .if1 .left)) ∙ div-div-eq-div-mul (2 * q + 2 ^ sh) 2 (2 ^ sh)
+    ap (λ (z : ℕ). (2 * q + z) / 2 / 2 ^ sh) (one-shifted sh (c .if1 .left)) ∙ div-div-eq-div-mul (2 * q + 2 ^ sh) 2
+    (2 ^ sh)
 
 pub half-up-spec : {M : Type 1} → statement M
 half-up-spec = tie.close (tie.spec mul-result shl-result add-result shr-result returns returns-2)

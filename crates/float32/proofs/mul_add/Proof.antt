@@ -31,14 +31,21 @@ module _ (c : tie.Then3) where
   abbrev z : Float
   z = c .before .before .before .before .before .before .args .z
 
-  dx : Decoded binary32 (toBits binary32 (c .before .before .before .before .before .before .args .x)) (c .before .before .before .before .before .before .args .x)
-  dx = decode binary32 (c .before .before .before .before .before .before .args .x) (yes (c .before .before .before .before .before .before .good .0 .1)) (x-finite (c .before .before .before .before))
+  dx : Decoded binary32 (toBits binary32 (c .before .before .before .before .before .before .args .x))
+      (c .before .before .before .before .before .before .args .x)
+  dx = decode binary32 (c .before .before .before .before .before .before .args .x)
+      (yes (c .before .before .before .before .before .before .good .0 .1))
+      (x-finite (c .before .before .before .before))
 
-  dy : Decoded binary32 (toBits binary32 (c .before .before .before .before .before .before .args .y)) (c .before .before .before .before .before .before .args .y)
-  dy = decode binary32 (c .before .before .before .before .before .before .args .y) (yes (c .before .before .before .before .before .before .good .1 .0 .1)) (y-finite (c .before .before))
+  dy : Decoded binary32 (toBits binary32 (c .before .before .before .before .before .before .args .y))
+      (c .before .before .before .before .before .before .args .y)
+  dy = decode binary32 (c .before .before .before .before .before .before .args .y)
+      (yes (c .before .before .before .before .before .before .good .1 .0 .1)) (y-finite (c .before .before))
 
-  dz : Decoded binary32 (toBits binary32 (c .before .before .before .before .before .before .args .z)) (c .before .before .before .before .before .before .args .z)
-  dz = decode binary32 (c .before .before .before .before .before .before .args .z) (yes (c .before .before .before .before .before .before .good .1 .1 .0 .1)) (z-finite c)
+  dz : Decoded binary32 (toBits binary32 (c .before .before .before .before .before .before .args .z))
+      (c .before .before .before .before .before .before .args .z)
+  dz = decode binary32 (c .before .before .before .before .before .before .args .z)
+      (yes (c .before .before .before .before .before .before .good .1 .1 .0 .1)) (z-finite c)
 
 is-finite-requires : tie.Need-is-finite-requires
 is-finite-requires c κs = search needs
@@ -50,13 +57,16 @@ is-finite-requires-3 : tie.Need-is-finite-requires-3
 is-finite-requires-3 c κs = search needs
 
 float-to-float-b : tie.Need-float-to-float-b
-float-to-float-b c = let t = c .before in widens (x t) (yes (t .before .before .before .before .before .before .good .0 .1)) (x-finite (t .before .before .before .before))
+float-to-float-b c = let t = c .before in widens (x t)
+    (yes (t .before .before .before .before .before .before .good .0 .1)) (x-finite (t .before .before .before .before))
 
 float-to-float-b-2 : tie.Need-float-to-float-b-2
-float-to-float-b-2 c = let t = c .before .before in widens (y t) (yes (t .before .before .before .before .before .before .good .1 .0 .1)) (y-finite (t .before .before))
+float-to-float-b-2 c = let t = c .before .before in widens (y t)
+    (yes (t .before .before .before .before .before .before .good .1 .0 .1)) (y-finite (t .before .before))
 
 float-to-float-b-3 : tie.Need-float-to-float-b-3
-float-to-float-b-3 c = let t = c .before .before .before in widens (z t) (yes (t .before .before .before .before .before .before .good .1 .1 .0 .1)) (z-finite t)
+float-to-float-b-3 c = let t = c .before .before .before in widens (z t)
+    (yes (t .before .before .before .before .before .before .good .1 .1 .0 .1)) (z-finite t)
 
 float-to-bits-b : tie.Need-float-to-bits-b
 float-to-bits-b c = let t = c .before .before .before in sum-no-nan (x t) (y t) (z t) (dx t) (dy t) (dz t)
@@ -71,7 +81,8 @@ returns : tie.Need-returns
 unfolding away
 returns c =
     let t = c .before .before .before .before .before .before in
-    c .narrowed .ensures ∙ quick-is (x t) (y t) (z t) (dx t) (dy t) (dz t) (c .before .before .rounds-once .ensures (c .before .if4 .taken))
+    c .narrowed .ensures ∙ quick-is (x t) (y t) (z t) (dx t) (dy t) (dz t)
+    (c .before .before .rounds-once .ensures (c .before .if4 .taken))
 
 mul-add-slow-requires : tie.Need-mul-add-slow-requires
 mul-add-slow-requires c κs = search needs

@@ -30,14 +30,21 @@ module _ (c : tie.Then3) where
   abbrev z : Float
   z = c .before .before .before .before .before .before .args .z
 
-  dx : Decoded binary32 (toBits binary32 (c .before .before .before .before .before .before .args .x)) (c .before .before .before .before .before .before .args .x)
-  dx = decode binary32 (c .before .before .before .before .before .before .args .x) (yes (c .before .before .before .before .before .before .good .0 .1)) (x-finite (c .before .before .before .before))
+  dx : Decoded binary32 (toBits binary32 (c .before .before .before .before .before .before .args .x))
+      (c .before .before .before .before .before .before .args .x)
+  dx = decode binary32 (c .before .before .before .before .before .before .args .x)
+      (yes (c .before .before .before .before .before .before .good .0 .1))
+      (x-finite (c .before .before .before .before))
 
-  dy : Decoded binary32 (toBits binary32 (c .before .before .before .before .before .before .args .y)) (c .before .before .before .before .before .before .args .y)
-  dy = decode binary32 (c .before .before .before .before .before .before .args .y) (yes (c .before .before .before .before .before .before .good .1 .0 .1)) (y-finite (c .before .before))
+  dy : Decoded binary32 (toBits binary32 (c .before .before .before .before .before .before .args .y))
+      (c .before .before .before .before .before .before .args .y)
+  dy = decode binary32 (c .before .before .before .before .before .before .args .y)
+      (yes (c .before .before .before .before .before .before .good .1 .0 .1)) (y-finite (c .before .before))
 
-  dz : Decoded binary32 (toBits binary32 (c .before .before .before .before .before .before .args .z)) (c .before .before .before .before .before .before .args .z)
-  dz = decode binary32 (c .before .before .before .before .before .before .args .z) (yes (c .before .before .before .before .before .before .good .1 .1 .0 .1)) (z-finite c)
+  dz : Decoded binary32 (toBits binary32 (c .before .before .before .before .before .before .args .z))
+      (c .before .before .before .before .before .before .args .z)
+  dz = decode binary32 (c .before .before .before .before .before .before .args .z)
+      (yes (c .before .before .before .before .before .before .good .1 .1 .0 .1)) (z-finite c)
 
 is-finite-requires : tie.Need-is-finite-requires
 is-finite-requires c κs = search needs
@@ -67,12 +74,15 @@ returns c =
     let by = toBits binary32 (y t) in
     let bz = toBits binary32 (z t) in
     c .fused-bits .ensures
-    ∙ fma-is (x t) (y t) (z t) (leb 2147483648 bx) (leb 2147483648 by) (leb 2147483648 bz) (significand binary32 bx) (significand binary32 by) (significand binary32 bz) (exponent binary32 bx) (exponent binary32 by) (exponent binary32 bz) (dx t .0) (dy t .0) (dz t .0)
+    ∙ fma-is (x t) (y t) (z t) (leb 2147483648 bx) (leb 2147483648 by) (leb 2147483648 bz) (significand binary32 bx)
+    (significand binary32 by) (significand binary32 bz) (exponent binary32 bx) (exponent binary32 by)
+    (exponent binary32 bz) (dx t .0) (dy t .0) (dz t .0)
 
 returns-2 : tie.Need-returns-2
 returns-2 c =
     let a = c .before .before .before .before .before .before .args in
-    fma-z (a .x) (a .y) (a .z) (x-finite (c .before .before .before .before)) (y-finite (c .before .before)) (sym (c .before .is-finite3 .ensures) ∙ c .if3 .left)
+    fma-z (a .x) (a .y) (a .z) (x-finite (c .before .before .before .before)) (y-finite (c .before .before))
+    (sym (c .before .is-finite3 .ensures) ∙ c .if3 .left)
 
 returns-3 : tie.Need-returns-3
 returns-3 c =

@@ -46,7 +46,9 @@ module _ (c : tie.After-wide2) where
   some = omega (arith, c .before .before .before .before .if1 .left)
 
   k-is : c .before .dropped .result ≡ size m + e - 949
-  k-is = c .before .dropped .ensures ∙ ap (λ (z : ℕ). z + c .before .before .wide .result - 949) (c .before .before .before .bit-length .ensures) ∙ ap (λ (z : ℕ). size m + z - 949) (c .before .before .wide .ensures)
+  k-is = c .before .dropped .ensures ∙ ap (λ (z : ℕ). z + c .before .before .wide .result - 949)
+      (c .before .before .before .bit-length .ensures) ∙ ap (λ (z : ℕ). size m + z - 949)
+      (c .before .before .wide .ensures)
 
   asked : (m * 2 ^ c .wide2 .result < 2 ^ (949 + c .before .dropped .result)) × (c .before .dropped .result < 2 ^ 60)
   asked = (
@@ -63,16 +65,19 @@ module _ (c : tie.After-scaled) where
   b = c .before
 
   q-is : c .scaled .result ≡ closest (m b * 2 ^ e b) (2 ^ (925 + (size (m b) + e b - 949)))
-  q-is = c .scaled .ensures ∙ ap (λ (i : ℕ). closest (m b * 2 ^ i) (2 ^ (925 + b .before .dropped .result))) (b .wide2 .ensures) ∙ ap (λ (i : ℕ). closest (m b * 2 ^ e b) (2 ^ (925 + i))) (k-is b)
+  q-is = c .scaled .ensures ∙ ap (λ (i : ℕ). closest (m b * 2 ^ i) (2 ^ (925 + b .before .dropped .result)))
+      (b .wide2 .ensures) ∙ ap (λ (i : ℕ). closest (m b * 2 ^ e b) (2 ^ (925 + i))) (k-is b)
 
 from-units-requires-2 : tie.Need-from-units-requires-2
 from-units-requires-2 c κs = (
   subst (λ (z : ℕ). z ≤ 2 ^ 24) (sym (q-is c)) (q-le (m (c .before)) (e (c .before)) (some (c .before))),
-  λ h. subst (λ (z : ℕ). 2 ^ 23 ≤ z) (sym (q-is c)) (q-ge (m (c .before)) (e (c .before)) (some (c .before)) (subst (λ (z : ℕ). 0 < z) (k-is (c .before)) h)),
+  λ h. subst (λ (z : ℕ). 2 ^ 23 ≤ z) (sym (q-is c)) (q-ge (m (c .before)) (e (c .before)) (some (c .before))
+      (subst (λ (z : ℕ). 0 < z) (k-is (c .before)) h)),
 )
 
 returns : tie.Need-returns
-returns c = c .from-units .ensures ∙ packed-zero (c .before .before .args .negative) (c .before .before .args .m) (c .before .before .args .e) (c .before .if1 .taken)
+returns c = c .from-units .ensures ∙ packed-zero (c .before .before .args .negative) (c .before .before .args .m)
+    (c .before .before .args .e) (c .before .if1 .taken)
 
 returns-2 : tie.Need-returns-2
 returns-2 c =
@@ -85,4 +90,5 @@ returns-2 c =
     ∙ packed (m b) (e b) (some b) s
 
 pub pack-spec : {M : Type 1} → statement M
-pack-spec = tie.close (tie.spec from-units-requires bit-length-requires wide-requires add-top dropped-requires wide-requires-2 scaled-requires from-units-requires-2 returns returns-2)
+pack-spec = tie.close (tie.spec from-units-requires bit-length-requires wide-requires add-top dropped-requires
+    wide-requires-2 scaled-requires from-units-requires-2 returns returns-2)

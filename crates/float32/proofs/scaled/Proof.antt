@@ -24,7 +24,8 @@ sub-result : tie.Need-sub-result
 sub-result c = search needs
 
 shl-result : tie.Need-shl-result
-shl-result c = let t = c .before in shift-room (t .args .m) (t .args .e) (925 + t .args .k) (t .pre .0) (c .if1 .taken) (small t)
+shl-result c = let t = c .before in shift-room (t .args .m) (t .args .e) (925 + t .args .k) (t .pre .0) (c .if1 .taken)
+    (small t)
 
 add-round-shift : tie.Need-add-round-shift
 add-round-shift c = search needs
@@ -39,7 +40,9 @@ returns : tie.Need-returns
 returns c = let t = c .before in shifted-up (t .args .m) (t .args .e) (925 + t .args .k) (c .if1 .taken) (small t)
 
 returns-2 : tie.Need-returns-2
-returns-2 c = let t = c .before .before in c .round-shift .ensures ∙ shifted-down (t .args .m) (t .args .e) (925 + t .args .k) (le-of-lt (c .before .if1 .left))
+returns-2 c = let t = c .before .before in c .round-shift .ensures ∙ shifted-down (t .args .m) (t .args .e)
+    (925 + t .args .k) (le-of-lt (c .before .if1 .left))
 
 pub scaled-spec : {M : Type 1} → statement M
-scaled-spec = tie.close (tie.spec add-if1 add-result sub-result shl-result add-round-shift sub-round-shift round-shift-requires returns returns-2)
+scaled-spec = tie.close (tie.spec add-if1 add-result sub-result shl-result add-round-shift sub-round-shift
+    round-shift-requires returns returns-2)

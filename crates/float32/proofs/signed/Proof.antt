@@ -21,11 +21,13 @@ int-to-float-result-2 c = holds (c .before .before .args .n) (c .before .before 
 
 returns : tie.Need-returns
 unfolding ofInt
-returns c = let t = c .before .before in neg-round binary32 (t .args .n) 1 ∙ ap (λ (s : Bool). round binary32 s (t .args .n) 1) (sym (c .before .if1 .taken))
+returns c = let t = c .before .before in neg-round binary32 (t .args .n) 1
+    ∙ ap (λ (s : Bool). round binary32 s (t .args .n) 1) (sym (c .before .if1 .taken))
 
 returns-2 : tie.Need-returns-2
 unfolding ofInt
-returns-2 c = let t = c .before .before in ap (λ (s : Bool). round binary32 s (t .args .n) 1) (sym (c .before .if1 .left))
+returns-2 c = let t = c .before .before in ap (λ (s : Bool). round binary32 s (t .args .n) 1)
+    (sym (c .before .if1 .left))
 
 pub signed-spec : {M : Type 1} → statement M
 signed-spec = tie.close (tie.spec int-to-float-result int-to-float-result-2 returns returns-2)

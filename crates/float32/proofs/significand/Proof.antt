@@ -20,7 +20,8 @@ returns c = rw (eq-eqb (c .before .before .args .b / 2 ^ 23 % 2 ^ 8) 0 (c .if1 .
 
 returns-2 : tie.Need-returns-2
 unfolding significand
-returns-2 c = rw (ne-eqb (c .before .before .args .b / 2 ^ 23 % 2 ^ 8) 0 (c .if1 .left)) (ap (λ (t : ℕ). 8388608 + t) (c .before .wide .ensures))
+returns-2 c = rw (ne-eqb (c .before .before .args .b / 2 ^ 23 % 2 ^ 8) 0 (c .if1 .left))
+    (ap (λ (t : ℕ). 8388608 + t) (c .before .wide .ensures))
 
 pub significand-spec : {M : Type 1} → statement M
 significand-spec = tie.close (tie.spec wide-requires add-result returns returns-2)

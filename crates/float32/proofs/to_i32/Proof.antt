@@ -18,10 +18,12 @@ between c = middle (c .before .before .args .x) (yes (c .if2 .taken)) (no (c .be
 truncating-f32-to-i64-requires : tie.Need-truncating-f32-to-i64-requires
 truncating-f32-to-i64-requires c κs = (between c .0, between c .1)
 
-is : (c : tie.After-truncating-f32-to-i64) → toZ w64 (ofZ w64 (c .truncating-f32-to-i64 .result)) ≡ toSigned 31 (c .before .before .before .args .x)
+is : (c : tie.After-truncating-f32-to-i64) → toZ w64 (ofZ w64 (c .truncating-f32-to-i64 .result))
+    ≡ toSigned 31 (c .before .before .before .args .x)
 is c =
     let x = c .before .before .before .args .x in
-    ap (λ (z : ℤ). toZ w64 (ofZ w64 z)) (c .truncating-f32-to-i64 .ensures) ∙ toZ-ofZ w64 (toSigned 63 x) (record { sfits = toSigned-in 63 x }) ∙ between (c .before) .2
+    ap (λ (z : ℤ). toZ w64 (ofZ w64 z)) (c .truncating-f32-to-i64 .ensures) ∙ toZ-ofZ w64 (toSigned 63 x)
+    (record { sfits = toSigned-in 63 x }) ∙ between (c .before) .2
 
 narrow : (x : Float) → SFits w32 (toSigned 31 x)
 narrow x = record { sfits = toSigned-in 31 x }

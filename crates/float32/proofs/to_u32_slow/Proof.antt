@@ -16,11 +16,15 @@ truncating-f32-to-u64-requires : tie.Need-truncating-f32-to-u64-requires
 unfolding ofBits neg
 truncating-f32-to-u64-requires c κs = (yes (c .if2 .taken), between c .0)
 
-is : (c : tie.After-truncating-f32-to-u64) → c .truncating-f32-to-u64 .result ≡ toUnsigned 32 (c .before .before .before .args .x)
+is : (c : tie.After-truncating-f32-to-u64) → c .truncating-f32-to-u64 .result
+    ≡ toUnsigned 32 (c .before .before .before .args .x)
 is c = c .truncating-f32-to-u64 .ensures ∙ between (c .before) .1
 
 cast-result : tie.Need-cast-result
-cast-result c = record { fits = subst (λ (n : ℕ). n < 2 ^ 32) (sym (is c)) (toUnsigned-lt 32 (c .before .before .before .args .x)) }
+cast-result c = record {
+  fits = subst (λ (n : ℕ). n < 2 ^ 32) (sym (is c))
+      (toUnsigned-lt 32 (c .before .before .before .args .x));
+}
 
 returns : tie.Need-returns
 unfolding ofBits

@@ -44,7 +44,8 @@ slice-aggregate-simulate-6 c = search needs
 
 array-share-prefix-parameters : tie.Need-array-share-prefix-parameters
 array-share-prefix-parameters c =
-    let at-parameter-count = c .before .before .before .before .before .before .before .before .before .before .before in
+    let at-parameter-count = c .before .before .before .before .before .before .before .before .before .before .before
+    in
     let at-floats-of-34 = at-parameter-count .before in
     let start = at-floats-of-34 .before .before .before .before in
     omega (
@@ -56,7 +57,8 @@ array-share-prefix-parameters c =
 
 slice-aggregate-simulate-7 : tie.Need-slice-aggregate-simulate-7
 slice-aggregate-simulate-7 c =
-    let at-parameter-count = c .before .before .before .before .before .before .before .before .before .before .before .before in
+    let at-parameter-count = c .before .before .before .before .before .before .before .before .before .before .before
+    .before in
     let at-floats-of-34 = at-parameter-count .before in
     let start = at-floats-of-34 .before .before .before .before in
     sym (length-take-le (at-parameter-count .parameter-count .result) (at-floats-of-34 .floats-of-34 .result)
@@ -89,7 +91,8 @@ returns : tie.Need-returns
 unfolding lists parametersOf
 returns c =
     let at-simulate = c .before .before .before .before .before .before .before .before .before .before .before in
-    let at-from-bits = at-simulate .before .before .before .before .before .before .before .before .before .before .before .before .before in
+    let at-from-bits = at-simulate .before .before .before .before .before .before .before .before .before .before
+    .before .before .before in
     let at-config-of = at-from-bits .before in
     let at-parameter-count = at-config-of .before in
     let at-floats-of-34 = at-parameter-count .before in

@@ -31,7 +31,8 @@ returns c =
 returns-2 : tie.Need-returns-2
 returns-2 c =
     rw (
-      sym (c .before .before .before .before .before .is-finite .ensures) ∙ c .before .before .before .before .if1 .taken,
+      sym (c .before .before .before .before .before .is-finite .ensures) ∙ c .before .before .before .before .if1
+          .taken,
       sym (c .before .before .before .is-finite2 .ensures) ∙ c .before .before .if2 .taken,
       sym (c .before .is-finite3 .ensures) ∙ c .if3 .left,
     )

@@ -27,7 +27,8 @@ returns c =
       c .before .to-i32 .ensures,
       c .before .before .clamp .ensures,
       at-round .round .ensures,
-      itself (bucketIndex (start .args .value) (start .args .step)) (bucket-in (start .args .value) (start .args .step)),
+      itself (bucketIndex (start .args .value) (start .args .step))
+          (bucket-in (start .args .value) (start .args .step)),
     )
 
 pub bucket-index-spec : {M : Type 1} → statement M

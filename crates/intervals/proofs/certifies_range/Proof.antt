@@ -28,9 +28,12 @@ returns c =
     let at-retention = at-no-less .before in
     let at-max = at-retention .before in
     let start = at-max .before in
-    range-both (Model.retention (start .args .curve)) (start .args .retention) (start .args .interval) (at-retention .retention .result)
-    (at-no-less .no-less .result) (at-retention .retention .ensures .0 ∙ ap (λ (x : Float). Model.retention (start .args .curve) x) (at-max .max .ensures))
-    (at-no-less .no-less .ensures) (c .before .retention2 .result) (c .below .result) (c .before .before .if1 .taken) (c .before .retention2 .ensures .0)
+    range-both (Model.retention (start .args .curve)) (start .args .retention) (start .args .interval)
+    (at-retention .retention .result)
+    (at-no-less .no-less .result) (at-retention .retention .ensures .0
+    ∙ ap (λ (x : Float). Model.retention (start .args .curve) x) (at-max .max .ensures))
+    (at-no-less .no-less .ensures) (c .before .retention2 .result) (c .below .result) (c .before .before .if1 .taken)
+    (c .before .retention2 .ensures .0)
     (c .below .ensures)
 
 returns-2 : tie.Need-returns-2
@@ -38,9 +41,11 @@ unfolding ofBits ofFields round
 returns-2 c =
     let at-max = c .before .before .before in
     let start = at-max .before in
-    range-fails (Model.retention (start .args .curve)) (start .args .retention) (start .args .interval) (c .before .before .retention .result)
+    range-fails (Model.retention (start .args .curve)) (start .args .retention) (start .args .interval)
+    (c .before .before .retention .result)
     (c .before .no-less .result)
-    (c .before .before .retention .ensures .0 ∙ ap (λ (x : Float). Model.retention (start .args .curve) x) (at-max .max .ensures))
+    (c .before .before .retention .ensures .0 ∙ ap (λ (x : Float). Model.retention (start .args .curve) x)
+    (at-max .max .ensures))
     (c .before .no-less .ensures) (c .if1 .left)
 
 pub certifies-range-spec : {M : Type 1} → statement M

@@ -12,7 +12,8 @@ use Rattle.intervals.proofs.clear.Statement.{statement}
 use Rattle.intervals.proofs.clear.Tie as tie
 
 abbrev Inv-loop : tie.InvT-loop
-Inv-loop intervals₀ i₀ intervals i = (i ≤ length intervals₀) × (intervals ≡ replicate i 0ᶠ ++ drop i intervals₀) × (length intervals ≡ length intervals₀)
+Inv-loop intervals₀ i₀ intervals i = (i ≤ length intervals₀) × (intervals ≡ replicate i 0ᶠ ++ drop i intervals₀)
+    × (length intervals ≡ length intervals₀)
 
 abbrev μ-loop : tie.MeasureT-loop
 μ-loop intervals₀ i₀ intervals i = length intervals₀ - i

@@ -16,7 +16,8 @@ same-length-2 : tie.Need-same-length-2
 same-length-2 c = search needs
 
 returns : tie.Need-returns
-returns c = table-is (c .before .before .before .before .before .put-key .ensures) (c .before .before .put-interval .ensures)
+returns c = table-is (c .before .before .before .before .before .put-key .ensures)
+    (c .before .before .put-interval .ensures)
 
 pub enter-spec : {M : Type 1} → statement M
 enter-spec =

@@ -9,7 +9,8 @@ enum-known-slot : tie.Need-enum-known-slot
 enum-known-slot c = search needs
 
 returns : tie.Need-returns
-returns c = not-entered (table (c .before .before .args .keys .now) (c .before .before .args .intervals .now)) (c .before .before .args .slot) (c .match .keys2)
+returns c = not-entered (table (c .before .before .args .keys .now) (c .before .before .args .intervals .now))
+    (c .before .before .args .slot) (c .match .keys2)
 
 enter-requires : tie.Need-enter-requires
 enter-requires c κs = search needs
@@ -21,7 +22,8 @@ same-length-2 : tie.Need-same-length-2
 same-length-2 c = search needs
 
 returns-2 : tie.Need-returns-2
-returns-2 c = c .before .before .before .enter .ensures ∙ rw (c .before .before .before .before .before .before .before .slot .given .1)
+returns-2 c = c .before .before .before .enter .ensures ∙ rw (c .before .before .before .before .before .before .before
+    .slot .given .1)
 
 pub enter-slot-spec : {M : Type 1} → statement M
 enter-slot-spec =

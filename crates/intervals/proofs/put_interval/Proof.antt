@@ -17,7 +17,8 @@ returns : tie.Need-returns
 returns c = search needs
 
 returns-2 : tie.Need-returns-2
-returns-2 c = sym (set-out (c .before .args .intervals .now) (c .before .args .place) (c .before .args .v) (c .if1 .left))
+returns-2 c = sym (set-out (c .before .args .intervals .now) (c .before .args .place) (c .before .args .v)
+    (c .if1 .left))
 
 pub put-interval-spec : {M : Type 1} → statement M
 put-interval-spec =

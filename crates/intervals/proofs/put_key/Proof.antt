@@ -18,7 +18,8 @@ returns : tie.Need-returns
 returns c = search needs
 
 returns-2 : tie.Need-returns-2
-returns-2 c = sym (set-out (c .before .args .keys .now) (c .before .args .place) (c .before .args .s ∷ c .before .args .r ∷ []) (c .if1 .left))
+returns-2 c = sym (set-out (c .before .args .keys .now) (c .before .args .place)
+    (c .before .args .s ∷ c .before .args .r ∷ []) (c .if1 .left))
 
 pub put-key-spec : {M : Type 1} → statement M
 put-key-spec = tie.close (tie.spec mul-t8 slice-set-from-keys same-length returns returns-2)

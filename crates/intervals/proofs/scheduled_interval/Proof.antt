@@ -28,8 +28,10 @@ returns c =
     let start = at-stability-bucket .before .before in
     slot-full (curveOf (start .args .model)) (start .args .stability) (start .args .retention) (start .args .most)
     (table (start .args .keys .now) (start .args .intervals .now)) (at-stability-bucket .stability-bucket .result)
-    (at-retention-bucket .retention-bucket .result) (at-stability-bucket .stability-bucket .ensures .0) (at-retention-bucket .retention-bucket .ensures)
-    (sym (c .before .before .lookup .ensures .entry) ∙ not-found (c .before .before .lookup .result) (c .before .match .keys2) (c .match2 .keys2))
+    (at-retention-bucket .retention-bucket .result) (at-stability-bucket .stability-bucket .ensures .0)
+    (at-retention-bucket .retention-bucket .ensures)
+    (sym (c .before .before .lookup .ensures .entry) ∙ not-found (c .before .before .lookup .result)
+    (c .before .match .keys2) (c .match2 .keys2))
 
 scheduled-requires : tie.Need-scheduled-requires
 scheduled-requires c κs = search needs
@@ -42,7 +44,8 @@ returns-2 c =
     let start = at-stability-bucket .before .before in
     slot-new (curveOf (start .args .model)) (start .args .stability) (start .args .retention) (start .args .most)
     (table (start .args .keys .now) (start .args .intervals .now)) (at-stability-bucket .stability-bucket .result)
-    (at-retention-bucket .retention-bucket .result) (at-stability-bucket .stability-bucket .ensures .0) (at-retention-bucket .retention-bucket .ensures)
+    (at-retention-bucket .retention-bucket .result) (at-stability-bucket .stability-bucket .ensures .0)
+    (at-retention-bucket .retention-bucket .ensures)
     (sym (at-lookup .lookup .ensures .entry) ∙ c .before .before .entry2 .given .1) (c .scheduled .ensures)
 
 curve-requires : tie.Need-curve-requires
@@ -63,8 +66,10 @@ returns-3 c =
     let start = at-stability-bucket .before .before in
     slot-held (curveOf (start .args .model)) (start .args .stability) (start .args .retention) (start .args .most)
     (table (start .args .keys .now) (start .args .intervals .now)) (at-stability-bucket .stability-bucket .result)
-    (at-retention-bucket .retention-bucket .result) (at-stability-bucket .stability-bucket .ensures .0) (at-retention-bucket .retention-bucket .ensures)
-    (sym (at-lookup .lookup .ensures .entry) ∙ at-entry .entry .given .1) (c .before .before .curve .result) (c .before .certifies-rounded-interval .result)
+    (at-retention-bucket .retention-bucket .result) (at-stability-bucket .stability-bucket .ensures .0)
+    (at-retention-bucket .retention-bucket .ensures)
+    (sym (at-lookup .lookup .ensures .entry) ∙ at-entry .entry .given .1) (c .before .before .curve .result)
+    (c .before .certifies-rounded-interval .result)
     (c .before .before .curve .ensures) (c .before .certifies-rounded-interval .ensures) (c .if1 .taken)
 
 returns-4 : tie.Need-returns-4
@@ -77,9 +82,12 @@ returns-4 c =
     let start = at-stability-bucket .before .before in
     slot-anew (curveOf (start .args .model)) (start .args .stability) (start .args .retention) (start .args .most)
     (table (start .args .keys .now) (start .args .intervals .now)) (at-stability-bucket .stability-bucket .result)
-    (at-retention-bucket .retention-bucket .result) (at-stability-bucket .stability-bucket .ensures .0) (at-retention-bucket .retention-bucket .ensures)
-    (sym (at-lookup .lookup .ensures .entry) ∙ at-entry .entry .given .1) (at-curve .curve .result) (c .before .before .certifies-rounded-interval .result)
-    (at-curve .curve .ensures) (c .before .before .certifies-rounded-interval .ensures) (c .before .if1 .left) (c .scheduled2 .ensures)
+    (at-retention-bucket .retention-bucket .result) (at-stability-bucket .stability-bucket .ensures .0)
+    (at-retention-bucket .retention-bucket .ensures)
+    (sym (at-lookup .lookup .ensures .entry) ∙ at-entry .entry .given .1) (at-curve .curve .result)
+    (c .before .before .certifies-rounded-interval .result)
+    (at-curve .curve .ensures) (c .before .before .certifies-rounded-interval .ensures) (c .before .if1 .left)
+    (c .scheduled2 .ensures)
 
 pub scheduled-interval-spec : {M : Type 1} → statement M
 scheduled-interval-spec =

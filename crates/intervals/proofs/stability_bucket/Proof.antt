@@ -33,7 +33,8 @@ returns : tie.Need-returns
 returns c =
     let s = c .before .before .before in (
       value c,
-      λ f. subst (IsLnBucket (max (s .args .stability) sMin)) (sym (value c)) (ln-bucket (s .args .stability) (held s) f),
+      λ f. subst (IsLnBucket (max (s .args .stability) sMin)) (sym (value c))
+          (ln-bucket (s .args .stability) (held s) f),
     )
 
 pub stability-bucket-spec : {M : Type 1} → statement M

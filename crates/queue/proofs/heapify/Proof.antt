@@ -59,7 +59,8 @@ same-length c = search needs
 returns : tie.Need-returns Inv-loop μ-loop
 returns c =
     let p = c .before .before .before .before .before in
-    sink-rests (p .loop .rows) (p .before .args .t3) (p .before .args .n) (p .loop .pos) (p .loop .left) (p .loop .left + 1) _
+    sink-rests (p .loop .rows) (p .before .args .t3) (p .before .args .n) (p .loop .pos) (p .loop .left)
+    (p .loop .left + 1) _
     (p .loop .inv .0) (omega arith) (omega arith) (omega arith)
     (sym (lesser-yes (p .loop .rows) (p .loop .left) (p .loop .left + 1) (c .before .if1 .taken))) (omega arith)
 
@@ -87,9 +88,11 @@ loop-less c = omega arith
 loop-again : tie.Need-loop-again Inv-loop μ-loop
 loop-again c =
     let p = c .before .before .before .before .before .before in (
-      sink-turn (p .loop .rows) (p .before .args .t3) (p .before .args .n) (p .loop .pos) (p .loop .left) (p .loop .left + 1) _
+      sink-turn (p .loop .rows) (p .before .args .t3) (p .before .args .n) (p .loop .pos) (p .loop .left)
+          (p .loop .left + 1) _
           (p .loop .inv .0) (omega arith) (omega arith) (omega arith)
-          (sym (lesser-yes (p .loop .rows) (p .loop .left) (p .loop .left + 1) (c .before .before .if1 .taken))) (omega arith) (omega arith),
+          (sym (lesser-yes (p .loop .rows) (p .loop .left) (p .loop .left + 1) (c .before .before .if1 .taken)))
+          (omega arith) (omega arith),
       simp length-set (omega arith),
       simp length-set (omega arith),
       refl,
@@ -108,7 +111,8 @@ same-length-2 c = search needs
 returns-2 : tie.Need-returns-2 Inv-loop μ-loop
 returns-2 c =
     let p = c .before .before .before .before .before in
-    sink-rests (p .loop .rows) (p .before .args .t3) (p .before .args .n) (p .loop .pos) (p .loop .left) (p .loop .left) _
+    sink-rests (p .loop .rows) (p .before .args .t3) (p .before .args .n) (p .loop .pos) (p .loop .left) (p .loop .left)
+    _
     (p .loop .inv .0) (omega arith) (omega arith) (omega arith)
     (sym (lesser-no (p .loop .rows) (p .loop .left) (p .loop .left + 1) (c .before .if1 .left))) (omega arith)
 
@@ -136,9 +140,11 @@ loop-less-2 c = omega arith
 loop-again-2 : tie.Need-loop-again-2 Inv-loop μ-loop
 loop-again-2 c =
     let p = c .before .before .before .before .before .before in (
-      sink-turn (p .loop .rows) (p .before .args .t3) (p .before .args .n) (p .loop .pos) (p .loop .left) (p .loop .left) _
+      sink-turn (p .loop .rows) (p .before .args .t3) (p .before .args .n) (p .loop .pos) (p .loop .left)
+          (p .loop .left) _
           (p .loop .inv .0) (omega arith) (omega arith) (omega arith)
-          (sym (lesser-no (p .loop .rows) (p .loop .left) (p .loop .left + 1) (c .before .before .if1 .left))) (omega arith) (omega arith),
+          (sym (lesser-no (p .loop .rows) (p .loop .left) (p .loop .left + 1) (c .before .before .if1 .left)))
+          (omega arith) (omega arith),
       simp length-set (omega arith),
       simp length-set (omega arith),
       refl,

@@ -6,7 +6,8 @@ use Rattle.queue_order.proofs.operations.Statement.{statement}
 use Rattle.queue_order.proofs.operations.Tie as tie
 
 abbrev Inv-loop : tie.InvT-loop
-Inv-loop rows₀ queued₀ q₀ state₀ i₀ rows queued q state i = (state < 2147483648) × (length rows ≡ length rows₀) × (length queued ≡ length queued₀)
+Inv-loop rows₀ queued₀ q₀ state₀ i₀ rows queued q state i = (state < 2147483648) × (length rows ≡ length rows₀)
+    × (length queued ≡ length queued₀)
 
 abbrev μ-loop : tie.MeasureT-loop
 μ-loop rows₀ queued₀ q₀ state₀ i₀ rows queued q state i = 6000 - i

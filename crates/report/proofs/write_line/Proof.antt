@@ -39,7 +39,8 @@ returns-3 c =
       line-written (a .out .now) (a .line .now) (a .at) (at-put-text .put-text .last .0) (at-put-text .put-text .result)
           (omega arith) (at-put-text .put-text .ensures),
       line-bytes (a .out .now) (a .line .now) (a .at)
-          (at-put-text .put-text .last .0) (at-put-text .put-text .result) (omega arith) (at-put-text .put-text .ensures),
+          (at-put-text .put-text .last .0) (at-put-text .put-text .result) (omega arith)
+          (at-put-text .put-text .ensures),
     )
 
 pub write-line-spec : {M : Type 1} → statement M

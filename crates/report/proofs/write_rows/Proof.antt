@@ -104,7 +104,8 @@ returns-2 c =
           (at-loop .loop .out) (at-loop .loop .inv .0) (c .loop-test .left)
           ∙ sym (at-loop .loop .inv .1 .1 .0),
       rows-end-bytes (a .days .now) (a .costs .now) (a .memorized .now)
-          (at-loop .loop .d) (a .span) (at-loop .loop .at) (at-loop .loop .out) (at-loop .loop .inv .0) (c .loop-test .left)
+          (at-loop .loop .d) (a .span) (at-loop .loop .at) (at-loop .loop .out) (at-loop .loop .inv .0)
+          (c .loop-test .left)
           ∙ sym (at-loop .loop .inv .1 .1 .1),
     )
 

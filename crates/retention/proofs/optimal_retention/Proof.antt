@@ -77,7 +77,8 @@ same-length-9 c = search needs
 
 returns-2 : tie.Need-returns-2
 returns-2 c =
-    let at-search = c .before .before .before .before .before .before .before .before .before .before .before .before .before in
+    let at-search = c .before .before .before .before .before .before .before .before .before .before .before .before
+    .before in
     let at-enum-told = at-search .before .before .before .before .before .before .before .before .before .before in
     let at-check-entry = at-enum-told .before .before in
     let at-rounds-ok = at-check-entry .before in

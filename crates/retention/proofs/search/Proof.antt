@@ -12,12 +12,16 @@ use Rattle.retention.proofs.search.Tie as tie
 use borrow.Author.Needs.{needs}
 
 abbrev Inv-loop : tie.InvT-loop
-Inv-loop cards₀ counts₀ rows₀ days₀ costs₀ memorized₀ due₀ keys₀ intervals₀ parameters existing existing-counts config rounds stepper₀ made₀ cards counts rows days costs memorized due keys intervals stepper made = Trying (searchInputs config parameters existing existing-counts) rounds (lent cards₀ counts₀ rows₀ days₀ costs₀ memorized₀ due₀ keys₀ intervals₀) (lent cards counts rows days costs memorized due keys intervals) stepper made
+Inv-loop cards₀ counts₀ rows₀ days₀ costs₀ memorized₀ due₀ keys₀ intervals₀ parameters existing existing-counts config
+    rounds stepper₀ made₀ cards counts rows days costs memorized due keys intervals stepper made = Trying
+    (searchInputs config parameters existing existing-counts) rounds (lent cards₀ counts₀ rows₀ days₀ costs₀ memorized₀
+    due₀ keys₀ intervals₀) (lent cards counts rows days costs memorized due keys intervals) stepper made
     × SameLengths (lent cards₀ counts₀ rows₀ days₀ costs₀ memorized₀ due₀ keys₀ intervals₀)
     (lent cards counts rows days costs memorized due keys intervals)
 
 abbrev μ-loop : tie.MeasureT-loop
-μ-loop cards₀ counts₀ rows₀ days₀ costs₀ memorized₀ due₀ keys₀ intervals₀ parameters existing existing-counts config rounds stepper₀ made₀ cards counts rows days costs memorized due keys intervals stepper made = rounds + 1 - made
+μ-loop cards₀ counts₀ rows₀ days₀ costs₀ memorized₀ due₀ keys₀ intervals₀ parameters existing existing-counts config
+    rounds stepper₀ made₀ cards counts rows days costs memorized due keys intervals stepper made = rounds + 1 - made
 
 start-requires : tie.Need-start-requires Inv-loop μ-loop
 start-requires c κs = tt
@@ -129,62 +133,81 @@ refused-requires c κs = tt
 
 same-length-10 : tie.Need-same-length-10 Inv-loop μ-loop
 same-length-10 c =
-    let at-sample = c .before .before .before .before .before .before .before .before .before .before .before .before .before .before .before .before in
-    let at-loop = at-sample .before .before .before .before .before .before .before .before .before .before .before .before .before .before .before in
+    let at-sample = c .before .before .before .before .before .before .before .before .before .before .before .before
+    .before .before .before .before in
+    let at-loop = at-sample .before .before .before .before .before .before .before .before .before .before .before
+    .before .before .before .before in
     at-sample .sample .kept .0 ∙ at-loop .loop .inv .1 .cards
 
 same-length-11 : tie.Need-same-length-11 Inv-loop μ-loop
 same-length-11 c =
-    let at-sample = c .before .before .before .before .before .before .before .before .before .before .before .before .before .before .before .before in
-    let at-loop = at-sample .before .before .before .before .before .before .before .before .before .before .before .before .before .before .before in
+    let at-sample = c .before .before .before .before .before .before .before .before .before .before .before .before
+    .before .before .before .before in
+    let at-loop = at-sample .before .before .before .before .before .before .before .before .before .before .before
+    .before .before .before .before in
     at-sample .sample .kept .1 .0 ∙ at-loop .loop .inv .1 .counts
 
 same-length-12 : tie.Need-same-length-12 Inv-loop μ-loop
 same-length-12 c =
-    let at-sample = c .before .before .before .before .before .before .before .before .before .before .before .before .before .before .before .before in
-    let at-loop = at-sample .before .before .before .before .before .before .before .before .before .before .before .before .before .before .before in
+    let at-sample = c .before .before .before .before .before .before .before .before .before .before .before .before
+    .before .before .before .before in
+    let at-loop = at-sample .before .before .before .before .before .before .before .before .before .before .before
+    .before .before .before .before in
     at-sample .sample .kept .1 .1 .0 ∙ at-loop .loop .inv .1 .rows
 
 same-length-13 : tie.Need-same-length-13 Inv-loop μ-loop
 same-length-13 c =
-    let at-sample = c .before .before .before .before .before .before .before .before .before .before .before .before .before .before .before .before in
-    let at-loop = at-sample .before .before .before .before .before .before .before .before .before .before .before .before .before .before .before in
+    let at-sample = c .before .before .before .before .before .before .before .before .before .before .before .before
+    .before .before .before .before in
+    let at-loop = at-sample .before .before .before .before .before .before .before .before .before .before .before
+    .before .before .before .before in
     at-sample .sample .kept .1 .1 .1 .0 ∙ at-loop .loop .inv .1 .days
 
 same-length-14 : tie.Need-same-length-14 Inv-loop μ-loop
 same-length-14 c =
-    let at-sample = c .before .before .before .before .before .before .before .before .before .before .before .before .before .before .before .before in
-    let at-loop = at-sample .before .before .before .before .before .before .before .before .before .before .before .before .before .before .before in
+    let at-sample = c .before .before .before .before .before .before .before .before .before .before .before .before
+    .before .before .before .before in
+    let at-loop = at-sample .before .before .before .before .before .before .before .before .before .before .before
+    .before .before .before .before in
     at-sample .sample .kept .1 .1 .1 .1 .0 ∙ at-loop .loop .inv .1 .costs
 
 same-length-15 : tie.Need-same-length-15 Inv-loop μ-loop
 same-length-15 c =
-    let at-sample = c .before .before .before .before .before .before .before .before .before .before .before .before .before .before .before .before in
-    let at-loop = at-sample .before .before .before .before .before .before .before .before .before .before .before .before .before .before .before in
+    let at-sample = c .before .before .before .before .before .before .before .before .before .before .before .before
+    .before .before .before .before in
+    let at-loop = at-sample .before .before .before .before .before .before .before .before .before .before .before
+    .before .before .before .before in
     at-sample .sample .kept .1 .1 .1 .1 .1 .0 ∙ at-loop .loop .inv .1 .memorized
 
 same-length-16 : tie.Need-same-length-16 Inv-loop μ-loop
 same-length-16 c =
-    let at-sample = c .before .before .before .before .before .before .before .before .before .before .before .before .before .before .before .before in
-    let at-loop = at-sample .before .before .before .before .before .before .before .before .before .before .before .before .before .before .before in
+    let at-sample = c .before .before .before .before .before .before .before .before .before .before .before .before
+    .before .before .before .before in
+    let at-loop = at-sample .before .before .before .before .before .before .before .before .before .before .before
+    .before .before .before .before in
     at-sample .sample .kept .1 .1 .1 .1 .1 .1 .0 ∙ at-loop .loop .inv .1 .due
 
 same-length-17 : tie.Need-same-length-17 Inv-loop μ-loop
 same-length-17 c =
-    let at-sample = c .before .before .before .before .before .before .before .before .before .before .before .before .before .before .before .before in
-    let at-loop = at-sample .before .before .before .before .before .before .before .before .before .before .before .before .before .before .before in
+    let at-sample = c .before .before .before .before .before .before .before .before .before .before .before .before
+    .before .before .before .before in
+    let at-loop = at-sample .before .before .before .before .before .before .before .before .before .before .before
+    .before .before .before .before in
     at-sample .sample .kept .1 .1 .1 .1 .1 .1 .1 .0 ∙ at-loop .loop .inv .1 .keys
 
 same-length-18 : tie.Need-same-length-18 Inv-loop μ-loop
 same-length-18 c =
-    let at-sample = c .before .before .before .before .before .before .before .before .before .before .before .before .before .before .before .before in
-    let at-loop = at-sample .before .before .before .before .before .before .before .before .before .before .before .before .before .before .before in
+    let at-sample = c .before .before .before .before .before .before .before .before .before .before .before .before
+    .before .before .before .before in
+    let at-loop = at-sample .before .before .before .before .before .before .before .before .before .before .before
+    .before .before .before .before in
     at-sample .sample .kept .1 .1 .1 .1 .1 .1 .1 .1 .0 ∙ at-loop .loop .inv .1 .intervals
 
 returns-2 : tie.Need-returns-2 Inv-loop μ-loop
 returns-2 c =
     let at-match = c .before .before in
-    let at-sample = at-match .before .before .before .before .before .before .before .before .before .before .before .before .before .before in
+    let at-sample = at-match .before .before .before .before .before .before .before .before .before .before .before
+    .before .before .before in
     let at-asks = at-sample .before .before .before .before .before .before .before .before .before .before .before in
     let at-next = at-asks .before .before in
     let at-loop-test = at-next .before in
@@ -203,19 +226,24 @@ take-mean-requires c κs = tt
 
 add-made : tie.Need-add-made Inv-loop μ-loop
 add-made c =
-    let at-loop-test = c .before .before .before .before .before .before .before .before .before .before .before .before .before .before .before .before .before .before .before .before .before .before .before .before .before .before .before .before .before .before .before in
+    let at-loop-test = c .before .before .before .before .before .before .before .before .before .before .before .before
+    .before .before .before .before .before .before .before .before .before .before .before .before .before .before
+    .before .before .before .before .before in
     let top = at-loop-test .before .before .before .before .before .before .before .before in
     omega (arith, top .pre, at-loop-test .loop-test .taken)
 
 loop-less : tie.Need-loop-less Inv-loop μ-loop
 loop-less c =
-    let at-loop-test = c .before .before .before .before .before .before .before .before .before .before .before .before .before .before .before .before .before .before .before .before .before .before .before .before .before .before .before .before .before .before .before in
+    let at-loop-test = c .before .before .before .before .before .before .before .before .before .before .before .before
+    .before .before .before .before .before .before .before .before .before .before .before .before .before .before
+    .before .before .before .before .before in
     omega (arith, at-loop-test .loop-test .taken)
 
 loop-again : tie.Need-loop-again Inv-loop μ-loop
 loop-again c =
     let at-trial = c .before .before in
-    let at-sample = at-trial .before .before .before .before .before .before .before .before .before .before .before .before .before .before .before in
+    let at-sample = at-trial .before .before .before .before .before .before .before .before .before .before .before
+    .before .before .before .before in
     let at-asks = at-sample .before .before .before .before .before .before .before .before .before .before .before in
     let at-next = at-asks .before .before in
     let at-loop-test = at-next .before in

@@ -215,7 +215,8 @@ module _ {C : Type 0} (R : Rules C) (i : Inputs) (fit : Suits R i) (s s′ : Sta
         ap (λ (z : State C). z .draws) (two .states .whole) ∙ ap (λ (z : State C). z .draws) (both .states .same)
         ∙ sym (ap (λ (z : State C). z .draws) (one .states .whole)) in
         let queued : endOf R i s′ .queue .len ≡ endOf R i s .queue .len =
-        ap (λ (z : State C). z .queue .len) (two .states .whole) ∙ ap (λ (z : State C). z .queue .len) (both .states .same)
+        ap (λ (z : State C). z .queue .len) (two .states .whole) ∙ ap (λ (z : State C). z .queue .len)
+        (both .states .same)
         ∙ sym (ap (λ (z : State C). z .queue .len) (one .states .whole)) in
         record {
           answers = rw (e, e′)

@@ -13,7 +13,12 @@ forgetting-curve-for-state-requires : tie.Need-forgetting-curve-for-state-requir
 forgetting-curve-for-state-requires c κs = search needs
 
 returns : tie.Need-returns
-returns c = rw (c .forgetting-curve-for-state .ensures, c .before .state-of .ensures, c .before .before .new .ensures, curve-is)
+returns c = rw (
+  c .forgetting-curve-for-state .ensures,
+  c .before .state-of .ensures,
+  c .before .before .new .ensures,
+  curve-is,
+)
 
 pub drill-forgetting-curve-for-state-spec : {M : Type 1} → statement M
 drill-forgetting-curve-for-state-spec =

@@ -13,7 +13,12 @@ next-interval-bisection-requires : tie.Need-next-interval-bisection-requires
 next-interval-bisection-requires c κs = search needs
 
 returns : tie.Need-returns
-returns c = rw (c .next-interval-bisection .ensures, c .before .state-of .ensures, c .before .before .new .ensures, curves-are)
+returns c = rw (
+  c .next-interval-bisection .ensures,
+  c .before .state-of .ensures,
+  c .before .before .new .ensures,
+  curves-are,
+)
 
 pub drill-next-interval-bisection-spec : {M : Type 1} → statement M
 drill-next-interval-bisection-spec =

@@ -13,7 +13,12 @@ next-interval-for-state-requires : tie.Need-next-interval-for-state-requires
 next-interval-for-state-requires c κs = search needs
 
 returns : tie.Need-returns
-returns c = rw (c .next-interval-for-state .ensures, c .before .state-of .ensures, c .before .before .new .ensures, curves-are)
+returns c = rw (
+  c .next-interval-for-state .ensures,
+  c .before .state-of .ensures,
+  c .before .before .new .ensures,
+  curves-are,
+)
 
 pub drill-next-interval-for-state-spec : {M : Type 1} → statement M
 drill-next-interval-for-state-spec =

@@ -41,7 +41,8 @@ same-length-9 c = search needs
 
 returns : tie.Need-returns
 returns c =
-    let at-simulate = c .before .before .before .before .before .before .before .before .before .before .before .before .before .before in
+    let at-simulate = c .before .before .before .before .before .before .before .before .before .before .before .before
+    .before .before in
     let at-short-list = at-simulate .before .before .before .before .before .before .before .before .before .before in
     record {
       answer = at-simulate .simulate .result;

@@ -41,7 +41,8 @@ same-length-9 c = search needs
 
 returns : tie.Need-returns
 returns c =
-    let at-search = c .before .before .before .before .before .before .before .before .before .before .before .before .before .before in
+    let at-search = c .before .before .before .before .before .before .before .before .before .before .before .before
+    .before .before in
     let at-short-list = at-search .before .before .before .before .before .before .before .before .before .before in
     record {
       answer = at-search .optimal-retention .result;

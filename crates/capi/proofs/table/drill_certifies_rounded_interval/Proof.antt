@@ -14,7 +14,12 @@ certifies-rounded-interval-requires : tie.Need-certifies-rounded-interval-requir
 certifies-rounded-interval-requires c κs = search needs
 
 returns : tie.Need-returns
-returns c = rw (c .certifies-rounded-interval .ensures, c .before .curve .ensures, c .before .before .new .ensures, curve-is)
+returns c = rw (
+  c .certifies-rounded-interval .ensures,
+  c .before .curve .ensures,
+  c .before .before .new .ensures,
+  curve-is,
+)
 
 pub drill-certifies-rounded-interval-spec : {M : Type 1} → statement M
 drill-certifies-rounded-interval-spec =

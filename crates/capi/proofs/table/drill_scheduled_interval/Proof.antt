@@ -27,8 +27,18 @@ returns c =
     let at-enter-slot = c .before .before .before .before in
     let at-scheduled-interval = at-enter-slot .before .before .before in
     let at-new = at-scheduled-interval .before .before .before in (
-      rw (c .interval-in .ensures, at-scheduled-interval .scheduled-interval .ensures, at-new .new .ensures, curves-are),
-      rw (at-enter-slot .enter-slot .ensures, at-scheduled-interval .scheduled-interval .ensures, at-new .new .ensures, curves-are),
+      rw (
+        c .interval-in .ensures,
+        at-scheduled-interval .scheduled-interval .ensures,
+        at-new .new .ensures,
+        curves-are,
+      ),
+      rw (
+        at-enter-slot .enter-slot .ensures,
+        at-scheduled-interval .scheduled-interval .ensures,
+        at-new .new .ensures,
+        curves-are,
+      ),
     )
 
 pub drill-scheduled-interval-spec : {M : Type 1} → statement M

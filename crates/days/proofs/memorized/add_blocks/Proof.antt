@@ -52,7 +52,8 @@ loop-again c =
     let at-loop = c .before .before .before .before .before .before in
     let start = at-loop .before .before in (
       blocks-turn (λ t. retention (start .args .curve) t) (start .args .last) _ _ _ _ _ _ _ (at-loop .loop .inv .0)
-          (omega (arith, c .before .before .before .before .up-to-64 .ensures .0)) (c .before .before .add-block .ensures),
+          (omega (arith, c .before .before .before .before .up-to-64 .ensures .0))
+          (c .before .before .add-block .ensures),
       omega arith,
     )
 

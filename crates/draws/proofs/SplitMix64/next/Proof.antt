@@ -14,7 +14,11 @@ mix-requires c κs = search needs
 
 returns : tie.Need-returns
 unfolding advance
-returns c = (c .before .wrapping-add-u64 .ensures, c .mix .ensures ∙ ap (λ (z : ℕ). mix z) (c .before .wrapping-add-u64 .ensures))
+returns c = (
+  c .before .wrapping-add-u64 .ensures,
+  c .mix .ensures ∙ ap (λ (z : ℕ). mix z)
+      (c .before .wrapping-add-u64 .ensures),
+)
 
 pub next-spec : {M : Type 1} → statement M
 next-spec = tie.close (tie.spec wrapping-add-u64-requires mix-requires returns)

@@ -103,7 +103,8 @@ loop-again c =
     let b = base (c .before .before) in (
       omega arith,
       fill-turn _ _ _ _ _ (at-loop .loop .inv .1)
-          (arg-from (toBits binary32 (getD (start .args .x .now) (at-loop .loop .i) nan)) (start .args .c) (b .low) (b .high)
+          (arg-from (toBits binary32 (getD (start .args .x .now) (at-loop .loop .i) nan)) (start .args .c) (b .low)
+          (b .high)
           (start .pre .1) (c .before .log2-by .result) (c .quick-arg .result) (c .before .log2-by .ensures)
           (c .quick-arg .ensures)),
     )

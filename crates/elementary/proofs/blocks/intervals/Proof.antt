@@ -32,7 +32,8 @@ float-to-bits-block-interval-at : tie.Need-float-to-bits-block-interval-at Inv-l
 float-to-bits-block-interval-at c = c .before .before .before .pre .1 (c .before .before .loop .i) (omega arith) .number
 
 cast-block-interval-at : tie.Need-cast-block-interval-at Inv-loop μ-loop
-cast-block-interval-at c = let base = c .before .before .before .pre .1 (c .before .before .loop .i) (omega arith) in omega (arith, base .high)
+cast-block-interval-at c = let base = c .before .before .before .pre .1 (c .before .before .loop .i) (omega arith) in
+    omega (arith, base .high)
 
 block-interval-at-requires : tie.Need-block-interval-at-requires Inv-loop μ-loop
 block-interval-at-requires c κs = tt

@@ -17,7 +17,10 @@ returns : tie.Need-returns
 returns c =
     λ e.
     let k = ltb→lt (c .wrapping-sub-u32 .result) 268435456 (subst T (sym e) tt) in
-    record { low = omega (arith, k, c .wrapping-sub-u32 .ensures); high = omega (arith, k, c .wrapping-sub-u32 .ensures) }
+    record {
+      low = omega (arith, k, c .wrapping-sub-u32 .ensures);
+      high = omega (arith, k, c .wrapping-sub-u32 .ensures);
+    }
 
 returns-2 : tie.Need-returns-2
 returns-2 c = λ e. absurd (true≢false (sym e))

@@ -41,7 +41,8 @@ loop-again c =
     let at = c .before .before .before in (
       omega arith,
       omega (arith, at .loop .inv .1, c .outside-one .ensures .1),
-      λ e. all-turn (λ j. IsBase (getD (at .before .args .x .now) j nan)) (at .loop .i) (at .loop .inv .2 (omega (arith, e)))
+      λ e. all-turn (λ j. IsBase (getD (at .before .args .x .now) j nan)) (at .loop .i)
+          (at .loop .inv .2 (omega (arith, e)))
           (c .outside-one .ensures .0 (omega (arith, e))),
     )
 

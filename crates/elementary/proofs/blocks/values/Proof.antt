@@ -50,7 +50,11 @@ loop-less : tie.Need-loop-less Inv-loop μ-loop
 loop-less c = omega arith
 
 loop-again : tie.Need-loop-again Inv-loop μ-loop
-loop-again c = (omega arith, fill-turn _ _ _ _ _ (c .before .before .before .before .loop .inv .1) (c .normal-by .ensures))
+loop-again c = (
+  omega arith,
+  fill-turn _ _ _ _ _ (c .before .before .before .before .loop .inv .1)
+      (c .normal-by .ensures),
+)
 
 returns : tie.Need-returns Inv-loop μ-loop
 returns c = fill-end _ _ _ _ _ (c .before .loop .inv .1) (omega arith) (omega arith)

@@ -37,22 +37,28 @@ shift-requires : tie.Need-shift-requires
 shift-requires c κs =
     let b = c .before .before .before .before .args .b in
     subst (λ (x : ℕ). (x < 2 ^ 55) × (2 ^ 31 ≤ b → x ≤ 24778155486156208)) (sym (c .to-fixed .ensures))
-    (fixed-fits b (b % 2 ^ 31) (below b (c .before .before .limit-of .result) (c .before .before .limit-of .ensures) (c .before .if2 .taken)))
+    (fixed-fits b (b % 2 ^ 31) (below b (c .before .before .limit-of .result) (c .before .before .limit-of .ensures)
+    (c .before .if2 .taken)))
 
 -- what shift gives
-z-is : (c : tie.After-shift) → c .shift .result ≡ shifted (ltb (c .before .before .before .before .before .args .b) (2 ^ 31)) (fixed (c .before .before .before .before .before .args .b % 2 ^ 31))
-z-is c = c .shift .ensures ∙ ap (shifted (ltb (c .before .before .before .before .before .args .b) (2 ^ 31))) (c .before .to-fixed .ensures)
+z-is : (c : tie.After-shift)
+    → c .shift .result ≡ shifted (ltb (c .before .before .before .before .before .args .b) (2 ^ 31))
+    (fixed (c .before .before .before .before .before .args .b % 2 ^ 31))
+z-is c = c .shift .ensures ∙ ap (shifted (ltb (c .before .before .before .before .before .args .b) (2 ^ 31)))
+    (c .before .to-fixed .ensures)
 
 pack-requires : tie.Need-pack-requires
 pack-requires c κs =
     let b = c .before .before .before .before .before .args .b in
-    let l = below b (c .before .before .before .limit-of .result) (c .before .before .before .limit-of .ensures) (c .before .before .if2 .taken) in
+    let l = below b (c .before .before .before .limit-of .result) (c .before .before .before .limit-of .ensures)
+    (c .before .before .if2 .taken) in
     omega (arith, z-is c, shifted-le (ltb b (2 ^ 31)) (b % 2 ^ 31) l, shifted-ge (ltb b (2 ^ 31)) (b % 2 ^ 31) l)
 
 returns-2 : tie.Need-returns-2
 returns-2 c =
     let b = c .before .before .before .before .before .before .args .b in
-    let l = below b (c .before .before .before .before .limit-of .result) (c .before .before .before .before .limit-of .ensures) (c .before .before .before .if2 .taken) in
+    let l = below b (c .before .before .before .before .limit-of .result) (c .before .before .before .before .limit-of
+    .ensures) (c .before .before .before .if2 .taken) in
     c .pack .ensures
     ∙ ap (ofBits binary32)
     (ap (λ (z : ℕ). packed (z / (ln2 + 1)) (z % (ln2 + 1))) (z-is (c .before))

@@ -29,7 +29,8 @@ exp-at-requires c κs = search needs
 returns-2 : tie.Need-returns-2
 returns-2 c =
     let x = c .before .before .args .x in
-    with-law (c .before .before) (c .exp-at .result) (c .exp-at .ensures ∙ sym (of-x x (is-number x (c .before .if1 .left))))
+    with-law (c .before .before) (c .exp-at .result)
+    (c .exp-at .ensures ∙ sym (of-x x (is-number x (c .before .if1 .left))))
 
 pub exp-f32-spec : {M : Type 1} → statement M
 exp-f32-spec = tie.close (tie.spec returns float-to-bits-exp-at exp-at-requires returns-2)

@@ -18,8 +18,10 @@ small-exp-requires c κs = search needs
 mul-result : tie.Need-mul-result
 mul-result c =
     let r = c .before .before .args .r in
-    let h : c .before .power-at .result ≤ 4581298449 = le-trans (le-of-eq (c .before .power-at .ensures)) (table-high (r / 2 ^ 39) (omega arith)) in
-    let k : c .small-exp .result ≤ 2155872256 = le-trans (le-of-eq (c .small-exp .ensures)) (le-of-lt (small-lt (r % 2 ^ 39) (omega arith))) in
+    let h : c .before .power-at .result ≤ 4581298449 = le-trans (le-of-eq (c .before .power-at .ensures))
+    (table-high (r / 2 ^ 39) (omega arith)) in
+    let k : c .small-exp .result ≤ 2155872256 = le-trans (le-of-eq (c .small-exp .ensures))
+    (le-of-lt (small-lt (r % 2 ^ 39) (omega arith))) in
     omega (arith, mul-le-mul h k)
 
 returns : tie.Need-returns

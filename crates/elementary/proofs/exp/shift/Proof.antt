@@ -14,14 +14,16 @@ add-result c = search needs
 
 returns : tie.Need-returns
 unfolding shifted
-returns c = sym (ap (λ (s : Bool). shifted s (c .before .args .x)) (lt-ltb (c .before .args .b) (2 ^ 31) (c .if1 .taken)))
+returns c = sym (ap (λ (s : Bool). shifted s (c .before .args .x))
+    (lt-ltb (c .before .args .b) (2 ^ 31) (c .if1 .taken)))
 
 sub-result : tie.Need-sub-result
 sub-result c = omega (arith, c .before .pre .1 (c .if1 .left))
 
 returns-2 : tie.Need-returns-2
 unfolding shifted
-returns-2 c = sym (ap (λ (s : Bool). shifted s (c .before .args .x)) (le-ltb (c .before .args .b) (2 ^ 31) (c .if1 .left)))
+returns-2 c = sym (ap (λ (s : Bool). shifted s (c .before .args .x))
+    (le-ltb (c .before .args .b) (2 ^ 31) (c .if1 .left)))
 
 pub shift-spec : {M : Type 1} → statement M
 shift-spec = tie.close (tie.spec add-result returns sub-result returns-2)

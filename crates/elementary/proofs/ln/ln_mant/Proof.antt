@@ -5,7 +5,8 @@ use native.Mathlib.Nat.{le-trans, le-of-eq}
 use native.Mathlib.Omega.{arith}
 use borrow.Author.Needs.{needs}
 use Rattle.elementary.specs.Ln.{lnRest, lnMant}
-use Rattle.elementary.proofs.ln.Error.{l-of, i-of, t-of, j-of, i-lt, t-range, j-lt, j-lo, j-hi, rest-lt, log-entry}
+use Rattle.elementary.proofs.ln.Error.{l-of, i-of, t-of, j-of, i-lt, t-range, j-lt, j-lo, j-hi, rest-lt}
+use Rattle.elementary.proofs.ln.Error.{log-entry}
 use Rattle.elementary.proofs.ln.ln_mant.Statement.{statement}
 use Rattle.elementary.proofs.ln.ln_mant.Tie as tie
 
@@ -26,28 +27,42 @@ log-is : (c : tie.After-first-at) → c .first-at .result / 2 ^ 16 * 32 ≡ l-of
 log-is c = ap (λ (z : ℕ). z / 2 ^ 16 * 32) (c .first-at .ensures)
 
 log-low : (c : tie.After-first-at) → c .first-at .result / 2 ^ 16 * 32 ≤ 2 ^ 52
-log-low c = le-trans (le-of-eq (log-is c)) (log-entry (i-of (c .before .args .m)) (i-lt (c .before .args .m) (c .before .pre .0) (c .before .pre .1)) .0)
+log-low c = le-trans (le-of-eq (log-is c))
+    (log-entry (i-of (c .before .args .m)) (i-lt (c .before .args .m) (c .before .pre .0) (c .before .pre .1)) .0)
 
 mul-result : tie.Need-mul-result
 mul-result c = omega (arith, log-low c)
 
 abbrev Asked : ℕ → Type 0
-Asked t = (t / 2 ^ 24 % 128 < 128) × (2 ^ 38 + t / 2 ^ 24 % 128 * 2 ^ 24 ≤ t) × (t ≤ 2 ^ 38 + (t / 2 ^ 24 % 128 + 1) * 2 ^ 24)
+Asked t = (t / 2 ^ 24 % 128 < 128) × (2 ^ 38 + t / 2 ^ 24 % 128 * 2 ^ 24 ≤ t)
+    × (t ≤ 2 ^ 38 + (t / 2 ^ 24 % 128 + 1) * 2 ^ 24)
 
 ln-rest-requires : tie.Need-ln-rest-requires
 ln-rest-requires c κs =
     let s = c .before in
     let m = s .args .m in
-    subst Asked (sym (is c)) (j-lt m (s .pre .0) (s .pre .1), j-lo m (s .pre .0) (s .pre .1), j-hi m (s .pre .0) (s .pre .1))
+    subst Asked (sym (is c)) (
+      j-lt m (s .pre .0) (s .pre .1),
+      j-lo m (s .pre .0) (s .pre .1),
+      j-hi m (s .pre .0)
+          (s .pre .1),
+    )
 
-rest-is : (c : tie.After-ln-rest) → c .ln-rest .result ≡ lnRest (t-of (c .before .before .args .m)) (j-of (c .before .before .args .m))
+rest-is : (c : tie.After-ln-rest) → c .ln-rest .result ≡ lnRest (t-of (c .before .before .args .m))
+    (j-of (c .before .before .args .m))
 rest-is c = c .ln-rest .ensures ∙ ap (λ (t : ℕ). lnRest t (t / 2 ^ 24 % 128)) (is (c .before))
 
 add-result : tie.Need-add-result
 add-result c =
     let s = c .before .before in
     let m = s .args .m in
-    omega (arith, rest-is c, rest-lt (t-of m) (j-of m) (j-lt m (s .pre .0) (s .pre .1)) (j-lo m (s .pre .0) (s .pre .1)) (j-hi m (s .pre .0) (s .pre .1)), log-low (c .before))
+    omega (
+      arith,
+      rest-is c,
+      rest-lt (t-of m) (j-of m) (j-lt m (s .pre .0) (s .pre .1)) (j-lo m (s .pre .0) (s .pre .1))
+          (j-hi m (s .pre .0) (s .pre .1)),
+      log-low (c .before),
+    )
 
 returns : tie.Need-returns
 unfolding lnMant

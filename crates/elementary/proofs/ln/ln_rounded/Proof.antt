@@ -20,7 +20,9 @@ returns : tie.Need-returns
 unfolding lnRounded
 returns c =
     let s = c .before .before in
-    c .sign-of .ensures ∙ sym (ap (λ (i : ℕ). i + lnSign (s .before .args .w)) (ap rounded (sym (s .size-of .ensures) ∙ c .before .if1 .taken) ∙ rounded-zero) ∙ zero-add (lnSign (s .before .args .w)))
+    c .sign-of .ensures ∙ sym (ap (λ (i : ℕ). i + lnSign (s .before .args .w))
+    (ap rounded (sym (s .size-of .ensures) ∙ c .before .if1 .taken) ∙ rounded-zero)
+    ∙ zero-add (lnSign (s .before .args .w)))
 
 round-fixed-requires : tie.Need-round-fixed-requires
 round-fixed-requires c κs = pos-of-ne-zero (c .if1 .left)
@@ -36,7 +38,8 @@ sign-le w = go (ltb w 496343524069145961)
     go true = lit≤ tt
     go false = lit≤ tt
 
-size-is : (c : tie.After-sign-of2) → c .before .round-fixed .result ≡ rounded (lnSize (c .before .before .before .before .args .w))
+size-is : (c : tie.After-sign-of2) → c .before .round-fixed .result
+    ≡ rounded (lnSize (c .before .before .before .before .args .w))
 size-is c = c .before .round-fixed .ensures ∙ ap rounded (c .before .before .before .size-of .ensures)
 
 add-result : tie.Need-add-result
@@ -49,4 +52,5 @@ unfolding lnRounded
 returns-2 c = ap₂ (λ (i j : ℕ). i + j) (size-is c) (c .sign-of2 .ensures)
 
 pub ln-rounded-spec : {M : Type 1} → statement M
-ln-rounded-spec = tie.close (tie.spec size-of-requires sign-of-requires returns round-fixed-requires sign-of-requires-2 add-result returns-2)
+ln-rounded-spec = tie.close (tie.spec size-of-requires sign-of-requires returns round-fixed-requires sign-of-requires-2
+    add-result returns-2)

@@ -15,7 +15,12 @@ ln-mant-requires : tie.Need-ln-mant-requires
 ln-mant-requires c κs = search needs
 
 add-result : tie.Need-add-result
-add-result c = omega (arith, lnMant-lt (c .before .args .m) (c .before .pre .1) (c .before .pre .2), c .ln-mant .ensures)
+add-result c = omega (
+  arith,
+  lnMant-lt (c .before .args .m) (c .before .pre .1) (c .before .pre .2),
+  c .ln-mant
+      .ensures,
+)
 
 returns : tie.Need-returns
 unfolding lnWide

@@ -35,7 +35,9 @@ add-result-2 c = search needs
 
 returns : tie.Need-returns
 unfolding m-of
-returns c = let w = c .args .w in ap (λ (i : ℕ). (137 - leadingZeros 64 w) * 2 ^ 23 + (i / 2 ^ 39 + 1) / 2) (mod-eq-of-lt (top c .1)) ∙ sym (rounded-is w (c .pre))
+returns c = let w = c .args .w in ap (λ (i : ℕ). (137 - leadingZeros 64 w) * 2 ^ 23 + (i / 2 ^ 39 + 1) / 2)
+    (mod-eq-of-lt (top c .1)) ∙ sym (rounded-is w (c .pre))
 
 pub round-fixed-spec : {M : Type 1} → statement M
-round-fixed-spec = tie.close (tie.spec sub-result mul-result cast-result shl-result add-result cast-result-2 add-result-2 returns)
+round-fixed-spec = tie.close (tie.spec sub-result mul-result cast-result shl-result add-result cast-result-2
+    add-result-2 returns)

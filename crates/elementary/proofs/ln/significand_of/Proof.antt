@@ -22,7 +22,8 @@ cast-result : tie.Need-cast-result
 cast-result c = search needs
 
 returns : tie.Need-returns
-returns c = mod-eq-of-lt (lt-of-lt-of-le (sub c .high) (lit≤ tt)) ∙ sym (significand-sub (c .before .args .b) (c .if1 .taken))
+returns c = mod-eq-of-lt (lt-of-lt-of-le (sub c .high) (lit≤ tt))
+    ∙ sym (significand-sub (c .before .args .b) (c .if1 .taken))
 
 add-result : tie.Need-add-result
 add-result c = search needs

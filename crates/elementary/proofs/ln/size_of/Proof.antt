@@ -12,11 +12,15 @@ sub-result c = c .before .pre (c .if1 .taken)
 
 returns : tie.Need-returns
 unfolding lnSize
-returns c = let w = c .before .args .w in sym (ap (λ (t : Bool). cond t (496343524069144641 - w) (w - 496343524069145961)) (lt-ltb w 496343524069145961 (c .if1 .taken)))
+returns c = let w = c .before .args .w in sym
+    (ap (λ (t : Bool). cond t (496343524069144641 - w) (w - 496343524069145961))
+    (lt-ltb w 496343524069145961 (c .if1 .taken)))
 
 returns-2 : tie.Need-returns-2
 unfolding lnSize
-returns-2 c = let w = c .before .args .w in sym (ap (λ (t : Bool). cond t (496343524069144641 - w) (w - 496343524069145961)) (le-ltb w 496343524069145961 (c .if1 .left)))
+returns-2 c = let w = c .before .args .w in sym
+    (ap (λ (t : Bool). cond t (496343524069144641 - w) (w - 496343524069145961))
+    (le-ltb w 496343524069145961 (c .if1 .left)))
 
 pub size-of-spec : {M : Type 1} → statement M
 size-of-spec = tie.close (tie.spec sub-result returns returns-2)

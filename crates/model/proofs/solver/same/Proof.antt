@@ -22,7 +22,8 @@ returns c =
     let s = c .before .before in
     let bx = c .before .to-bits .ensures in
     let by = c .to-bits2 .ensures in (
-      λ h. of-bits (s .args .x) (s .args .y) (subst T (sym (s .good .0 .1)) tt) (subst T (sym (s .good .1 .0 .1)) tt) (sym bx ∙ eqb-true (c .before .to-bits .result) (c .to-bits2 .result) h ∙ by),
+      λ h. of-bits (s .args .x) (s .args .y) (subst T (sym (s .good .0 .1)) tt) (subst T (sym (s .good .1 .0 .1)) tt)
+          (sym bx ∙ eqb-true (c .before .to-bits .result) (c .to-bits2 .result) h ∙ by),
       λ e. eq-eqb (c .before .to-bits .result) (c .to-bits2 .result) (bx ∙ ap (toBits binary32) e ∙ sym by),
     )
 

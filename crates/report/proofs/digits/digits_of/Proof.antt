@@ -28,11 +28,13 @@ returns c =
     let at-loop = at-if1 .before .before in
     let start = at-loop .before in (
       ap length (c .digits-last .ensures .1)
-          ∙ (length-set (at-loop .loop .bytes) (at-loop .loop .i) (48 + at-loop .loop .m % 10) ∙ at-loop .loop .inv .1 .0),
+          ∙ (length-set (at-loop .loop .bytes) (at-loop .loop .i) (48 + at-loop .loop .m % 10) ∙ at-loop .loop .inv .1
+          .0),
       (
         omega (arith, c .digits-last .ensures .0),
         rw (c .digits-last .ensures .0, c .digits-last .ensures .1)
-            (digits-stop (at-loop .loop .bytes) (at-loop .loop .m) (decimal (start .args .n)) (at-loop .loop .i) (omega arith)
+            (digits-stop (at-loop .loop .bytes) (at-loop .loop .m) (decimal (start .args .n)) (at-loop .loop .i)
+            (omega arith)
             (at-if1 .if1 .taken) (at-loop .loop .inv .1 .1)),
       ),
     )
@@ -58,7 +60,8 @@ loop-again c =
         length-set (at-loop .loop .bytes) (at-loop .loop .i) (c .decimal-byte .result)
             ∙ at-loop .loop .inv .1 .0,
         rw (c .decimal-byte .ensures)
-            (digits-more (at-loop .loop .bytes) (at-loop .loop .m) (decimal (start .args .n)) (at-loop .loop .i) (omega arith)
+            (digits-more (at-loop .loop .bytes) (at-loop .loop .m) (decimal (start .args .n)) (at-loop .loop .i)
+            (omega arith)
             (omega arith) (omega arith) (at-loop .loop .inv .1 .1)),
       ),
     )
@@ -71,11 +74,13 @@ returns-2 c =
     let at-loop = c .before .before in
     let start = at-loop .before in (
       ap length (c .digits-last2 .ensures .1)
-          ∙ (length-set (at-loop .loop .bytes) (at-loop .loop .i) (48 + at-loop .loop .m % 10) ∙ at-loop .loop .inv .1 .0),
+          ∙ (length-set (at-loop .loop .bytes) (at-loop .loop .i) (48 + at-loop .loop .m % 10) ∙ at-loop .loop .inv .1
+          .0),
       (
         omega (arith, c .digits-last2 .ensures .0),
         rw (c .digits-last2 .ensures .0, c .digits-last2 .ensures .1)
-            (digits-ended (at-loop .loop .bytes) (at-loop .loop .m) (decimal (start .args .n)) (at-loop .loop .i) (omega arith)
+            (digits-ended (at-loop .loop .bytes) (at-loop .loop .m) (decimal (start .args .n)) (at-loop .loop .i)
+            (omega arith)
             (omega arith) (at-loop .loop .inv .1 .1)),
       ),
     )

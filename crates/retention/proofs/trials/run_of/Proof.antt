@@ -53,9 +53,11 @@ same-length-9 c = search needs
 returns : tie.Need-returns
 returns c =
     let at-target = c .before in
-    let at-simulate = at-target .before .before .before .before .before .before .before .before .before .before .before .before .before .before .before .before in
+    let at-simulate = at-target .before .before .before .before .before .before .before .before .before .before .before
+    .before .before .before .before .before in
     let at-wide = at-simulate .before in
-    let start = at-wide .before .before .before .before .before .before .before .before .before .before .before .before .before .before .before in
+    let start = at-wide .before .before .before .before .before .before .before .before .before .before .before .before
+    .before .before .before in
     let a = start .args in
     let i = searchInputs (a .config) (a .parameters .now) (a .existing .now) (a .existing-counts .now) in
     let l = lent (a .cards .now) (a .counts .now) (a .rows .now) (a .days .now) (a .costs .now) (a .memorized .now)

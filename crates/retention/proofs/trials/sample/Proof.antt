@@ -15,12 +15,17 @@ use Rattle.retention.proofs.trials.sample.Tie as tie
 use borrow.Author.Needs.{needs}
 
 abbrev Inv-loop : tie.InvT-loop
-Inv-loop cards₀ counts₀ rows₀ days₀ costs₀ memorized₀ due₀ keys₀ intervals₀ parameters existing existing-counts config retention n sum₀ made₀ cards counts rows days costs memorized due keys intervals sum made = Going (searchInputs config parameters existing existing-counts) retention n (lent cards₀ counts₀ rows₀ days₀ costs₀ memorized₀ due₀ keys₀ intervals₀) (lent cards counts rows days costs memorized due keys intervals) sum made
+Inv-loop cards₀ counts₀ rows₀ days₀ costs₀ memorized₀ due₀ keys₀ intervals₀ parameters existing existing-counts config
+    retention n sum₀ made₀ cards counts rows days costs memorized due keys intervals sum made = Going
+    (searchInputs config parameters existing existing-counts) retention n
+    (lent cards₀ counts₀ rows₀ days₀ costs₀ memorized₀ due₀ keys₀ intervals₀)
+    (lent cards counts rows days costs memorized due keys intervals) sum made
     × SameLengths (lent cards₀ counts₀ rows₀ days₀ costs₀ memorized₀ due₀ keys₀ intervals₀)
     (lent cards counts rows days costs memorized due keys intervals)
 
 abbrev μ-loop : tie.MeasureT-loop
-μ-loop cards₀ counts₀ rows₀ days₀ costs₀ memorized₀ due₀ keys₀ intervals₀ parameters existing existing-counts config retention n sum₀ made₀ cards counts rows days costs memorized due keys intervals sum made = n - made
+μ-loop cards₀ counts₀ rows₀ days₀ costs₀ memorized₀ due₀ keys₀ intervals₀ parameters existing existing-counts config
+    retention n sum₀ made₀ cards counts rows days costs memorized due keys intervals sum made = n - made
 
 sample-size-requires : tie.Need-sample-size-requires Inv-loop μ-loop
 sample-size-requires c κs = tt
@@ -57,62 +62,72 @@ enum-told c = search needs
 
 same-length : tie.Need-same-length Inv-loop μ-loop
 same-length c =
-    let at-run-of = c .before .before .before .before .before .before .before .before .before .before .before .before .before .before .before in
+    let at-run-of = c .before .before .before .before .before .before .before .before .before .before .before .before
+    .before .before .before in
     let at-loop = at-run-of .before .before .before .before .before .before .before .before .before .before .before in
     at-run-of .run-of .kept .0 ∙ at-loop .loop .inv .1 .cards
 
 same-length-2 : tie.Need-same-length-2 Inv-loop μ-loop
 same-length-2 c =
-    let at-run-of = c .before .before .before .before .before .before .before .before .before .before .before .before .before .before .before in
+    let at-run-of = c .before .before .before .before .before .before .before .before .before .before .before .before
+    .before .before .before in
     let at-loop = at-run-of .before .before .before .before .before .before .before .before .before .before .before in
     at-run-of .run-of .kept .1 .0 ∙ at-loop .loop .inv .1 .counts
 
 same-length-3 : tie.Need-same-length-3 Inv-loop μ-loop
 same-length-3 c =
-    let at-run-of = c .before .before .before .before .before .before .before .before .before .before .before .before .before .before .before in
+    let at-run-of = c .before .before .before .before .before .before .before .before .before .before .before .before
+    .before .before .before in
     let at-loop = at-run-of .before .before .before .before .before .before .before .before .before .before .before in
     at-run-of .run-of .kept .1 .1 .0 ∙ at-loop .loop .inv .1 .rows
 
 same-length-4 : tie.Need-same-length-4 Inv-loop μ-loop
 same-length-4 c =
-    let at-run-of = c .before .before .before .before .before .before .before .before .before .before .before .before .before .before .before in
+    let at-run-of = c .before .before .before .before .before .before .before .before .before .before .before .before
+    .before .before .before in
     let at-loop = at-run-of .before .before .before .before .before .before .before .before .before .before .before in
     at-run-of .run-of .kept .1 .1 .1 .0 ∙ at-loop .loop .inv .1 .days
 
 same-length-5 : tie.Need-same-length-5 Inv-loop μ-loop
 same-length-5 c =
-    let at-run-of = c .before .before .before .before .before .before .before .before .before .before .before .before .before .before .before in
+    let at-run-of = c .before .before .before .before .before .before .before .before .before .before .before .before
+    .before .before .before in
     let at-loop = at-run-of .before .before .before .before .before .before .before .before .before .before .before in
     at-run-of .run-of .kept .1 .1 .1 .1 .0 ∙ at-loop .loop .inv .1 .costs
 
 same-length-6 : tie.Need-same-length-6 Inv-loop μ-loop
 same-length-6 c =
-    let at-run-of = c .before .before .before .before .before .before .before .before .before .before .before .before .before .before .before in
+    let at-run-of = c .before .before .before .before .before .before .before .before .before .before .before .before
+    .before .before .before in
     let at-loop = at-run-of .before .before .before .before .before .before .before .before .before .before .before in
     at-run-of .run-of .kept .1 .1 .1 .1 .1 .0 ∙ at-loop .loop .inv .1 .memorized
 
 same-length-7 : tie.Need-same-length-7 Inv-loop μ-loop
 same-length-7 c =
-    let at-run-of = c .before .before .before .before .before .before .before .before .before .before .before .before .before .before .before in
+    let at-run-of = c .before .before .before .before .before .before .before .before .before .before .before .before
+    .before .before .before in
     let at-loop = at-run-of .before .before .before .before .before .before .before .before .before .before .before in
     at-run-of .run-of .kept .1 .1 .1 .1 .1 .1 .0 ∙ at-loop .loop .inv .1 .due
 
 same-length-8 : tie.Need-same-length-8 Inv-loop μ-loop
 same-length-8 c =
-    let at-run-of = c .before .before .before .before .before .before .before .before .before .before .before .before .before .before .before in
+    let at-run-of = c .before .before .before .before .before .before .before .before .before .before .before .before
+    .before .before .before in
     let at-loop = at-run-of .before .before .before .before .before .before .before .before .before .before .before in
     at-run-of .run-of .kept .1 .1 .1 .1 .1 .1 .1 .0 ∙ at-loop .loop .inv .1 .keys
 
 same-length-9 : tie.Need-same-length-9 Inv-loop μ-loop
 same-length-9 c =
-    let at-run-of = c .before .before .before .before .before .before .before .before .before .before .before .before .before .before .before in
+    let at-run-of = c .before .before .before .before .before .before .before .before .before .before .before .before
+    .before .before .before in
     let at-loop = at-run-of .before .before .before .before .before .before .before .before .before .before .before in
     at-run-of .run-of .kept .1 .1 .1 .1 .1 .1 .1 .1 .0 ∙ at-loop .loop .inv .1 .intervals
 
 returns : tie.Need-returns Inv-loop μ-loop
 returns c =
     let at-match = c .before in
-    let at-run-of = at-match .before .before .before .before .before .before .before .before .before .before .before .before .before .before in
+    let at-run-of = at-match .before .before .before .before .before .before .before .before .before .before .before
+    .before .before .before in
     let at-loop-test = at-run-of .before .before .before .before .before .before .before .before .before .before in
     let at-loop = at-loop-test .before in
     let at-sample-size = at-loop .before in
@@ -129,7 +144,9 @@ returns c =
 
 add-made : tie.Need-add-made Inv-loop μ-loop
 add-made c =
-    let at-loop-test = c .before .before .before .before .before .before .before .before .before .before .before .before .before .before .before .before .before .before .before .before .before .before .before .before .before .before in
+    let at-loop-test = c .before .before .before .before .before .before .before .before .before .before .before .before
+    .before .before .before .before .before .before .before .before .before .before .before .before .before .before
+    in
     let at-sample-size = at-loop-test .before .before in
     omega (arith, at-sample-size .sample-size .ok, at-loop-test .loop-test .taken)
 
@@ -139,7 +156,8 @@ loop-less c = omega arith
 loop-again : tie.Need-loop-again Inv-loop μ-loop
 loop-again c =
     let at-trial = c .before in
-    let at-run-of = at-trial .before .before .before .before .before .before .before .before .before .before .before .before .before .before .before in
+    let at-run-of = at-trial .before .before .before .before .before .before .before .before .before .before .before
+    .before .before .before .before in
     let at-loop-test = at-run-of .before .before .before .before .before .before .before .before .before .before in
     let at-loop = at-loop-test .before in
     let at-sample-size = at-loop .before in

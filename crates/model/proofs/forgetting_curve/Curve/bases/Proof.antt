@@ -62,7 +62,8 @@ loop-again c =
     let inv = at-loop .loop .inv in
     let t = c .before .before .max .ensures in (
       omega arith,
-      fill-turn _ _ _ _ _ (inv .1) (c .before .base .ensures ∙ ap (λ (t : Float). base (self .factor1) t (self .fast)) t),
+      fill-turn _ _ _ _ _ (inv .1) (c .before .base .ensures ∙ ap (λ (t : Float). base (self .factor1) t (self .fast))
+          t),
       fill-turn _ _ _ _ _ (inv .2) (c .base2 .ensures ∙ ap (λ (t : Float). base (self .rate2) t (self .stability)) t),
     )
 

@@ -38,7 +38,8 @@ loop-again c =
     let start = at-loop .before in
     rw (c .min .ensures)
     (sym
-    (doubled-on (retention (start .args .self)) (start .args .desired) (at-loop .loop .left) (at-loop .loop .high) (omega arith)
+    (doubled-on (retention (start .args .self)) (start .args .desired) (at-loop .loop .left) (at-loop .loop .high)
+    (omega arith)
     (sym (c .before .before .stays-above .ensures) ∙ c .before .if1 .taken))
     ∙ at-loop .loop .inv)
 
@@ -55,7 +56,8 @@ returns-2 : tie.Need-returns-2 Inv-loop μ-loop
 returns-2 c =
     let at-loop = c .before in
     let start = at-loop .before in
-    sym (doubled-end (retention (start .args .self)) (start .args .desired) (at-loop .loop .left) (at-loop .loop .high) (omega arith))
+    sym (doubled-end (retention (start .args .self)) (start .args .desired) (at-loop .loop .left) (at-loop .loop .high)
+    (omega arith))
     ∙ at-loop .loop .inv
 
 pub doubled-spec : {M : Type 1} → statement M

@@ -42,7 +42,8 @@ loop-again c =
     let start = at-loop .before in
     rw (c .before .choose .ensures, c .choose2 .ensures, c .before .before .retention .ensures .0)
     (sym
-    (halved-on (retention (start .args .self)) (start .args .desired) (at-loop .loop .left) (at-loop .loop .low) (at-loop .loop .high)
+    (halved-on (retention (start .args .self)) (start .args .desired) (at-loop .loop .left) (at-loop .loop .low)
+    (at-loop .loop .high)
     (omega arith))
     ∙ at-loop .loop .inv)
 
@@ -56,7 +57,8 @@ returns c =
     let start = at-loop .before in
     c .clamp .ensures
     ∙ sym
-    (halved-end (retention (start .args .self)) (start .args .desired) (at-loop .loop .left) (at-loop .loop .low) (at-loop .loop .high)
+    (halved-end (retention (start .args .self)) (start .args .desired) (at-loop .loop .left) (at-loop .loop .low)
+    (at-loop .loop .high)
     (omega arith))
     ∙ at-loop .loop .inv
 

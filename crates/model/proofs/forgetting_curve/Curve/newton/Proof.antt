@@ -74,20 +74,23 @@ loop-less c = search needs
 loop-again : tie.Need-loop-again Inv-loop μ-loop
 loop-again c = let s = c .before .before .before .before in
     ap (newton (left s - 1) (step s)) (step-is s)
-    ∙ sym (newton-on (step s) (left s) (u s) (omega arith) (finite-is s _ _ (c .before .is-finite .ensures) (c .if2 .taken)))
+    ∙ sym (newton-on (step s) (left s) (u s) (omega arith) (finite-is s _ _ (c .before .is-finite .ensures)
+    (c .if2 .taken)))
     ∙ s .before .before .loop .inv
 
 returns-2 : tie.Need-returns-2 Inv-loop μ-loop
 returns-2 c = let s = c .before .before .before .before in
     step-is s
-    ∙ sym (newton-off (step s) (left s) (u s) (omega arith) (finite-is s _ _ (c .before .is-finite .ensures) (c .if2 .left)))
+    ∙ sym (newton-off (step s) (left s) (u s) (omega arith) (finite-is s _ _ (c .before .is-finite .ensures)
+    (c .if2 .left)))
     ∙ s .before .before .loop .inv
 
 returns-3 : tie.Need-returns-3 Inv-loop μ-loop
 returns-3 c =
     let at-loop = c .before in
     let start = at-loop .before .before .before in
-    sym (newton-end (newtonStep (start .args .self) (start .args .desired)) (at-loop .loop .left) (at-loop .loop .u) (omega arith))
+    sym (newton-end (newtonStep (start .args .self) (start .args .desired)) (at-loop .loop .left) (at-loop .loop .u)
+    (omega arith))
     ∙ at-loop .loop .inv
 
 pub newton-spec : {M : Type 1} → statement M

@@ -12,7 +12,9 @@ use Rattle.model.proofs.forgetting_curve.Curve.of_powers.Statement.{sta
 use Rattle.model.proofs.forgetting_curve.Curve.of_powers.Tie as tie
 
 abbrev Inv-loop : tie.InvT-loop
-Inv-loop self r₀ p1 p2 n i₀ r i = (i ≤ n) × (r ≡ filled (λ i. squeezed ((self .weight1 *ᶠ getD p1 i nan +ᶠ self .weight2 *ᶠ getD p2 i nan) /ᶠ self .total)) i r₀)
+Inv-loop self r₀ p1 p2 n i₀ r i = (i ≤ n)
+    × (r ≡ filled (λ i. squeezed ((self .weight1 *ᶠ getD p1 i nan +ᶠ self .weight2 *ᶠ getD p2 i nan) /ᶠ self .total)) i
+    r₀)
 
 abbrev μ-loop : tie.MeasureT-loop
 μ-loop self r₀ p1 p2 n i₀ r i = n - i

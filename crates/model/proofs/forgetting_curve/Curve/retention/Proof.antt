@@ -1,5 +1,5 @@
--- The value is the definition's, and the bound is its law: the decays are floats that an f32 holds, as the struct's third
--- and fifth field.
+-- The value is the definition's, and the bound is its law: the decays are floats that an f32 holds, as the struct's
+-- third and fifth field.
 use mathlib.Core.Path.{_≡_, sym, subst}
 use lib.Dec.{T}
 use lib.Ieee.{binary32, fits}
