@@ -12,6 +12,7 @@ mod turn;
 
 pub use entry::check_entry;
 pub use entry::check_settings;
+pub use entry::is_bad;
 pub use entry::lists_ok;
 
 // Why a call is turned away; `refusals::number_of` and `second_of` give the numbers of each.
