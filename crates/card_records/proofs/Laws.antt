@@ -1,6 +1,7 @@
 -- The laws of a run over card records.
 --   fill-none                            a list of which no place is filled
 --   first-none, first-most, first-next   the first number that passes a test, among one more
+--   first-alike                          by two tests that agree
 --   rows-refused, rows-passed            what the run over the copied rows promises
 
 use mathlib.Core.Path.{_≡_, refl, sym, ap, _∙_}
@@ -65,6 +66,11 @@ module _ (p : ℕ → Bool) where
       ap (λ (k : ℕ). firstWhere p k 0) e ∙ next-from i 0
       ∙ ap (λ (k : ℕ). cond (ltb (firstWhere p i 0) k) (firstWhere p i 0) (cond (p k) k (k + 1))) z
 
+pub first-alike : (p q : ℕ → Bool) → ((j : ℕ) → p j ≡ q j) → (n j : ℕ) → firstWhere p n j ≡ firstWhere q n j
+unfolding firstWhere
+first-alike p q h zero j = refl
+first-alike p q h (suc n) j = rw (h j, first-alike p q h n (j + 1))
+
 -- ---- what the run over the copied rows promises
 unfoldable refusal-of : Refusal → Check → Refusal
 refusal-of x check.Passed = x
@@ -72,12 +78,15 @@ refusal-of x (check.Failed y) = y
 
 module _ {c : Check} {i : Inputs} {s : State Float} where
   pub rows-refused : (x : Refusal) → c ≡ check.Failed x
-      → RowsContract c i s (answer.Refused x (progress 0 0 (i .seed))) (listsOf s)
+      → RowsContract c i s (answer.Refused x (progress 0 0 0 (i .seed))) (listsOf s)
   unfolding refusal-of
   rows-refused x e = record {
     passed = λ e′. absurd (not-one cc);
-    failed = λ y e′. (ap (λ (z : Refusal). answer.Refused z (progress 0 0 (i .seed)))
-        (ap (refusal-of x) (sym e ∙ e′)), refl);
+    failed = λ y e′. (
+      ap (λ (z : Refusal). answer.Refused z (progress 0 0 0 (i .seed)))
+          (ap (refusal-of x) (sym e ∙ e′)),
+      refl,
+    );
   }
 
   pub rows-passed : {r : Answer} {l : Lent Float} → c ≡ check.Passed → RunContract i s r l → RowsContract c i s r l

@@ -1,3 +1,4 @@
 pub mod Again
+pub mod Call
 pub mod Laws
 pub mod Local

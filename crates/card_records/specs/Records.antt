@@ -25,12 +25,12 @@ use Rattle.simulation.specs.declared.Progress.{Progress}
 use Rattle.simulation.specs.declared.Answer.{Answer}
 use Rattle.simulation.specs.declared.Answer.the-variants as answer
 use Rattle.simulation.specs.State.{State, Lent, listsOf}
-use Rattle.simulation.specs.Entry.{Inputs, listsOk, checkFirst, checkedBy}
+use Rattle.simulation.specs.Entry.{Inputs, listsOk, checkFirst, checkSettings}
 use Rattle.simulation.specs.Simulate.{IsResult, progress, rulesFor, afterCheck}
 use Rattle.simulation.specs.Demands.{DemandThree, RunContract}
 
 -- what stands past a list's end
-pub blank : Card
+unfoldable pub blank : Card
 blank = cardOf noFloats noCounts
 
 abbrev pub floatsAt : List Card → ℕ → List Float
@@ -61,7 +61,7 @@ hasRoom n floats counts = leb n floats && leb n counts
 unfoldable pub checkedRecords : Inputs → State Float → ℕ → ℕ → Check
 checkedRecords i s floats counts =
     let n = length (i .existing) in
-    checkedBy (isFinite (i .retention)) (i .config) (i .parameters) (listsOk i s && hasRoom n floats counts) n
+    checkSettings (isFinite (i .retention)) (listsOk i s && hasRoom n floats counts) (i .parameters) (i .config) n
     (checkFirst (i .existing) (i .existing-counts) n)
 
 -- how many of n records are copied: all, or none where a test fails
@@ -79,7 +79,7 @@ laid (check.Failed r) new old = old
 pub record RowsContract (c : Check) (i : Inputs) (s : State Float) (r : Answer) (l : Lent Float) : Type 0 where
   pub passed : c ≡ check.Passed → RunContract i s r l
   pub failed : (x : Refusal) → c ≡ check.Failed x
-      → (r ≡ answer.Refused x (progress 0 0 (i .seed))) × (l ≡ listsOf s)
+      → (r ≡ answer.Refused x (progress 0 0 0 (i .seed))) × (l ≡ listsOf s)
 
 -- WHAT A CALL PROMISES. `i` has the records' rows as its existing cards, `room` and `room-counts` are lent for them.
 pub record RecordsContract (i : Inputs) (s : State Float) (room : List (List Float)) (room-counts : List (List ℕ))

@@ -6,6 +6,7 @@ use cards::Card;
 use cards::SimulatorConfig;
 use simulation::Answer;
 use simulation::Check;
+use simulation::Lengths;
 use simulation::Progress;
 use simulation::Refusal;
 ghost use mathlib.Core.Path.{_≡_};
@@ -17,54 +18,33 @@ ghost use Rattle.float32.specs.Float32.{isFinite};
 ghost use Rattle.simulation.specs.declared.Refusal.the-variants as refusal;
 ghost use Rattle.simulation.specs.declared.Check.the-variants as check;
 ghost use Rattle.simulation.specs.State.{lent, state};
-ghost use Rattle.simulation.specs.Entry.{inputs, failIf, lengthsOk, checkedBy};
+ghost use Rattle.simulation.specs.Entry.{inputs, failIf, lengthsOk, checkSettings};
 ghost use Rattle.card_records.specs.Records.{hasRoom, copied, floatRows, countRows, RowsContract, RecordsContract};
 
 mod records;
-
-fn has_room(long_enough: bool, n: usize, existing: usize, existing_counts: usize) -> bool
-    ensures { λ r. ⌜ r ≡ («long_enough» && hasRoom n existing «existing_counts») ⌝ }
-{
-    if !long_enough {
-        return false;
-    }
-    if existing < n {
-        return false;
-    }
-    n <= existing_counts
-}
 
 // All of the entry's tests, by the lists' lengths; of the n records `good` pass refusal 5 from the first on.
 fn check_records(
     parameters: &[f32],
     config: SimulatorConfig,
     retention: f32,
-    cards: usize,
-    counts: usize,
-    rows: usize,
-    days: usize,
-    costs: usize,
-    memorized: usize,
-    due: usize,
-    keys: usize,
-    intervals: usize,
+    lengths: Lengths,
     existing: usize,
     existing_counts: usize,
     n: usize,
     good: usize,
 ) -> Check
-    ensures { λ r. ⌜ r ≡ checkedBy (isFinite retention) config (now (parameters .entry))
-        (lengthsOk config cards counts rows days costs memorized due keys intervals n n && hasRoom n existing «existing_counts») n
+    ensures { λ r. ⌜ r ≡ checkSettings (isFinite retention)
+        (lengthsOk config n n lengths && hasRoom n existing «existing_counts») (now (parameters .entry)) config n
         (failIf (ltb good n) (refusal.ExistingCard good) check.Passed) ⌝ }
 {
-    let long_enough = simulation::lists_ok(
-        config, cards, counts, rows, days, costs, memorized, due, keys, intervals, n, n,
-    );
+    let room = (n <= existing) & (n <= existing_counts);
+    let long = simulation::lists_ok(config, n, n, lengths) & room;
     let settings = simulation::check_settings(
         parameters,
         config,
         float32::is_finite(retention),
-        has_room(long_enough, n, existing, existing_counts),
+        long,
         n,
     );
     let Check::Passed = settings else {
@@ -121,6 +101,7 @@ fn run_rows(
             Progress {
                 turns: 0,
                 cards: 0,
+                queued: 0,
                 draws: seed,
             },
         ),
@@ -176,15 +157,17 @@ pub fn simulate(
         parameters,
         config,
         retention,
-        cards.len(),
-        counts.len(),
-        rows.len(),
-        days.len(),
-        costs.len(),
-        memorized.len(),
-        due.len(),
-        keys.len(),
-        intervals.len(),
+        Lengths {
+            cards: cards.len(),
+            counts: counts.len(),
+            rows: rows.len(),
+            days: days.len(),
+            costs: costs.len(),
+            memorized: memorized.len(),
+            due: due.len(),
+            keys: keys.len(),
+            intervals: intervals.len(),
+        },
         existing.len(),
         existing_counts.len(),
         n,

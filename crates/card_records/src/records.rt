@@ -58,12 +58,7 @@ fn put_card(existing: &mut [[f32; 6]], existing_counts: &mut [[u32; 2]], i: usiz
 }
 
 // The first n records, each to its row.
-pub fn copy(
-    records: &[Card],
-    existing: &mut [[f32; 6]],
-    existing_counts: &mut [[u32; 2]],
-    n: usize,
-)
+pub fn copy(records: &[Card], existing: &mut [[f32; 6]], existing_counts: &mut [[u32; 2]], n: usize)
     requires { ⌜ (n ≤ length (now records)) × (n < 4294967296) ⌝ }
     ensures { λ _. ⌜ (now (existing .exit) ≡ filled (floatsAt (now (records .entry))) n (now (existing .entry))) × (now («existing_counts» .exit) ≡ filled (countsAt (now (records .entry))) n (now («existing_counts» .entry))) ⌝ }
 {
