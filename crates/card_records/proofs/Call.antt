@@ -108,8 +108,12 @@ module _ (g : SimulatorConfig) (w : List Float) (retention : Float) (seed : ℕ)
 
   tests-are : tests ≡ checkedRecords given start (length room) (length room-counts)
   unfolding checkedRecords checkFirst
-  tests-are = rw (length-map cs floatsOf, length-map cs countsOf, first-alike (notOk (floatRows cs) (countRows cs))
-      (recordBad cs) (λ j. rw (row-is cs j)) (length cs) 0)
+  tests-are = rw (
+    length-map cs floatsOf,
+    length-map cs countsOf,
+    first-alike (notOk (floatRows cs) (countRows cs))
+        (recordBad cs) (λ j. rw (row-is cs j)) (length cs) 0,
+  )
 
   -- what tests that pass say
   module _ (e : tests ≡ check.Passed) where
@@ -151,9 +155,10 @@ module _ (g : SimulatorConfig) (w : List Float) (retention : Float) (seed : ℕ)
     where
       go : (c : Check) → tests ≡ c → (copied c (length cs) ≤ length rowsIn) × (copied c (length cs) ≤ length countsIn)
       go check.Passed e =
-          let h = has-room e in
-          (omega (arith, h .0, fill-length (floatsAt cs) many room),
-          omega (arith, h .1, fill-length (countsAt cs) many room-counts))
+          let h = has-room e in (
+            omega (arith, h .0, fill-length (floatsAt cs) many room),
+            omega (arith, h .1, fill-length (countsAt cs) many room-counts),
+          )
       go (check.Failed r) e = (omega arith, omega arith)
 
   -- what the run over the copied rows says

@@ -195,3 +195,49 @@ pub fn simulate(
         m,
     )
 }
+
+// The same over three records by value: a caller of this holds no `&[Card]`, and so is proved as any other function.
+pub fn simulate_three(
+    cards: &mut [[f32; 6]],
+    counts: &mut [[u32; 2]],
+    rows: &mut [[u64; 2]],
+    days: &mut [[u32; 4]],
+    costs: &mut [f32],
+    memorized: &mut [f32],
+    due: &mut [u32],
+    keys: &mut [[u32; 2]],
+    intervals: &mut [f32],
+    existing: &mut [[f32; 6]],
+    existing_counts: &mut [[u32; 2]],
+    parameters: &[f32],
+    records: [Card; 3],
+    config: SimulatorConfig,
+    retention: f32,
+    seed: u64,
+) -> Answer
+    ensures { λ r. ⌜ (
+        let i = inputs config (now (parameters .entry)) retention seed (floatRows records) (countRows records) in
+        let s = state (lent (now (cards .entry)) (now (counts .entry)) (now (rows .entry)) (now (days .entry)) (now (costs .entry)) (now (memorized .entry)) (now (due .entry)) (now (keys .entry)) (now (intervals .entry))) 0 seed in
+        RecordsContract i s (now (existing .entry)) (now («existing_counts» .entry)) r
+        (lent (now (cards .exit)) (now (counts .exit)) (now (rows .exit)) (now (days .exit)) (now (costs .exit)) (now (memorized .exit)) (now (due .exit)) (now (keys .exit)) (now (intervals .exit)))
+        (now (existing .exit)) (now («existing_counts» .exit))) ⌝ }
+{
+    simulate(
+        cards,
+        counts,
+        rows,
+        days,
+        costs,
+        memorized,
+        due,
+        keys,
+        intervals,
+        existing,
+        existing_counts,
+        parameters,
+        &records,
+        config,
+        retention,
+        seed,
+    )
+}
