@@ -5,7 +5,7 @@
 --   many-fits, rows-fit        what is copied is there, and has room
 --   records-is                 the contract
 use mathlib.Core.Path.{_≡_, refl, sym, ap, _∙_, subst}
-use mathlib.Core.Bool.{Bool, true, false, _&&_}
+use mathlib.Core.Bool.{Bool, true, _&&_}
 use mathlib.Core.List.{List, [], _∷_, _++_, map, append-assoc}
 use mathlib.Core.Option.{some}
 use Prim.Native.Nat.{ℕ, zero, suc, _+_, _<_, _≤_}
@@ -26,15 +26,14 @@ use Rattle.simulation.specs.declared.Refusal.{Refusal}
 use Rattle.simulation.specs.declared.Refusal.the-variants as refusal
 use Rattle.simulation.specs.declared.Check.{Check}
 use Rattle.simulation.specs.declared.Check.the-variants as check
-use Rattle.simulation.specs.declared.Lengths.{Lengths}
 use Rattle.simulation.specs.declared.Progress.{Progress}
 use Rattle.simulation.specs.declared.Answer.{Answer}
 use Rattle.simulation.specs.declared.Answer.the-variants as answer
-use Rattle.simulation.specs.State.{State, Lent, state, listsOf}
+use Rattle.simulation.specs.State.{State, Lent, state}
 use Rattle.simulation.specs.Entry.{Inputs, inputs, firstWhere, notOk, failIf, lengthsOf, lengthsOk}
 use Rattle.simulation.specs.Entry.{listsOk, checkFirst, checkSettings, checked}
 use Rattle.simulation.specs.Simulate.{IsResult, progress, rulesFor, afterCheck, simulatedBy}
-use Rattle.simulation.specs.Demands.{RunContract, DemandThree}
+use Rattle.simulation.specs.Demands.{RunContract}
 use Rattle.simulation.proofs.Contract.{settings-passed}
 use Rattle.card_records.specs.Records.{blank, floatsAt, countsAt, floatRows, countRows, recordBad, hasRoom}
 use Rattle.card_records.specs.Records.{checkedRecords, copied, laid, RowsContract, RecordsContract}

@@ -1,11 +1,7 @@
 -- The tests before refusal 5, and then how many records pass it.
-use mathlib.Core.Path.{_≡_, sym, _∙_}
+use mathlib.Core.Path.{sym, _∙_}
 use native.Mathlib.Omega.{arith}
-use lib.Dec.{ltb}
 use borrow.Author.Tests.{lt-ltb, le-ltb}
-use Rattle.simulation.specs.declared.Refusal.the-variants as refusal
-use Rattle.simulation.specs.declared.Check.the-variants as check
-use Rattle.simulation.specs.Entry.{failIf}
 use Rattle.simulation.proofs.Contract.{settings-pass, settings-fail, settings-passed}
 use borrow.Author.Needs.{needs}
 use Rattle.card_records.proofs.check_records.Statement.{statement}
@@ -39,7 +35,8 @@ cast-t14 : tie.Need-cast-t14
 cast-t14 c =
     let at-told = c .before in
     let at-settings = at-told .before .before in
-    let e = settings-passed _ _ _ _ _ _ (sym (at-settings .check-settings .ensures) ∙ at-told .enum-told .given .1) .1 in
+    let e = settings-passed _ _ _ _ _ _ (sym (at-settings .check-settings .ensures) ∙ at-told .enum-told .given .1) .1
+    in
     omega (arith, e, c .if1 .taken)
 
 returns-2 : tie.Need-returns-2
@@ -49,7 +46,8 @@ returns-2 c =
     let at-finite = at-settings .before in
     let at-lists = at-finite .before in
     let e = sym (at-settings .check-settings .ensures) ∙ at-told .enum-told .given .1 in
-    rw (← at-finite .is-finite .ensures, ← at-lists .lists-ok .ensures, lt-ltb _ _ (c .if1 .taken)) (sym (settings-pass _ _ _ _ _ e _))
+    rw (← at-finite .is-finite .ensures, ← at-lists .lists-ok .ensures, lt-ltb _ _ (c .if1 .taken)) (sym (settings-pass
+    _ _ _ _ _ e _))
 
 returns-3 : tie.Need-returns-3
 returns-3 c =
@@ -58,7 +56,8 @@ returns-3 c =
     let at-finite = at-settings .before in
     let at-lists = at-finite .before in
     let e = sym (at-settings .check-settings .ensures) ∙ at-told .enum-told .given .1 in
-    rw (← at-finite .is-finite .ensures, ← at-lists .lists-ok .ensures, le-ltb _ _ (c .if1 .left)) (sym (settings-pass _ _ _ _ _ e _))
+    rw (← at-finite .is-finite .ensures, ← at-lists .lists-ok .ensures, le-ltb _ _ (c .if1 .left)) (sym (settings-pass _
+    _ _ _ _ e _))
 
 pub check-records-spec : {M : Type 1} → statement M
 check-records-spec =

@@ -17,7 +17,8 @@ slice-reshare-prefix-simulate c = search needs
 
 slice-aggregate-simulate : tie.Need-slice-aggregate-simulate
 slice-aggregate-simulate c =
-    let start = c .before .before .before .before .before .before .before .before .before .before .before .before .before .before .before .before .before in
+    let start = c .before .before .before .before .before .before .before .before .before .before .before .before
+    .before .before .before .before .before in
     sym (length-take-le (start .args .n) (start .args .existing .now) (start .pre .0))
 
 slice-reshare-prefix-simulate-2 : tie.Need-slice-reshare-prefix-simulate-2
@@ -25,7 +26,8 @@ slice-reshare-prefix-simulate-2 c = search needs
 
 slice-aggregate-simulate-2 : tie.Need-slice-aggregate-simulate-2
 slice-aggregate-simulate-2 c =
-    let start = c .before .before .before .before .before .before .before .before .before .before .before .before .before .before .before .before .before .before in
+    let start = c .before .before .before .before .before .before .before .before .before .before .before .before
+    .before .before .before .before .before .before in
     sym (length-take-le (start .args .n) (start .args .existing-counts .now) (start .pre .1))
 
 simulate-requires : tie.Need-simulate-requires
@@ -69,8 +71,10 @@ same-length-11 c = search needs
 
 returns-2 : tie.Need-returns-2
 returns-2 c =
-    let at-simulate = c .before .before .before .before .before .before .before .before .before .before .before .before .before in
-    let at-enum-told = at-simulate .before .before .before .before .before .before .before .before .before .before .before .before in
+    let at-simulate = c .before .before .before .before .before .before .before .before .before .before .before .before
+    .before in
+    let at-enum-told = at-simulate .before .before .before .before .before .before .before .before .before .before
+    .before .before in
     (rows-passed (at-enum-told .enum-told .given .1) (at-simulate .simulate .ensures), refl, refl)
 
 pub run-rows-spec : {M : Type 1} → statement M
