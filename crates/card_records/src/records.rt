@@ -1,6 +1,6 @@
-// What is done with a lent list of records: a record is read, the first that refusal 5 turns away is found, and all are
-// copied to rows. Functions with a `&[Card]` are proved by hand, so each of them is a walk without a branch, and what is
-// decided is decided in functions on numbers and on cards by value.
+// What is done with a lent list of records: one is read, the first that refusal 5 turns away is found, and the first n are
+// copied to rows. Functions with a `&[Card]` are proved by hand, a walk of their MIR each, so they decide nothing but where a
+// loop ends; what is decided stands in functions on numbers and on cards by value.
 use cards::Card;
 ghost use mathlib.Core.Path.{_≡_};
 ghost use mathlib.Core.Bool.{cond};
