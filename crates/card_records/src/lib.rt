@@ -1,7 +1,7 @@
-// The run over card records: its existing cards are one lent list of `cards::Card`, which is copied to two lent lists of
-// rows, and the core (`simulation::simulate`) is called on those. All of the entry's tests come before the first copy, so a
-// refusal at the entry leaves every list as it was, the room for the copies too; a room too short is refusal 6. The updated
-// cards stand in `cards` and `counts`, and `cards::card_at` makes the record of a place.
+// The run over card records: its existing cards are one lent list of `cards::Card`, which is copied to two lent lists
+// of rows, and the core (`simulation::simulate`) is called on those. All of the entry's tests come before the first
+// copy, so a refusal at the entry leaves every list as it was, the room for the copies too; a room too short is refusal
+// 6. The updated cards stand in `cards` and `counts`, and `cards::card_at` makes the record of a place.
 use cards::Card;
 use cards::SimulatorConfig;
 use simulation::Answer;
@@ -19,7 +19,8 @@ ghost use Rattle.simulation.specs.declared.Refusal.the-variants as refusal;
 ghost use Rattle.simulation.specs.declared.Check.the-variants as check;
 ghost use Rattle.simulation.specs.State.{lent, state};
 ghost use Rattle.simulation.specs.Entry.{inputs, failIf, lengthsOk, checkSettings};
-ghost use Rattle.card_records.specs.Records.{hasRoom, copied, floatRows, countRows, RowsContract, RecordsContract};
+ghost use Rattle.card_records.specs.Records.{hasRoom, copied, floatRows, countRows, RowsContract};
+ghost use Rattle.card_records.specs.Records.{RecordsContract};
 
 mod records;
 
@@ -88,10 +89,14 @@ fn run_rows(
 ) -> Answer
     requires { ⌜ (n ≤ length (now existing)) × (n ≤ length (now «existing_counts»)) ⌝ }
     ensures { λ r. ⌜ (
-        let i = inputs config (now (parameters .entry)) retention seed (take n (now (existing .entry))) (take n (now («existing_counts» .entry))) in
-        let s = state (lent (now (cards .entry)) (now (counts .entry)) (now (rows .entry)) (now (days .entry)) (now (costs .entry)) (now (memorized .entry)) (now (due .entry)) (now (keys .entry)) (now (intervals .entry))) 0 seed in
+        let i = inputs config (now (parameters .entry)) retention seed (take n (now (existing .entry)))
+        (take n (now («existing_counts» .entry))) in
+        let s = state (lent (now (cards .entry)) (now (counts .entry)) (now (rows .entry)) (now (days .entry))
+        (now (costs .entry)) (now (memorized .entry)) (now (due .entry)) (now (keys .entry))
+        (now (intervals .entry))) 0 seed in
         RowsContract tests i s r
-        (lent (now (cards .exit)) (now (counts .exit)) (now (rows .exit)) (now (days .exit)) (now (costs .exit)) (now (memorized .exit)) (now (due .exit)) (now (keys .exit)) (now (intervals .exit))))
+        (lent (now (cards .exit)) (now (counts .exit)) (now (rows .exit)) (now (days .exit)) (now (costs .exit))
+        (now (memorized .exit)) (now (due .exit)) (now (keys .exit)) (now (intervals .exit))))
         × (now (existing .exit) ≡ now (existing .entry))
         × (now («existing_counts» .exit) ≡ now («existing_counts» .entry)) ⌝ }
 {
@@ -125,7 +130,8 @@ fn run_rows(
     }
 }
 
-// A run over records. The first nine lists are the core's, `existing` and `existing_counts` are room for the records' rows.
+// A run over records. The first nine lists are the core's, `existing` and `existing_counts` are room for the records'
+// rows.
 pub fn simulate(
     cards: &mut [[f32; 6]],
     counts: &mut [[u32; 2]],
@@ -145,10 +151,14 @@ pub fn simulate(
     seed: u64,
 ) -> Answer
     ensures { λ r. ⌜ (
-        let i = inputs config (now (parameters .entry)) retention seed (floatRows (now (records .entry))) (countRows (now (records .entry))) in
-        let s = state (lent (now (cards .entry)) (now (counts .entry)) (now (rows .entry)) (now (days .entry)) (now (costs .entry)) (now (memorized .entry)) (now (due .entry)) (now (keys .entry)) (now (intervals .entry))) 0 seed in
+        let i = inputs config (now (parameters .entry)) retention seed (floatRows (now (records .entry)))
+        (countRows (now (records .entry))) in
+        let s = state (lent (now (cards .entry)) (now (counts .entry)) (now (rows .entry)) (now (days .entry))
+        (now (costs .entry)) (now (memorized .entry)) (now (due .entry)) (now (keys .entry))
+        (now (intervals .entry))) 0 seed in
         RecordsContract i s (now (existing .entry)) (now («existing_counts» .entry)) r
-        (lent (now (cards .exit)) (now (counts .exit)) (now (rows .exit)) (now (days .exit)) (now (costs .exit)) (now (memorized .exit)) (now (due .exit)) (now (keys .exit)) (now (intervals .exit)))
+        (lent (now (cards .exit)) (now (counts .exit)) (now (rows .exit)) (now (days .exit)) (now (costs .exit))
+        (now (memorized .exit)) (now (due .exit)) (now (keys .exit)) (now (intervals .exit)))
         (now (existing .exit)) (now («existing_counts» .exit))) ⌝ }
 {
     let n = records.len();
@@ -217,9 +227,12 @@ pub fn simulate_three(
 ) -> Answer
     ensures { λ r. ⌜ (
         let i = inputs config (now (parameters .entry)) retention seed (floatRows records) (countRows records) in
-        let s = state (lent (now (cards .entry)) (now (counts .entry)) (now (rows .entry)) (now (days .entry)) (now (costs .entry)) (now (memorized .entry)) (now (due .entry)) (now (keys .entry)) (now (intervals .entry))) 0 seed in
+        let s = state (lent (now (cards .entry)) (now (counts .entry)) (now (rows .entry)) (now (days .entry))
+        (now (costs .entry)) (now (memorized .entry)) (now (due .entry)) (now (keys .entry))
+        (now (intervals .entry))) 0 seed in
         RecordsContract i s (now (existing .entry)) (now («existing_counts» .entry)) r
-        (lent (now (cards .exit)) (now (counts .exit)) (now (rows .exit)) (now (days .exit)) (now (costs .exit)) (now (memorized .exit)) (now (due .exit)) (now (keys .exit)) (now (intervals .exit)))
+        (lent (now (cards .exit)) (now (counts .exit)) (now (rows .exit)) (now (days .exit)) (now (costs .exit))
+        (now (memorized .exit)) (now (due .exit)) (now (keys .exit)) (now (intervals .exit)))
         (now (existing .exit)) (now («existing_counts» .exit))) ⌝ }
 {
     simulate(

@@ -1,6 +1,6 @@
-// What is done with a lent list of records: one is read, the first that refusal 5 turns away is found, and the first n are
-// copied to rows. Functions with a `&[Card]` are proved by hand, a walk of their MIR each, so they decide nothing but where a
-// loop ends; what is decided stands in functions on numbers and on cards by value.
+// What is done with a lent list of records: one is read, the first that refusal 5 turns away is found, and the first n
+// are copied to rows. Functions with a `&[Card]` are proved by hand, a walk of their MIR each, so they decide nothing
+// but where a loop ends; what is decided stands in functions on numbers and on cards by value.
 use cards::Card;
 ghost use mathlib.Core.Path.{_≡_};
 ghost use mathlib.Core.Bool.{cond};
@@ -50,7 +50,8 @@ pub fn first_not_ok(records: &[Card]) -> usize
 
 fn put_card(existing: &mut [[f32; 6]], existing_counts: &mut [[u32; 2]], i: usize, card: Card)
     requires { ⌜ i < 4294967296 ⌝ }
-    ensures { λ _. ⌜ (now (existing .exit) ≡ set (now (existing .entry)) i (floatsOf card)) × (now («existing_counts» .exit) ≡ set (now («existing_counts» .entry)) i (countsOf card)) ⌝ }
+    ensures { λ _. ⌜ (now (existing .exit) ≡ set (now (existing .entry)) i (floatsOf card))
+        × (now («existing_counts» .exit) ≡ set (now («existing_counts» .entry)) i (countsOf card)) ⌝ }
 {
     let c = i as u32;
     cards::write_floats(existing, c, card);
@@ -60,7 +61,9 @@ fn put_card(existing: &mut [[f32; 6]], existing_counts: &mut [[u32; 2]], i: usiz
 // The first n records, each to its row.
 pub fn copy(records: &[Card], existing: &mut [[f32; 6]], existing_counts: &mut [[u32; 2]], n: usize)
     requires { ⌜ (n ≤ length (now records)) × (n < 4294967296) ⌝ }
-    ensures { λ _. ⌜ (now (existing .exit) ≡ filled (floatsAt (now (records .entry))) n (now (existing .entry))) × (now («existing_counts» .exit) ≡ filled (countsAt (now (records .entry))) n (now («existing_counts» .entry))) ⌝ }
+    ensures { λ _. ⌜ (now (existing .exit) ≡ filled (floatsAt (now (records .entry))) n (now (existing .entry)))
+        × (now («existing_counts» .exit) ≡ filled (countsAt (now (records .entry))) n (now («existing_counts» .entry)))
+        ⌝ }
 {
     let mut i = 0;
     while i < n {
