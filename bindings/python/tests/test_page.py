@@ -14,7 +14,8 @@ from pathlib import Path
 from street_drill import Mistake, settings, simulate
 from street_drill.course import COLUMNS, Course, of_runs
 from street_drill.listing import of_text
-from street_drill.page import _axis, _beside, page
+from street_drill.page import _beside, page
+from street_drill.picture import axis
 
 from .common import LISTING, PACKAGE, printed
 from .test_command import run
@@ -62,18 +63,40 @@ class Page(unittest.TestCase):
         pictures = self.check(page([runs_of("round", 5)], 80))
         self.assertEqual(len(pictures), 5)
         for picture in pictures:
-            self.assertEqual([len(picture.findall(f"path[@class='{kind}']")) for kind in ("band", "course")], [1, 1])
+            self.assertEqual([path.get("class") for path in picture.findall("path")], ["band c0", "first c0", "course c0"])
             drawn = " ".join(path.get("d") for path in picture.findall("path"))
             self.assertTrue(all(0 <= float(number) <= 480 for number in re.findall(r"[\d.]+", drawn)))
-        self.assertIn("80 held: day", "".join(pictures[1].itertext()))
+        self.assertRegex(" ".join(pictures[1].itertext()), r"80 streets day \d+$")
+
+    def test_mark_of_the_day(self) -> None:
+        """Courses that come to so many streets have a dot each; their days are told where they have room."""
+        course = runs_of("round", 1)
+        for count, told in [(2, 2), (5, 0)]:
+            picture = self.check(page([course] * count, 80))[-4]
+            self.assertEqual(len(picture.findall("circle")), count)
+            self.assertEqual(sum(text.startswith("day ") for text in picture.itertext()), told)
+        self.assertEqual(self.check(page([course], 121))[1].findall("circle"), [])
 
     def test_a_line_for_each(self) -> None:
         courses = [runs_of(f"round <{number}>", 1) for number in range(10)]
         text = page(courses)
         for picture in self.check(text)[10:]:
             self.assertEqual(len(picture.findall("path")), 10)
-        self.assertEqual(text.count("<table>"), 10)
+        self.assertEqual(text.count('<table class="days">'), 10)
         self.assertNotIn("<0>", text)
+
+    def test_summary(self) -> None:
+        for count in [1, 2, 4]:
+            text = page([runs_of("round", 1), *[runs_of("other", 3)] * (count - 1)], 80)
+            self.check(text)
+            self.assertEqual(text.count("from day"), count)
+            self.assertEqual(text.count("in all, mean of 3 runs"), min(count - 1, 1))
+
+    def test_table(self) -> None:
+        course = runs_of("round", 3)
+        text = page([course])
+        self.assertEqual(text.count('<th class="added">mean</th>'), len(COLUMNS))
+        self.assertIn(f"<td>{course.bands['cost'].p90[3]:.2f}</td>", text)
 
     def test_values_at_the_pointer(self) -> None:
         course = runs_of("</script>", 3)
@@ -90,7 +113,7 @@ class Page(unittest.TestCase):
     def test_marks(self) -> None:
         for most in [1e-45, 0.3, 1, 7, 59, 86_400, 1e7, 3.4e38]:
             for time in [False, True]:
-                marks = _axis(most, time)
+                marks = axis(most, time)
                 self.assertTrue(2 <= len(marks) <= 7 and marks[0] == 0, (most, time, marks))
                 self.assertLessEqual(most, marks[-1] * (1 + 1e-6))
 
