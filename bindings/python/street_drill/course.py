@@ -109,7 +109,7 @@ def duration(seconds: float) -> str:
     if seconds < 59.5:
         return f"{seconds:.0f} s"
     minutes = round(seconds / 60)
-    return f"{minutes // 60} h {minutes % 60:02} min" if minutes >= 60 else f"{minutes} min"
+    return f"{minutes // 60:,} h {minutes % 60:02} min" if minutes >= 60 else f"{minutes} min"
 
 
 def opening(course: Course, streets: int) -> int | None:
@@ -127,14 +127,14 @@ def facts(course: Course, streets: int | None) -> list[tuple[str, str]]:
     """What a planner asks first, each with its label; days count from 0."""
     costs, held = course.columns["cost"], course.columns["memorized"]
     day = busiest(course)
-    told = [("span", f"{course.span} days" if course.span > 1 else "1 day"), ("in all", duration(sum(costs)))]
+    told = [("span", f"{course.span:,} days" if course.span > 1 else "1 day"), ("in all", duration(sum(costs)))]
     if course.bands:
         told.append((f"in all, mean of {course.runs} runs", duration(sum(course.bands["cost"].mean))))
     told.append(("busiest day", f"day {day}, {duration(costs[day])}"))
-    told.append(("held on the last day", f"{held[-1]:.1f} of {course.columns['introduced'][-1]} introduced"))
+    told.append(("held on the last day", f"{held[-1]:,.1f} of {course.columns['introduced'][-1]:,} introduced"))
     if streets is not None:
         opens = opening(course, streets)
-        told.append((f"{streets} streets held", "on no day" if opens is None else f"from day {opens}"))
+        told.append((f"{streets:,} streets held", "on no day" if opens is None else f"from day {opens}"))
     return told
 
 

@@ -6,7 +6,8 @@ const figures = [...document.querySelectorAll("figure")];
 const duration = (seconds) => {
     if (seconds < 59.5) return `${Math.round(seconds)} s`;
     const minutes = Math.round(seconds / 60);
-    return minutes < 60 ? `${minutes} min` : `${Math.floor(minutes / 60)} h ${String(minutes % 60).padStart(2, "0")} min`;
+    if (minutes < 60) return `${minutes} min`;
+    return `${Math.floor(minutes / 60)} h ${String(minutes % 60).padStart(2, "0")} min`;
 };
 
 const shown = (value, column) => {
@@ -111,6 +112,6 @@ for (const rows of document.querySelectorAll(".rows")) {
     const button = make(rows.querySelector("h2"), "button", "Copy");
     button.addEventListener("click", () => {
         getSelection().selectAllChildren(rows.querySelector("table"));
-        if (document.execCommand("copy")) button.textContent = "Copied";
+        button.textContent = document.execCommand("copy") ? "Copied" : "Selected";
     });
 }

@@ -63,7 +63,8 @@ class Page(unittest.TestCase):
         pictures = self.check(page([runs_of("round", 5)], 80))
         self.assertEqual(len(pictures), 5)
         for picture in pictures:
-            self.assertEqual([path.get("class") for path in picture.findall("path")], ["band c0", "first c0", "course c0"])
+            kinds = [path.get("class") for path in picture.findall("path")]
+            self.assertEqual(kinds, ["band c0", "first c0", "course c0"])
             drawn = " ".join(path.get("d") for path in picture.findall("path"))
             self.assertTrue(all(0 <= float(number) <= 480 for number in re.findall(r"[\d.]+", drawn)))
         self.assertRegex(" ".join(pictures[1].itertext()), r"80 streets day \d+$")
