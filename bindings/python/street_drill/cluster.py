@@ -1,10 +1,15 @@
 """Where a region's forecasts are made: on this machine's cores, or on a Dask cluster."""
 
 import contextlib
+import logging
+import re
 from collections.abc import Iterator
 from concurrent.futures import Executor, ProcessPoolExecutor
 
 from .errors import Mistake
+from .library import LibraryMissing
+
+_ADDRESS = re.compile(r"((tcp|tls)://)?([\w.-]+|\[[\da-f:.]+\]):\d{1,5}", re.ASCII | re.IGNORECASE)
 
 
 @contextlib.contextmanager
@@ -13,9 +18,16 @@ def executor(scheduler: str | None, workers: int) -> Iterator[Executor]:
     if scheduler is None:
         with ProcessPoolExecutor(workers) as processes:
             yield processes
-    else:
-        with _client(scheduler) as client:
+        return
+    with _client(scheduler) as client:
+        try:
             yield client.get_executor()
+        except (Mistake, LibraryMissing):
+            raise
+        except Exception as error:
+            # A worker that lacks the package or is lost raises whatever it likes.
+            sentence = f"{type(error).__name__} {error}".splitlines()[0]
+            raise Mistake(scheduler, f"the cluster failed: {sentence}") from error
 
 
 def _client(scheduler: str):
@@ -23,9 +35,13 @@ def _client(scheduler: str):
         from distributed import Client
     except ImportError as error:
         raise Mistake("--scheduler", "needs the package distributed (Debian's python3-distributed)") from error
+    if not _ADDRESS.fullmatch(scheduler):
+        raise Mistake(scheduler, "is no address HOST:PORT")
+    # A lost scheduler would be told by several tracebacks, and is told by one line below.
+    logging.getLogger("distributed.client").setLevel(logging.CRITICAL)
     try:
         client = Client(scheduler, timeout=10, set_as_default=False)
-    except (OSError, ValueError) as error:
+    except (OSError, OverflowError) as error:
         raise Mistake(scheduler, "no Dask scheduler answers there") from error
     if not client.scheduler_info()["workers"]:
         client.close()

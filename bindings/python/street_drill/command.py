@@ -53,7 +53,7 @@ def _parser() -> argparse.ArgumentParser:
     depots = commands.add_parser("region", parents=[made], help="a forecast of each settings file of a folder")
     depots.add_argument("folder", metavar="DIR", help="has NAME.toml for each depot, and NAME.csv where it has a deck")
     depots.add_argument("--open", type=_positive, metavar="STREETS", help="tell the first day that holds so many")
-    depots.add_argument("--scheduler", metavar="ADDRESS", help="a Dask cluster that makes the runs, host:port")
+    depots.add_argument("--scheduler", metavar="ADDRESS", help="a Dask cluster's, HOST:PORT: its workers make the runs")
     depots.add_argument("--summary", metavar="SUMMARY.csv", default="region.csv", help="a row a depot (region.csv)")
     depots.add_argument("--page", metavar="PAGE.html", default="region.html", help="all as one (region.html)")
     return parser

@@ -57,19 +57,27 @@ def courses(folder: str, depots: Sequence[Depot], executor: Executor) -> list[Co
         raise Mistake(folder, "a worker ended before its forecast") from error
 
 
+# What a depot has when its span is over, and keeps in the region's sum.
+_KEPT = ("introduced", "memorized")
+
+
+def _on(depot: Course, column: str, day: int) -> float:
+    if day < depot.span:
+        return depot.columns[column][day]
+    return depot.columns[column][-1] if column in _KEPT else 0
+
+
 def total(depots: Sequence[Course]) -> Course:
-    """Each day's sum over the depots whose span has that day."""
-    days = max(depot.span for depot in depots)
-
-    def sums(column: str) -> tuple[float, ...]:
-        values = [[depot.columns[column][day] for depot in depots if day < depot.span] for day in range(days)]
-        # Counts stay whole numbers; fsum rounds once, whatever the order.
-        return tuple(sum(day) if all(isinstance(value, int) for value in day) else _sum(day) for day in values)
-
-    return Course(f"region of {len(depots)} depots", {column: sums(column) for column in COLUMNS}, {})
+    """Each day's sum over the depots."""
+    days = range(max(depot.span for depot in depots))
+    sums = {column: tuple(_sum([_on(depot, column, day) for depot in depots]) for day in days) for column in COLUMNS}
+    return Course(f"region of {len(depots)} depots", sums, {})
 
 
 def _sum(values: Sequence[float]) -> float:
+    """Counts stay whole numbers; fsum rounds once, whatever the order."""
+    if all(isinstance(value, int) for value in values):
+        return sum(values)
     return math.fsum(values) if all(map(math.isfinite, values)) else sum(values)
 
 
@@ -81,7 +89,7 @@ def table(depots: Sequence[Course], streets: int | None) -> Table:
 
 def _row(depot: Course, streets: int | None) -> list[float | str]:
     costs, busiest = depot.columns["cost"], course.busiest(depot)
-    row = [depot.name, depot.span, float(_sum(costs)), busiest, costs[busiest],
+    row = [depot.name, depot.span, _sum(costs), busiest, costs[busiest],
            depot.columns["introduced"][-1], depot.columns["memorized"][-1]]
     if streets is None:
         return row
