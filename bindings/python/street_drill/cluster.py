@@ -37,8 +37,8 @@ def _client(scheduler: str):
         raise Mistake("--scheduler", "needs the package distributed (Debian's python3-distributed)") from error
     if not _ADDRESS.fullmatch(scheduler):
         raise Mistake(scheduler, "is no address HOST:PORT")
-    # A lost scheduler would be told by several tracebacks, and is told by one line below.
-    logging.getLogger("distributed.client").setLevel(logging.CRITICAL)
+    # A lost scheduler would be logged by several tracebacks; the mistake says it in a line.
+    logging.disable(logging.ERROR)
     try:
         client = Client(scheduler, timeout=10, set_as_default=False)
     except (OSError, OverflowError) as error:
