@@ -8,7 +8,7 @@
 
 from collections.abc import Iterable, Sequence
 from dataclasses import dataclass
-from typing import NamedTuple
+from operator import attrgetter
 
 from . import library
 from .errors import Refusal
@@ -54,7 +54,8 @@ class SimulatorConfig:
     relearning_step_count: int = 1
 
 
-class Card(NamedTuple):
+@dataclass(frozen=True, slots=True)
+class Card:
     """A street. Days count from the forecast's first, which is 0; `last_date` is -inf before the first drill."""
 
     difficulty: float
@@ -67,7 +68,12 @@ class Card(NamedTuple):
     lapses: int
 
 
-class Day(NamedTuple):
+CARD_FLOATS = ("difficulty", "stability", "last_date", "due", "interval", "desired_retention")
+CARD_COUNTS = ("reps", "lapses")
+
+
+@dataclass(frozen=True, slots=True)
+class Day:
     """A day's row: counts, the cards introduced so far, seconds, and the cards held in memory."""
 
     learned: int
@@ -110,8 +116,9 @@ def _inputs(config: SimulatorConfig, parameters: Sequence[float], cards: Sequenc
               _flat("learning_step_transitions", config.learning_step_transitions, 3, 4),
               _flat("relearning_step_transitions", config.relearning_step_transitions, 3, 4),
               _flat("state_rating_costs", config.state_rating_costs, 3, 4)]
-    counts = [_whole(name, getattr(card, name), 32) for card in cards for name in ("reps", "lapses")]
-    return library.Inputs(list(parameters), [value for card in cards for value in card[:6]], counts,
+    floats = [value for card in cards for value in attrgetter(*CARD_FLOATS)(card)]
+    counts = [_whole(name, getattr(card, name), 32) for card in cards for name in CARD_COUNTS]
+    return library.Inputs(list(parameters), floats, counts,
                           [_whole(name, getattr(config, name), 32) for name in names],
                           config.max_cost_perday, config.max_ivl, tables)
 
@@ -120,13 +127,13 @@ def _rows(flat: Sequence, width: int, count: int) -> Iterable[Sequence]:
     return (flat[place : place + width] for place in range(0, width * count, width))
 
 
-def _forecast(span: int, answer: library.Answer, lists: library.Lists) -> Forecast:
+def _forecast(span: int, answer: library.Answer, lists: library.Lists, cards: int) -> Forecast:
     rows = zip(_rows(lists.days, 4, span), lists.costs, lists.memorized)
-    cards = zip(_rows(lists.cards, 6, answer.cards), _rows(lists.counts, 2, answer.cards))
+    kept = zip(_rows(lists.cards, 6, cards), _rows(lists.counts, 2, cards))
     return Forecast(
         rows=tuple(Day(*counts, cost, memorized) for counts, cost, memorized in rows),
         due=tuple(lists.due),
-        cards=tuple(Card(*floats, *counts) for floats, counts in cards),
+        cards=tuple(Card(*floats, *counts) for floats, counts in kept),
         turns=answer.turns,
         draws=answer.draws,
     )
@@ -154,9 +161,10 @@ class Runner:
             raise Refusal(answer.number, answer.second)
         return answer, lists
 
-    def forecast(self, desired_retention: float, seed: int) -> Forecast:
+    def forecast(self, desired_retention: float, seed: int, with_cards: bool = True) -> Forecast:
+        """Without its cards where they are not asked for: while Python makes them, other threads wait."""
         answer, lists = self._run(desired_retention, seed)
-        return _forecast(self.inputs.learn_span, answer, lists)
+        return _forecast(self.inputs.learn_span, answer, lists, answer.cards if with_cards else 0)
 
     def target(self, desired_retention: float, seed: int) -> float:
         """What the run costs for each card memorized on its last day."""

@@ -78,9 +78,15 @@ def _table(name: str, head: Sequence[str], rows: Sequence[Sequence[float | str]]
 # ---- the page
 
 
-def _short(values: Sequence[float]) -> list[float | None]:
+def _short(value: float) -> float | None:
     """Six digits are enough at the pointer; JSON has no infinity."""
-    return [float(f"{value:.6g}") if math.isfinite(value) else None for value in values]
+    if isinstance(value, int):
+        return value
+    return float(f"{value:.6g}") if math.isfinite(value) else None
+
+
+def _shorts(values: Sequence[float]) -> list[float | None]:
+    return [_short(value) for value in values]
 
 
 def _values(courses: Sequence[Course]) -> str:
@@ -90,8 +96,8 @@ def _values(courses: Sequence[Course]) -> str:
         "last": picture.last_day(courses), "days": max(course.span for course in courses),
         "courses": [{
             "name": course.name,
-            "columns": {name: _short(values) for name, values in course.columns.items() if name in picture.TITLES},
-            "bands": {name: {"mean": _short(band.mean), "p10": _short(band.p10), "p90": _short(band.p90)}
+            "columns": {name: _shorts(values) for name, values in course.columns.items() if name in picture.TITLES},
+            "bands": {name: {"mean": _shorts(band.mean), "p10": _shorts(band.p10), "p90": _shorts(band.p90)}
                       for name, band in course.bands.items() if name in picture.TITLES},
         } for course in courses],
     }

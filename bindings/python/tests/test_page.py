@@ -12,7 +12,7 @@ import xml.etree.ElementTree
 from pathlib import Path
 
 from street_drill import Mistake, settings, simulate
-from street_drill.course import COLUMNS, Course, of_runs
+from street_drill.course import COLUMNS, Course, duration, of_runs
 from street_drill.listing import of_text
 from street_drill.page import _beside, page
 from street_drill.picture import axis
@@ -124,6 +124,23 @@ class Page(unittest.TestCase):
             script = Path(folder) / "page.js"
             script.write_text(_beside("page.js"))
             self.assertEqual(subprocess.run(["node", "--check", script], capture_output=True).returncode, 0)
+
+    @unittest.skipUnless(shutil.which("chromium"), "there is no chromium")
+    def test_browser(self) -> None:
+        """The value at the pointer, in a browser: the day in the middle of the first picture."""
+        point = """<script>const box = document.querySelector("figure svg").getBoundingClientRect();
+            const place = { clientX: box.left + box.width * 0.568, clientY: box.top + 50 };
+            document.querySelector("figure svg").dispatchEvent(new PointerEvent("pointermove", place));</script>"""
+        course = runs_of("round", 1)
+        with tempfile.TemporaryDirectory() as folder:
+            file = Path(folder) / "page.html"
+            file.write_text(page([course]).replace("</body>", point + "</body>"))
+            browser = ["chromium", "--headless=new", "--no-sandbox", f"--user-data-dir={folder}/profile", "--dump-dom"]
+            shown = subprocess.run([*browser, file.as_uri()], capture_output=True, text=True).stdout
+        told = re.search('<div class="tip" style=[^>]*>(.*?)</figure>', shown)
+        words = re.sub("<.*?>", " ", told[1]).split()
+        self.assertEqual(words, ["day", "15", *duration(course.columns["cost"][15]).split()])
+        self.assertEqual(len(re.findall('<circle class="dot c0"', shown)), 5)
 
 
 class Listings(unittest.TestCase):
