@@ -61,7 +61,7 @@ const tellCourse = (tip, course, number, column, day) => {
     make(row, "small", ` ${low} to ${high}, first run ${first}`);
 };
 
-// Beside the line, on the side that has more room.
+// Above the lines, on that side of the day that has more room.
 const tell = (figure, tip, day) => {
     tip.replaceChildren();
     make(tip, "div", `day ${day}`);
@@ -73,7 +73,8 @@ const tell = (figure, tip, day) => {
     tip.hidden = false;
     const left = x < frame.width / 2 ? x + 10 : x - 10 - tip.offsetWidth;
     tip.style.left = `${Math.max(0, Math.min(left, frame.width - tip.offsetWidth))}px`;
-    tip.style.top = `${picture.top - frame.top + told.top * scale}px`;
+    const top = picture.top + told.top * scale - tip.offsetHeight;
+    tip.style.top = `${Math.max(top, 0) - frame.top}px`;
 };
 
 for (const figure of figures) {
