@@ -5,6 +5,7 @@ import logging
 import re
 from collections.abc import Iterator
 from concurrent.futures import Executor, ProcessPoolExecutor
+from typing import Any
 
 from .errors import Mistake
 from .library import LibraryMissing
@@ -30,7 +31,7 @@ def executor(scheduler: str | None, workers: int) -> Iterator[Executor]:
             raise Mistake(scheduler, f"the cluster failed: {sentence}") from error
 
 
-def _client(scheduler: str):
+def _client(scheduler: str) -> Any:
     try:
         from distributed import Client
     except ImportError as error:
