@@ -31,7 +31,7 @@ _positive.__name__ = "whole number from 1 to 4294967295"
 
 
 def _parser() -> argparse.ArgumentParser:
-    parser = argparse.ArgumentParser(prog="street_drill", description="Forecasts a street drill.")
+    parser = argparse.ArgumentParser(prog="python3 -m street_drill", description="Forecasts a street drill.")
     commands = parser.add_subparsers(dest="command", required=True)
     made = argparse.ArgumentParser(add_help=False)
     made.add_argument("--workers", type=_positive, default=os.cpu_count(), help="runs at once (default: all cores)")
@@ -53,7 +53,7 @@ def _parser() -> argparse.ArgumentParser:
     depots = commands.add_parser("region", parents=[made], help="a forecast of each settings file of a folder")
     depots.add_argument("folder", metavar="DIR", help="has NAME.toml for each depot, and NAME.csv where it has a deck")
     depots.add_argument("--open", type=_positive, metavar="STREETS", help="tell the first day that holds so many")
-    depots.add_argument("--scheduler", metavar="ADDRESS", help="a Dask cluster's, HOST:PORT: its workers make the runs")
+    depots.add_argument("--scheduler", metavar="ADDRESS", help="HOST:PORT of a Dask cluster for the runs")
     depots.add_argument("--summary", metavar="SUMMARY.csv", default="region.csv", help="a row a depot (region.csv)")
     depots.add_argument("--page", metavar="PAGE.html", default="region.html", help="all as one (region.html)")
     return parser

@@ -35,8 +35,13 @@ def _facts_of_each(courses: Sequence[Course], streets: int | None) -> str:
     rows = [["", *labels], *([name, *(each.get(label, "") for label in labels)] for name, each in zip(names, told))]
     if _few(courses):
         rows = list(zip(*rows))
-    cells = ("".join(f"<td>{cell}</td>" for cell in row) for row in rows)
-    return f'<table class="facts">{"".join(f"<tr>{row}</tr>" for row in cells)}</table>'
+    lines = (_line(row, "th" if number == 0 else "td") for number, row in enumerate(rows))
+    return f'<table class="facts">{"".join(lines)}</table>'
+
+
+def _line(row: Sequence[str], kind: str) -> str:
+    first, *others = row
+    return f"<tr><th>{first}</th>" + "".join(f"<{kind}>{cell}</{kind}>" for cell in others) + "</tr>"
 
 
 def _summary(courses: Sequence[Course], streets: int | None, pictures: int) -> str:
