@@ -143,7 +143,8 @@ def _openings(scale: _Scale, courses: Sequence[Course], streets: int) -> Iterato
     for day, _ in days:
         yield f'<line class="open" x1="{scale.x(day):.1f}" x2="{scale.x(day):.1f}" y1="{y:.1f}" y2="{BOTTOM}"/>'
     # Where all courses come to it, the place below its end is free, else that above its start.
-    x, below, side = (RIGHT - 5, 14, "end") if len(days) == len(courses) else (LEFT + 5, -5, "start")
+    all_come = len(days) == len(courses) and y < BOTTOM - 20
+    x, below, side = (RIGHT - 5, 14, "end") if all_come else (LEFT + 5, -5, "start")
     yield f'<text class="over" x="{x}" y="{y + below:.1f}" text-anchor="{side}">{_mark(streets)} streets</text>'
     for row, (day, colour) in enumerate(sorted(days)):
         x = scale.x(day)

@@ -1,5 +1,5 @@
-//! The C functions of include/street_drill.h that this crate calls; all of its unsafe code, and all that knows the places
-//! of their arguments and answers.
+//! The C functions of include/street_drill.h that this crate calls; all of its unsafe code, and all that knows the
+//! places of their arguments and answers.
 #![allow(unsafe_code)]
 use crate::error::Error;
 use crate::lists::{Inputs, Lists};
@@ -93,8 +93,8 @@ unsafe extern "C" {
     safe fn drill_search_answer(floats: &[f32; 10], counts: &[u32; 3]) -> u32;
 }
 
-/// Calls `drill_simulate` or `drill_optimal_retention`: both have the inputs first, then arguments of their own, the lists
-/// that are written, and the answer.
+/// Calls `drill_simulate` or `drill_optimal_retention`: both have the inputs first, then arguments of their own, the
+/// lists that are written, and the answer.
 macro_rules! call {
     ($function:ident, $inputs:expr, ($($own:expr),+), $lists:expr, ($($answer:expr),+)) => {
         $function(
