@@ -1,7 +1,14 @@
-/* The C functions of the street drill forecast: link libcapi.a, which `rt staticlib capi` writes.
+/* The street drill forecast: how many streets a sorter learns, reviews and gets right on each day, what that costs in seconds,
+ * and how many streets are held in memory; and the cheapest retention. The simulation of fsrs-rs with FSRS-7, bit for bit.
  *
- * A list is a pointer and its number of places; the pointer of an empty list is not null. Lists that a call writes overlap
- * no other argument. Every function takes every value of its arguments. Ratings are 1 to 4; a NaN is any NaN. */
+ * Link libcapi.a, which `rt staticlib capi` writes (x86-64 Linux). examples/forecast.c is a whole program.
+ *
+ * - A list is a pointer and its number of places. A list of no places may be NULL.
+ * - A list that a call writes overlaps no other argument. Nothing is kept from call to call, so calls on lists of their own may
+ *   run on threads.
+ * - Every function takes every value of its arguments; what it cannot use it refuses, or the comment says what it gives.
+ * - Ratings are 1 again, 2 hard, 3 good, 4 easy. Any NaN is as good as another.
+ * - The promises hold in the default float modes (to nearest, subnormals kept): see drill_float_modes_ok. */
 #ifndef STREET_DRILL_H
 #define STREET_DRILL_H
 
@@ -13,8 +20,261 @@
 extern "C" {
 #endif
 
-/* ---- numbers */
+/* ==== refusals: what drill_simulate and drill_optimal_retention answer
+ *
+ * Tests are made in the order 1, 2, 3, 4, 6, 2, 5. Refused by 1 to 6, a call has changed no list. Refused by 7 or 8, a run leaves
+ * every list as after its last whole turn, or as set up. */
+enum drill_refusal {
+    DRILL_OK = 0,
+    /* under 34 parameters, or one of the first 34 is not finite; second: 34 if too few, else the first such index */
+    DRILL_PARAMETERS_REFUSED = 1,
+    /* deck_size is 0 or over DRILL_MOST_CARDS (second: 0), or there are more existing cards than that (second: 1) */
+    DRILL_DECK_SIZE_REFUSED = 2,
+    /* learn_span is not 1 to DRILL_MOST_DAYS */
+    DRILL_LEARN_SPAN_REFUSED = 3,
+    /* a weight or a cost is negative or not finite; the weights of a row add up to 0 or to no finite number; max_cost_perday is
+     * a NaN; max_ivl is not 1 to 36500; the retention is not finite; the rounds of a search are not 1 to 64 */
+    DRILL_CONFIG_REFUSED = 4,
+    /* a card that has a memory state (stability above 1e-9): stability, due or desired_retention is not finite; last_date is a
+     * NaN; due or last_date is beyond 16777216 either way (last_date may be -INFINITY); difficulty is not finite though there is
+     * a last_date; lapses are above 4000000000; second: the first such card's place among the existing ones, from 0 */
+    DRILL_CARD_REFUSED = 5,
+    /* a list is too short, or not as long as the one beside it; list says which (enum drill_list) */
+    DRILL_LISTS_REFUSED = 6,
+    /* in the run: a chance of recall is a NaN or not 0 to 1; second: the card, a place in the list cards */
+    DRILL_CHANCE_REFUSED = 7,
+    /* in the run: an interval is to be entered and the interval table is full; second: the card. Call again with a longer table:
+     * whatever length ends Ok, the forecast is the same */
+    DRILL_TABLE_FULL = 8,
+    /* in the run: a due count would fall below 0; it is proved that no run answers this */
+    DRILL_DUE_REFUSED = 9,
+    /* in a search: the rounds are used up, or the retention found is not within 0.70 to 0.95; second: the rounds done */
+    DRILL_NOT_FOUND = 10
+};
 
+/* which list refusal 6 is about: the first of these; the needed lengths stand beside */
+enum drill_list {
+    DRILL_LIST_NONE = 0,
+    DRILL_LIST_EXISTING_COUNTS = 1, /* as long as existing_cards */
+    DRILL_LIST_INTERVALS = 2,       /* as long as keys: the interval table, of any length */
+    DRILL_LIST_COUNTS = 3,          /* as long as cards */
+    DRILL_LIST_CARDS = 4,           /* deck_size */
+    DRILL_LIST_QUEUE = 5,           /* deck_size */
+    DRILL_LIST_DAYS = 6,            /* learn_span */
+    DRILL_LIST_COSTS = 7,           /* learn_span */
+    DRILL_LIST_MEMORIZED = 8,       /* learn_span */
+    DRILL_LIST_DUE = 9              /* DRILL_DUE_LENGTH(learn_span) */
+};
+
+#define DRILL_PARAMETERS 34
+#define DRILL_MOST_CARDS 65536
+#define DRILL_MOST_DAYS 36500
+#define DRILL_MOST_ROUNDS 64
+#define DRILL_NO_LIMIT UINT32_MAX
+#define DRILL_DUE_LENGTH(span) ((size_t)(span) + (size_t)(span) / 2)
+
+/* ==== the run */
+
+/* SimulatorConfig of fsrs-rs. Rows of four are for the ratings 1 to 4, of three for 2 to 4. */
+struct drill_config {
+    uint32_t deck_size;  /* streets, 1 to DRILL_MOST_CARDS, the existing ones among them */
+    uint32_t learn_span; /* days, 1 to DRILL_MOST_DAYS */
+    float max_cost_perday; /* seconds after which a day begins nothing more; INFINITY: no limit */
+    float max_ivl;         /* the longest interval in days, 1 to 36500 */
+    float first_rating_prob[4];  /* weights of the first rating */
+    float review_rating_prob[3]; /* weights of hard, good and easy where a street is recalled */
+    uint32_t learn_limit;  /* most learnings a day, or DRILL_NO_LIMIT */
+    uint32_t review_limit; /* most reviews a day, or DRILL_NO_LIMIT */
+    bool new_cards_ignore_review_limit; /* false: learnings count against review_limit too */
+    uint32_t suspend_after_lapses; /* a card with so many lapses is retired: 0 retires every card at its first turn; DRILL_NO_LIMIT
+                                      none */
+    float learning_step_transitions[3][4];   /* weights of the next rating in the learning steps, by the rating before: 1 to 3 */
+    float relearning_step_transitions[3][4]; /* and in the relearning steps */
+    float state_rating_costs[3][4]; /* seconds by learning, review, relearning and by rating */
+    uint32_t learning_step_count;
+    uint32_t relearning_step_count;
+};
+
+/* a card's memory and dates; days are counted from the first of the span */
+struct drill_card_state {
+    float difficulty;
+    float stability; /* an existing card of 1e-9 or below, or a NaN, is passed over: it takes no place in the run */
+    float last_date; /* the day of its last event, mostly negative; -INFINITY: a new card */
+    float due;       /* the day it is due */
+    float interval;
+    float desired_retention;
+};
+
+struct drill_card_counts {
+    uint32_t reps;
+    uint32_t lapses;
+};
+
+/* the run's order: by key, the least first (drill_card_priority) */
+struct drill_queue_row {
+    uint64_t key;
+    uint64_t card; /* a place in the list cards */
+};
+
+struct drill_day {
+    uint32_t learned;
+    uint32_t reviewed;
+    uint32_t correct;    /* reviews that were recalled */
+    uint32_t introduced; /* cards with a last date up to this day, those from before the span among them */
+};
+
+/* a key of the interval table: buckets of stability and of retention, as the bits of an int32_t */
+struct drill_interval_key {
+    uint32_t stability;
+    uint32_t retention;
+};
+
+struct drill_answer {
+    uint32_t refusal; /* enum drill_refusal */
+    uint32_t second;  /* the refusal's second number, else 0 */
+    uint32_t list;    /* enum drill_list where refusal is DRILL_LISTS_REFUSED, else 0 */
+    uint32_t turns;   /* taken: learnings, reviews, puttings off and retirings */
+    uint32_t cards;   /* the run's cards: so many first places of cards, counts and queue are written */
+    uint32_t queued;  /* so many first rows of queue hold the cards still queued: 0 where the run ended */
+    uint64_t draws;   /* the generator's state: the seed of a run that goes on from here */
+};
+
+/* A run. cards, counts, queue, days, costs, memorized and due may hold anything before; keys and intervals are emptied first.
+ * After it cards and counts are the updated deck (card states of new streets too), days, costs (seconds) and memorized (the sum of
+ * the cards' chances of recall) have a place for each day, due for each day that is counted. What lies behind a list's needed
+ * length stays as it was. 16384 places for the interval table serve most years. */
+struct drill_answer drill_simulate(const float *parameters, size_t parameters_len, const struct drill_card_state *existing_cards,
+                                   size_t existing_cards_len, const struct drill_card_counts *existing_counts,
+                                   size_t existing_counts_len, struct drill_config config, float desired_retention, uint64_t seed,
+                                   struct drill_card_state *cards, size_t cards_len, struct drill_card_counts *counts,
+                                   size_t counts_len, struct drill_queue_row *queue, size_t queue_len, struct drill_day *days,
+                                   size_t days_len, float *costs, size_t costs_len, float *memorized, size_t memorized_len,
+                                   uint32_t *due, size_t due_len, struct drill_interval_key *keys, size_t keys_len,
+                                   float *intervals, size_t intervals_len);
+
+/* ==== the search for the retention from 0.70 to 0.95 at which a run costs least for each card memorized in the end */
+
+struct drill_found {
+    uint32_t refusal; /* enum drill_refusal: 1 to 6 at the entry, 7 or 8 where a run was refused, 10 */
+    uint32_t second;
+    uint32_t list;
+    uint32_t rounds;  /* done; 0 where nothing was found */
+    float retention;  /* 0 where nothing was found */
+    float mean;       /* the seconds it costs for each card memorized: look at it. A NaN or an infinity says that no card was
+                         memorized in a trial, and then the retention means nothing; 0 where nothing was found */
+};
+
+/* Arguments as of drill_simulate; rounds is 1 to DRILL_MOST_ROUNDS. The lists are left as by the last run. */
+struct drill_found drill_optimal_retention(const float *parameters, size_t parameters_len,
+                                           const struct drill_card_state *existing_cards, size_t existing_cards_len,
+                                           const struct drill_card_counts *existing_counts, size_t existing_counts_len,
+                                           struct drill_config config, uint32_t rounds, struct drill_card_state *cards,
+                                           size_t cards_len, struct drill_card_counts *counts, size_t counts_len,
+                                           struct drill_queue_row *queue, size_t queue_len, struct drill_day *days, size_t days_len,
+                                           float *costs, size_t costs_len, float *memorized, size_t memorized_len, uint32_t *due,
+                                           size_t due_len, struct drill_interval_key *keys, size_t keys_len, float *intervals,
+                                           size_t intervals_len);
+
+/* The same search one trial at a time, so that a host may make a trial's runs on threads of its own:
+ *
+ *     struct drill_search s = drill_search_start(64);
+ *     for (float r; r = drill_search_next(s), r == r;)
+ *         s = drill_search_take(s, mean at r);
+ *     if (drill_search_answer(s) == DRILL_OK) use s.state.x, the retention, and s.state.fx, its mean;
+ *
+ * where the mean at r is drill_mean of drill_target over drill_sample_size(span) runs at r, with the seeds 42, 43, .. */
+struct drill_brent {
+    float a, b, x, v, w, fx, fv, fw, deltax, rat; /* the Rust's names: x is the best so far, fx its mean */
+    uint32_t done;                                /* rounds */
+};
+
+struct drill_search {
+    bool begun;
+    uint32_t rounds;
+    struct drill_brent state;
+};
+
+#define DRILL_SEARCH_OPEN UINT32_MAX
+
+struct drill_search drill_search_start(uint32_t rounds);
+/* the retention to try; a NaN where there is none: the search has ended */
+float drill_search_next(struct drill_search s);
+struct drill_search drill_search_take(struct drill_search s, float mean);
+/* DRILL_OK, DRILL_NOT_FOUND, or DRILL_SEARCH_OPEN: a retention is still to be tried */
+uint32_t drill_search_answer(struct drill_search s);
+/* how many runs a trial has, by the days of the span */
+uint32_t drill_sample_size(uint32_t span);
+/* what a run costs for each card memorized on its last day, from the lists that it left */
+float drill_target(uint32_t span, const float *costs, size_t costs_len, const float *memorized, size_t memorized_len);
+/* the mean of the first n */
+float drill_mean(const float *targets, size_t targets_len, uint32_t n);
+
+/* ==== the float modes
+ *
+ * Whether this thread computes in the modes that the promises are for. Another library may have changed them (-ffast-math does),
+ * and they are the thread's own: ask on each thread, if in doubt before each call. */
+static inline bool drill_float_modes_ok(void) {
+    volatile float one = 1.0f, half_step = 5.9604645e-8f, least = 1e-45f, small = 1.17549435e-38f;
+    volatile float down = one + half_step, up = one + 3 * half_step, minus = -one - half_step;
+    volatile float kept = least * one, halved = small * 0.5f;
+    return down == 1.0f && up > 1.0f + 2 * half_step && minus == -1.0f && kept > 0 && halved > 0;
+}
+
+/* ==== the memory model, from its 34 parameters; a parameter that is missing counts as a NaN */
+
+float drill_init_stability(const float *w, size_t w_len, uint32_t rating);
+float drill_init_difficulty(const float *w, size_t w_len, uint32_t rating);
+float drill_next_difficulty(const float *w, size_t w_len, float difficulty, uint32_t rating, float retention);
+float drill_stability_after_success(const float *w, size_t w_len, float stability, float retention, float difficulty,
+                                    uint32_t rating);
+float drill_stability_after_failure(const float *w, size_t w_len, float stability, float retention, float difficulty);
+float drill_stability_short_term(const float *w, size_t w_len, float stability, float retention, float difficulty,
+                                 uint32_t rating);
+/* the chance of recall t days after an event */
+float drill_forgetting_curve(const float *w, size_t w_len, float t, float stability);
+float drill_forgetting_curve_for_state(const float *w, size_t w_len, float t, float stability, float difficulty, float fast);
+/* the solver's curve, with its derivative */
+float drill_forgetting_curve_and_derivative(const float *w, size_t w_len, float t, float stability, float difficulty, float fast,
+                                            float *derivative);
+/* days until the chance of recall has fallen to the desired one */
+float drill_next_interval(const float *w, size_t w_len, float stability, float desired);
+float drill_next_interval_for_state(const float *w, size_t w_len, float stability, float difficulty, float fast, float desired);
+float drill_next_interval_bisection(const float *w, size_t w_len, float stability, float difficulty, float fast, float desired);
+/* in whole days from 1 to the largest */
+float drill_scheduled(const float *w, size_t w_len, float stability, float desired, float largest);
+
+/* ==== the interval table: a key beside each interval, a place with an interval below 1 being free. drill_clear empties it; memory
+ * of zeros is an empty table too */
+void drill_clear(float *intervals, size_t intervals_len);
+/* the interval that is scheduled, from the table or else entered there; a NaN where it is to be entered and the table is full.
+ * Clear the table before its first use */
+float drill_scheduled_interval(const float *w, size_t w_len, float stability, float retention, float most,
+                               struct drill_interval_key *keys, size_t keys_len, float *intervals, size_t intervals_len);
+/* whether an interval found under a key is one to use */
+bool drill_certifies_rounded_interval(const float *w, size_t w_len, float stability, float retention, float interval, float most);
+uint32_t drill_bucket_index(float value, float step);
+uint32_t drill_stability_bucket(float stability);
+uint32_t drill_retention_bucket(float retention);
+
+/* ==== the queue: a heap in the first len rows of a list */
+uint64_t drill_card_priority(uint32_t day, bool is_new, float difficulty);
+/* the new len: len + 1, or len where all rows are in use, and then the card is not taken in */
+uint32_t drill_push(struct drill_queue_row *rows, size_t rows_len, uint32_t len, uint32_t card, uint64_t key);
+/* the first row's card */
+uint32_t drill_peek_index(const struct drill_queue_row *rows, size_t rows_len, uint32_t len);
+/* the new len, without the first row's card */
+uint32_t drill_pop(struct drill_queue_row *rows, size_t rows_len, uint32_t len);
+void drill_change_front(struct drill_queue_row *rows, size_t rows_len, uint32_t len, uint64_t key);
+
+/* ==== draws: SplitMix64; a word is the top half of an output */
+uint64_t drill_next(uint64_t *state);
+uint32_t drill_word(uint64_t output);
+/* the index, from 0, of the weight that the word chooses. It is a rating only after the first of its row is added (1 for four
+ * weights, 2 for three), and says nothing for weights that refusal 4 turns away */
+size_t drill_weighted_index(const float *weights, size_t weights_len, uint32_t word);
+bool drill_recalled(float chance, uint32_t word);
+
+/* ==== numbers */
 float drill_exp(float x);
 float drill_ln(float x);
 float drill_powf(float x, float y);
@@ -29,102 +289,6 @@ uint32_t drill_to_u32(float x);
 float drill_pack(bool negative, uint64_t m, uint32_t e);
 float drill_round(float x);
 float drill_mul_add(float x, float y, float z);
-
-/* ---- draws: SplitMix64; a word is the top half of an output */
-
-uint64_t drill_next(uint64_t *state);
-uint32_t drill_word(uint64_t output);
-/* the index, from 0, of the weight that the word chooses */
-size_t drill_rating(const float *weights, size_t weights_len, uint32_t word);
-bool drill_recalled(float chance, uint32_t word);
-
-/* ---- the memory model, from its 34 parameters */
-
-float drill_init_stability(const float *w, size_t w_len, uint32_t rating);
-float drill_init_difficulty(const float *w, size_t w_len, uint32_t rating);
-float drill_next_difficulty(const float *w, size_t w_len, float d, uint32_t rating, float retention);
-float drill_stability_after_success(const float *w, size_t w_len, float s, float r, float d, uint32_t rating);
-float drill_stability_after_failure(const float *w, size_t w_len, float s, float r, float d);
-float drill_stability_short_term(const float *w, size_t w_len, float s, float r, float d, uint32_t rating);
-float drill_forgetting_curve(const float *w, size_t w_len, float t, float stability);
-float drill_forgetting_curve_for_state(const float *w, size_t w_len, float t, float stability, float difficulty, float fast);
-/* the solver's curve, with its derivative */
-float drill_forgetting_curve_and_derivative(const float *w, size_t w_len, float t, float stability, float difficulty, float fast,
-                                            float *derivative);
-float drill_next_interval_bisection(const float *w, size_t w_len, float stability, float difficulty, float fast, float desired);
-float drill_next_interval_for_state(const float *w, size_t w_len, float stability, float difficulty, float fast, float desired);
-float drill_next_interval(const float *w, size_t w_len, float stability, float desired);
-/* in whole days from 1 to the largest */
-float drill_scheduled(const float *w, size_t w_len, float stability, float desired, float largest);
-
-/* ---- the queue: rows of an order key and a card number, the first len of them in use */
-
-uint64_t drill_card_priority(uint32_t day, bool is_new, float difficulty);
-/* push and pop give the new len */
-uint32_t drill_push(uint64_t (*rows)[2], size_t rows_len, uint32_t len, uint32_t card, uint64_t key);
-uint32_t drill_peek_index(const uint64_t (*rows)[2], size_t rows_len, uint32_t len);
-uint32_t drill_pop(uint64_t (*rows)[2], size_t rows_len, uint32_t len);
-void drill_change_front(uint64_t (*rows)[2], size_t rows_len, uint32_t len, uint64_t key);
-
-/* ---- the interval table: keys of two buckets (i32 bit patterns) and intervals, below 1 where a place is free */
-
-uint32_t drill_bucket_index(float value, float step);
-uint32_t drill_stability_bucket(float stability);
-uint32_t drill_retention_bucket(float retention);
-bool drill_certifies_rounded_interval(const float *w, size_t w_len, float stability, float retention, float interval, float most);
-/* the interval that is scheduled, entered where the table did not serve; a NaN where the table is full */
-float drill_scheduled_interval(const float *w, size_t w_len, float stability, float retention, float most, uint32_t (*keys)[2],
-                               size_t keys_len, float *intervals, size_t intervals_len);
-void drill_clear(float *intervals, size_t intervals_len);
-
-/* ---- the run
- *
- * numbers: deck_size, learn_span, learn_limit, review_limit, new_cards_ignore_review_limit (0: no), suspend_after_lapses,
- * learning_step_count, relearning_step_count; a limit of 4294967295 is none. Tables of three rows of four stand row by row.
- * A card is difficulty, stability, last_date, due, interval, desired_retention, and reps, lapses; a day's counts are learned,
- * reviewed, correct, introduced; costs and memorized have a number a day.
- * answer: the refusal's number, 0 where the run ended; its second number; turns taken; the run's cards; the state of the draws. */
-void drill_simulate(const float *parameters, size_t parameters_len, const float (*existing_cards)[6], size_t existing_cards_len,
-                    const uint32_t (*existing_counts)[2], size_t existing_counts_len, const uint32_t (*numbers)[8],
-                    float max_cost_perday, float max_ivl, const float (*first_rating_prob)[4], const float (*review_rating_prob)[3],
-                    const float (*learning_step_transitions)[12], const float (*relearning_step_transitions)[12],
-                    const float (*state_rating_costs)[12], float desired_retention, uint64_t seed, float (*cards)[6],
-                    size_t cards_len, uint32_t (*counts)[2], size_t counts_len, uint64_t (*queue)[2], size_t queue_len,
-                    uint32_t (*days)[4], size_t days_len, float *costs, size_t costs_len, float *memorized,
-                    size_t memorized_len, uint32_t *due, size_t due_len,
-                    uint32_t (*keys)[2], size_t keys_len, float *intervals, size_t intervals_len, uint64_t (*answer)[5]);
-
-/* ---- the search for the retention from 0.70 to 0.95 at which a run costs least for each card memorized in the end
- *
- * Arguments as of drill_simulate; rounds is 1 to 64. answer: the refusal's number, 0 where a retention was found; its second
- * number; the rounds done where one was found. found: the retention and its mean, 0 and 0 where none was found. Look at the mean:
- * a NaN or an infinity says that no card was memorized in a trial. */
-void drill_optimal_retention(const float *parameters, size_t parameters_len, const float (*existing_cards)[6],
-                             size_t existing_cards_len, const uint32_t (*existing_counts)[2], size_t existing_counts_len,
-                             const uint32_t (*numbers)[8], float max_cost_perday, float max_ivl,
-                             const float (*first_rating_prob)[4], const float (*review_rating_prob)[3],
-                             const float (*learning_step_transitions)[12], const float (*relearning_step_transitions)[12],
-                             const float (*state_rating_costs)[12], uint32_t rounds, float (*cards)[6], size_t cards_len,
-                             uint32_t (*counts)[2], size_t counts_len, uint64_t (*queue)[2], size_t queue_len,
-                             uint32_t (*days)[4], size_t days_len, float *costs, size_t costs_len, float *memorized,
-                             size_t memorized_len, uint32_t *due, size_t due_len, uint32_t (*keys)[2], size_t keys_len,
-                             float *intervals, size_t intervals_len, uint32_t (*answer)[3], float (*found)[2]);
-
-/* The same search one trial at a time, so that a host may make a trial's runs on threads of its own: start; while next is a number,
- * make drill_sample_size runs at that retention with the seeds 42, 43, .., take the mean of their targets; then answer.
- * floats: a, b, x, v, w, the means of x, v and w, deltax, rat; counts: the rounds done, whether it has begun, the most rounds. */
-void drill_search_start(uint32_t rounds, float (*floats)[10], uint32_t (*counts)[3]);
-/* the retention to try, a NaN where there is none */
-float drill_search_next(const float (*floats)[10], const uint32_t (*counts)[3]);
-void drill_search_take(float mean, float (*floats)[10], uint32_t (*counts)[3]);
-/* 0: found, x; 10: not found; 4294967295: a retention is still to be tried */
-uint32_t drill_search_answer(const float (*floats)[10], const uint32_t (*counts)[3]);
-/* how many runs a trial has, by the days of the span */
-uint32_t drill_sample_size(uint32_t span);
-/* what a run costs for each card memorized on its last day */
-float drill_target(uint32_t span, const float *costs, size_t costs_len, const float *memorized, size_t memorized_len);
-/* of the first n */
-float drill_mean(const float *targets, size_t targets_len, uint32_t n);
 
 #ifdef __cplusplus
 }

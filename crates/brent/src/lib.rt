@@ -8,6 +8,7 @@ ghost use Rattle.brent.specs.Step as Step;
 ghost use Rattle.brent.specs.Stepping as Stepping;
 
 // The ends a and b, the best retention x, the two before it, w and v, their means, the last two moves, and the rounds done.
+#[repr(C)]
 pub struct Brent {
     pub a: f32,
     pub b: f32,
@@ -42,6 +43,7 @@ pub struct Trial {
 }
 
 // A search that is under way: whether the first mean, that at 0.70, is in; the most rounds; the state.
+#[repr(C)]
 pub struct Stepper {
     pub begun: bool,
     pub rounds: u32,

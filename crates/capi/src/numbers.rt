@@ -124,7 +124,7 @@ pub extern "C" fn drill_word(output: u64) -> u32
 }
 
 #[no_mangle]
-pub extern "C" fn drill_rating(weights: &[f32], word: u32) -> usize
+pub extern "C" fn drill_weighted_index(weights: &[f32], word: u32) -> usize
     ensures { λ r. ⌜ r ≡ Draws.rating (now (weights .entry)) word ⌝ }
 {
     draws::rating(weights, word)

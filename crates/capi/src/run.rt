@@ -1,69 +1,57 @@
 // The run over lists of numbers.
 use cards::SimulatorConfig;
 use simulation::Answer;
+use simulation::Lengths;
 use simulation::Progress;
 use simulation::refusals;
 ghost use Rattle.simulation.specs.State.{lent, state};
 ghost use Rattle.simulation.specs.Entry.{inputs};
-ghost use Rattle.capi.specs.Answer.{numbersFrom, numbersOf, CallContract};
+ghost use Rattle.capi.specs.Answer.{listIn, numbersFrom, numbersOf, CallContract};
 ghost use mathlib.Core.Path.{_≡_};
-ghost use Rattle.capi.specs.Config.{configOf};
 
-pub(crate) fn config_of(
-    numbers: &[u32; 8],
-    max_cost_perday: f32,
-    max_ivl: f32,
-    first: &[f32; 4],
-    review: &[f32; 3],
-    learning: &[f32; 12],
-    relearning: &[f32; 12],
-    costs: &[f32; 12],
-) -> SimulatorConfig
-    ensures { λ r. ⌜ r ≡ configOf (now (numbers .entry)) «max_cost_perday» «max_ivl» (now (first .entry)) (now (review .entry)) (now (learning .entry)) (now (relearning .entry)) (now (costs .entry)) ⌝ }
+// An answer as numbers: the refusal's number, 0 where the run ended, its second number and, for 6, its list; how far the run came.
+#[repr(C)]
+pub struct RunNumbers {
+    pub refusal: u32,
+    pub second: u32,
+    pub list: u32,
+    pub turns: u32,
+    pub cards: u32,
+    pub queued: u32,
+    pub draws: u64,
+}
+
+pub(crate) fn list_in(number: u32, list: u32) -> u32
+    ensures { λ r. ⌜ r ≡ listIn number list ⌝ }
 {
-    SimulatorConfig {
-        deck_size: numbers[0],
-        learn_span: numbers[1],
-        max_cost_perday,
-        max_ivl,
-        first_rating_prob: *first,
-        review_rating_prob: *review,
-        learn_limit: numbers[2],
-        review_limit: numbers[3],
-        new_cards_ignore_review_limit: numbers[4] != 0,
-        suspend_after_lapses: numbers[5],
-        learning_step_transitions: *learning,
-        relearning_step_transitions: *relearning,
-        state_rating_costs: *costs,
-        learning_step_count: numbers[6],
-        relearning_step_count: numbers[7],
+    if number == 6 { list } else { 0 }
+}
+
+fn numbers_from(number: u32, second: u32, list: u32, p: Progress) -> RunNumbers
+    ensures { λ r. ⌜ r ≡ numbersFrom number second list p ⌝ }
+{
+    RunNumbers {
+        refusal: number,
+        second,
+        list: list_in(number, list),
+        turns: p.turns,
+        cards: p.cards,
+        queued: p.queued,
+        draws: p.draws,
     }
 }
 
-fn wide(n: u32) -> u64
-    ensures { λ r. ⌜ r ≡ n ⌝ }
-{
-    n as u64
-}
-
-fn numbers_from(number: u32, second: u32, p: Progress) -> [u64; 5]
-    ensures { λ r. ⌜ r ≡ numbersFrom number second p ⌝ }
-{
-    [
-        wide(number),
-        wide(second),
-        wide(p.turns),
-        wide(p.cards),
-        p.draws,
-    ]
-}
-
-fn numbers_of(answer: Answer) -> [u64; 5]
-    ensures { λ r. ⌜ r ≡ numbersOf answer ⌝ }
+fn numbers_of(answer: Answer, list: u32) -> RunNumbers
+    ensures { λ r. ⌜ r ≡ numbersOf answer list ⌝ }
 {
     match answer {
-        Answer::Finished(p) => numbers_from(0, 0, p),
-        Answer::Refused(r, p) => numbers_from(refusals::number_of(r), refusals::second_of(r), p),
+        Answer::Finished(p) => numbers_from(0, 0, list, p),
+        Answer::Refused(r, p) => numbers_from(
+            refusals::number_of(r),
+            refusals::second_of(r),
+            list,
+            p,
+        ),
     }
 }
 
@@ -72,14 +60,7 @@ pub extern "C" fn drill_simulate(
     parameters: &[f32],
     existing: &[[f32; 6]],
     existing_counts: &[[u32; 2]],
-    numbers: &[u32; 8],
-    max_cost_perday: f32,
-    max_ivl: f32,
-    first: &[f32; 4],
-    review: &[f32; 3],
-    learning: &[f32; 12],
-    relearning: &[f32; 12],
-    rating_costs: &[f32; 12],
+    config: SimulatorConfig,
     desired_retention: f32,
     seed: u64,
     cards: &mut [[f32; 6]],
@@ -91,26 +72,25 @@ pub extern "C" fn drill_simulate(
     due: &mut [u32],
     keys: &mut [[u32; 2]],
     intervals: &mut [f32],
-    answer: &mut [u64; 5],
-)
-    ensures { λ _. ⌜ (
-        let g = configOf (now (numbers .entry)) «max_cost_perday» «max_ivl» (now (first .entry)) (now (review .entry)) (now (learning .entry)) (now (relearning .entry)) (now («rating_costs» .entry)) in
-        CallContract
-        (inputs g (now (parameters .entry)) «desired_retention» seed (now (existing .entry)) (now («existing_counts» .entry)))
+) -> RunNumbers
+    ensures { λ r. ⌜ CallContract
+        (inputs config (now (parameters .entry)) «desired_retention» seed (now (existing .entry)) (now («existing_counts» .entry)))
         (state (lent (now (cards .entry)) (now (counts .entry)) (now (queue .entry)) (now (days .entry)) (now (costs .entry)) (now (memorized .entry)) (now (due .entry)) (now (keys .entry)) (now (intervals .entry))) 0 seed)
-        (now (answer .exit))
-        (lent (now (cards .exit)) (now (counts .exit)) (now (queue .exit)) (now (days .exit)) (now (costs .exit)) (now (memorized .exit)) (now (due .exit)) (now (keys .exit)) (now (intervals .exit)))) ⌝ }
+        r
+        (lent (now (cards .exit)) (now (counts .exit)) (now (queue .exit)) (now (days .exit)) (now (costs .exit)) (now (memorized .exit)) (now (due .exit)) (now (keys .exit)) (now (intervals .exit))) ⌝ }
 {
-    let config = config_of(
-        numbers,
-        max_cost_perday,
-        max_ivl,
-        first,
-        review,
-        learning,
-        relearning,
-        rating_costs,
-    );
+    let lengths = Lengths {
+        cards: cards.len(),
+        counts: counts.len(),
+        rows: queue.len(),
+        days: days.len(),
+        costs: costs.len(),
+        memorized: memorized.len(),
+        due: due.len(),
+        keys: keys.len(),
+        intervals: intervals.len(),
+    };
+    let list = simulation::short_list(config, existing.len(), existing_counts.len(), lengths);
     let told = simulation::simulate(
         cards,
         counts,
@@ -128,5 +108,5 @@ pub extern "C" fn drill_simulate(
         desired_retention,
         seed,
     );
-    *answer = numbers_of(told);
+    numbers_of(told, list)
 }

@@ -12,6 +12,7 @@ ghost use Rattle.cards.specs.Config.{rowOf, threeOf, amountOk, amountsOk
 ghost use Rattle.cards.specs.Choices.{limits, retires, blocked, choiceOf};
 
 // `SimulatorConfig` of the Rust without its callbacks. A limit of 4294967295 is none; rows of four stand one after the other.
+#[repr(C)]
 pub struct SimulatorConfig {
     pub deck_size: u32,
     pub learn_span: u32,
@@ -30,6 +31,7 @@ pub struct SimulatorConfig {
     pub relearning_step_count: u32,
 }
 
+#[repr(C)]
 pub struct Card {
     pub difficulty: f32,
     pub stability: f32,

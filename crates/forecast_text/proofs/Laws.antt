@@ -23,7 +23,7 @@ use Rattle.simulation.specs.declared.Answer.{Answer}
 use Rattle.simulation.specs.declared.Answer.the-variants as answer
 use Rattle.simulation.specs.Refusals.{numberOf, secondOf}
 use Rattle.simulation.specs.State.{mostCards, mostDays}
-use Rattle.simulation.specs.Entry.{firstWhere, listsOk, checkFirst, checkedWith, checked}
+use Rattle.simulation.specs.Entry.{firstWhere, lengthsOk, listsOk, checkFirst, checkSettings, checked}
 use Rattle.simulation.specs.Simulate.{simulatedBy}
 use Rattle.forecast_text.specs.Settings.{mostDeck, mostSpan, within, configOf, inputsOf, defaultSettings}
 use Rattle.forecast_text.specs.Forecast.{lists, lentLists, runWith, forecastRun, room, answerText, runText}
@@ -48,7 +48,7 @@ limit-is most larger n h = go (ltb most n) refl
     go false e = rw (le-ltb larger n (omega (arith, h, ltb-false most n e)))
 
 lists-long : (s : Settings) → listsOk (inputsOf s) (lentLists s) ≡ true
-unfolding listsOk inputsOf configOf lists
+unfolding lengthsOk inputsOf configOf lists
 lists-long s =
     let deck : within mostDeck (s .deck) ≤ mostDeck = within-short mostDeck (s .deck) _ refl in
     let span : within mostSpan (s .span) ≤ mostSpan = within-short mostSpan (s .span) _ refl in
@@ -60,7 +60,7 @@ lists-long s =
     )
 
 pub entry-is : (s : Settings) → checked (inputsOf s) (lentLists s) ≡ entryOf s
-unfolding checkedWith entryOf inputsOf configOf checkFirst firstWhere
+unfolding checkSettings entryOf inputsOf configOf checkFirst firstWhere
 entry-is s =
     rw (
       lists-long s,

@@ -23,7 +23,7 @@ use Rattle.simulation.specs.declared.Check.{Check}
 use Rattle.simulation.specs.declared.Check.the-variants as check
 use Rattle.simulation.specs.declared.Answer.{Answer}
 use Rattle.simulation.specs.State.{State, Lent, state, listsOf, mostCards, mostDays}
-use Rattle.simulation.specs.Entry.{Inputs, firstWhere, notFinite, failIf, checkParameters, listsOk, checkedWith, checked}
+use Rattle.simulation.specs.Entry.{Inputs, firstWhere, notFinite, failIf, checkParameters, checkSettings, listsOk, checkedWith, checked}
 use Rattle.simulation.specs.Frame.{SameLengths}
 use Rattle.simulation.specs.Simulate.{simulated}
 use Rattle.simulation.proofs.Demands.{demands}
@@ -59,7 +59,7 @@ passes false r next e = (refl, e)
 
 lists-and-span : (ok : Bool) (i : Inputs) (s : State Float) → checkedWith ok i s ≡ check.Passed
     → (listsOk i s ≡ true) × (0 < i .config .«learn_span»)
-unfolding checkedWith checkParameters
+unfolding checkSettings checkParameters
 lists-and-span ok i s e =
     let w = i .parameters in
     let g = i .config in

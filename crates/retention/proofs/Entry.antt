@@ -26,7 +26,7 @@ use Rattle.simulation.specs.declared.Answer.{Answer}
 use Rattle.simulation.specs.declared.Progress.{Progress}
 use Rattle.simulation.specs.declared.Answer.the-variants as answer
 use Rattle.simulation.specs.State.{State, Lent, state, listsOf}
-use Rattle.simulation.specs.Entry.{Inputs, inputs, listsOk, checkedWith, checked}
+use Rattle.simulation.specs.Entry.{Inputs, inputs, lengthsOk, listsOk, checkSettings, checkedWith, checked}
 use Rattle.simulation.specs.Refusals.{numberOf}
 use Rattle.simulation.specs.Frame.{SameLengths}
 use Rattle.simulation.specs.Simulate.{Result, simulated}
@@ -71,7 +71,7 @@ module _ (i : Inputs) (rounds : ℕ) (l : Lent Float) where
 same-lengths : (ok : Bool) (i j : Inputs) (a a′ b b′ : ℕ) (l l′ : Lent Float) → j .config ≡ i .config
     → j .parameters ≡ i .parameters → j .existing ≡ i .existing → j .existing-counts ≡ i .existing-counts
     → SameLengths l l′ → checkedWith ok j (state l′ a′ b′) ≡ checkedWith ok i (state l a b)
-unfolding checkedWith listsOk
+unfolding checkSettings lengthsOk
 same-lengths ok i j a a′ b b′ l l′ p q r s h =
     rw (p, q, r, s, h .cards, h .counts, h .rows, h .days, h .costs, h .memorized, h .due, h .keys, h .intervals)
 

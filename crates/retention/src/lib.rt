@@ -4,6 +4,7 @@ use brent::Stepper;
 use brent::Verdict;
 use cards::SimulatorConfig;
 use simulation::Check;
+use simulation::Lengths;
 use simulation::Refusal;
 use simulation::refusals;
 ghost use mathlib.Core.Path.{_≡_};
@@ -171,16 +172,19 @@ pub fn optimal_retention(
         r
         (lent (now (cards .exit)) (now (counts .exit)) (now (rows .exit)) (now (days .exit)) (now (costs .exit)) (now (memorized .exit)) (now (due .exit)) (now (keys .exit)) (now (intervals .exit))) ⌝ }
 {
+    let lengths = Lengths {
+        cards: cards.len(),
+        counts: counts.len(),
+        rows: rows.len(),
+        days: days.len(),
+        costs: costs.len(),
+        memorized: memorized.len(),
+        due: due.len(),
+        keys: keys.len(),
+        intervals: intervals.len(),
+    };
     let entry = simulation::check_entry(
-        cards,
-        counts,
-        rows,
-        days,
-        costs,
-        memorized,
-        due,
-        keys,
-        intervals,
+        lengths,
         parameters,
         existing,
         existing_counts,

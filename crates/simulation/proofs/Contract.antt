@@ -20,8 +20,8 @@ use Rattle.simulation.specs.declared.Answer.{Answer}
 use Rattle.simulation.specs.declared.Answer.the-variants as answer
 use Rattle.simulation.specs.State.{State, Lent, listsOf, withDraws}
 use Rattle.simulation.specs.Rules.{rulesOf}
-use Rattle.simulation.specs.Entry.{Inputs, inputs, firstWhere, notFinite, checkParameters, listsOk}
-use Rattle.simulation.specs.Entry.{checkedWith, checked}
+use Rattle.simulation.specs.Entry.{Inputs, inputs, firstWhere, notFinite, checkParameters}
+use Rattle.simulation.specs.Entry.{checkSettings, checkedWith, checked}
 use Rattle.cards.specs.Config.{configOk}
 use Rattle.simulation.specs.Simulate.{progress, rulesFor, resultFrom, simulatedBy, simulated, IsResult}
 use Rattle.simulation.specs.Steps.{InnerContract}
@@ -40,7 +40,6 @@ module _ (i : Inputs) (s : State Float) where
   pub same-tests : (ok : Bool) {c : Check}
       → c ≡ checkedWith ok (inputs (i .config) (i .parameters) 0ᶠ 0 (i .existing) (i .existing-counts)) (withDraws 0 s)
       → c ≡ checkedWith ok i s
-  unfolding checkedWith listsOk
   same-tests ok e = e
 
   -- those of a run
@@ -50,11 +49,11 @@ module _ (i : Inputs) (s : State Float) where
   same-check ok f e = same-tests ok e ∙ ap (λ (b : Bool). checkedWith b i s) f
 
   pub refused-is : (r : Refusal) → checked i s ≡ check.Failed r
-      → RunContract i s (answer.Refused r (progress 0 0 (i .seed))) (listsOf s)
+      → RunContract i s (answer.Refused r (progress 0 0 0 (i .seed))) (listsOf s)
   unfolding simulatedBy
   refused-is r e = record {
     result = rw e (record { answer = refl; lists = refl });
-    demand-three = λ p f. absurd (not-finished r (progress 0 0 (i .seed)) p f);
+    demand-three = λ p f. absurd (not-finished r (progress 0 0 0 (i .seed)) p f);
   }
 
   module _ (e : checked i s ≡ check.Passed) {r : Answer} {l′ : Lent Float}
@@ -81,7 +80,7 @@ module _ (i : Inputs) (s : State Float) where
 
 -- a call that passes has passed the test of its own setting
 pub setting-ok : {C : Type 0} (ok : Bool) (i : Inputs) (s : State C) → checkedWith ok i s ≡ check.Passed → ok ≡ true
-unfolding checkedWith checkParameters
+unfolding checkSettings checkParameters
 setting-ok ok i s e =
     let w = i .parameters in
     let g = i .config in

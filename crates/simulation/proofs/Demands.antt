@@ -26,7 +26,7 @@ use Rattle.simulation.specs.Refusals.{numberOf}
 use Rattle.simulation.specs.SetUp.{emptyDeck, addAllCards, setUp}
 use Rattle.simulation.specs.RunRefusals.{StopCondition}
 use Rattle.simulation.specs.Simulate.{progress, answerOf, resultFrom, simulatedBy}
-use Rattle.simulation.specs.Demands.{Demands, UnreadParameters, startOf, cardsOf, endOf, turnsOf}
+use Rattle.simulation.specs.Demands.{Demands, UnreadParameters, startOf, cardsOf, endOf, turnsOf, progressOf}
 use Rattle.simulation.proofs.entry.Accepted.{accepted}
 use Rattle.simulation.proofs.turn.Stops.{stops-iff}
 use Rattle.simulation.proofs.run.Suits.{suits}
@@ -38,7 +38,7 @@ use Rattle.simulation.proofs.run.Answers.{ok-passed, told-stop, stop-to
 
 module _ {C : Type 0} (R : Rules C) (i : Inputs) (s : State C) where
   entry-refusal : (r : Refusal) → checked i s ≡ check.Failed r
-      → simulatedBy R i s ≡ record { answer = some (answer.Refused r (progress 0 0 (i .seed))); state = s }
+      → simulatedBy R i s ≡ record { answer = some (answer.Refused r (progress 0 0 0 (i .seed))); state = s }
   unfolding simulatedBy
   entry-refusal r e = rw e
 
@@ -50,7 +50,7 @@ module _ {C : Type 0} (R : Rules C) (i : Inputs) (s : State C) where
 stops-exactly : (w : DrawRule) (i : Inputs) (s : State Float) → checked i s ≡ check.Passed → (x : Stop)
     → (let R = rulesWith w (i .config) (plain (i .parameters)) in
     (simulatedBy R i s .answer
-    ≡ some (answerOf x (progress (length (turnsOf R i s)) (cardsOf R i s) (endOf R i s .draws)))) ↔ StopCondition R
+    ≡ some (answerOf x (progressOf R i s))) ↔ StopCondition R
     (endOf R i s) x)
 stops-exactly w i s e x =
     let R = rulesWith w (i .config) (plain (i .parameters)) in

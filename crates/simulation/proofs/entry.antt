@@ -1,3 +1,3 @@
 pub mod FirstWhere
 pub mod Accepted
-pub mod Parameters
+pub mod Settings

@@ -60,9 +60,9 @@ module _ {C : Type 0} (R : Rules C) (i : Inputs) (s : State C) where
   abbrev pub stateAfter : ℕ → State C
   stateAfter n = (run (next R) n [] startOf) .state
 
-  -- what its answer tells: turns taken, cards, and the state of the draws
+  -- what its answer tells: turns taken, cards, those still queued, and the state of the draws
   abbrev pub progressOf : Progress
-  progressOf = progress (length turnsOf) cardsOf (endOf .draws)
+  progressOf = progress (length turnsOf) cardsOf (endOf .queue .len) (endOf .draws)
 
   -- what demand 3 says of the rows in lent lists: of the cards with a last date at set-up, of lapses, and of each day
   abbrev pub RowsOf : Lent C → Type 0
@@ -109,7 +109,7 @@ pub record RunContract (i : Inputs) (s : State Float) (r : Answer) (l : Lent Flo
 pub record Demands {C : Type 0} (R : Rules C) (i : Inputs) (s : State C) : Type 0 where
   -- 1: an entry refusal, exactly by the table, writes nothing and takes no turn
   pub entry-refusal : (r : Refusal) → checked i s ≡ check.Failed r
-      → simulatedBy R i s ≡ record { answer = some (answer.Refused r (progress 0 0 (i .seed))); state = s }
+      → simulatedBy R i s ≡ record { answer = some (answer.Refused r (progress 0 0 0 (i .seed))); state = s }
   -- a run refusal leaves the state after the last finished turn: the state that the turns taken lead to
   pub run-leaves : checked i s ≡ check.Passed → simulatedBy R i s .state ≡ endOf R i s
   -- it ends Ok, or is refused by 7 or 8 with card c, exactly on the condition of that stop: Ok exactly when the queue

@@ -1,8 +1,10 @@
 -- The entry's tests, in their order (docs/RULES.md, E1 to E9). Definitions only.
 --   Inputs, inputs, withParameters   what a run is given besides the lists that it writes
 --   firstWhere p n i                 the first number that passes a test
---   checkParameters, listsOk, checkFirst   refusals 1, 6 and 5
---   checkedWith ok i s               all tests, in their order, with ok among those of refusal 4
+--   checkParameters, lengthsOk, listsOk, checkFirst   refusals 1, 6 and 5
+--   shortList g n m x                which list refusal 6 is about
+--   checkSettings ok lists w g n next   all tests before 5, with ok among those of refusal 4
+--   checkEntry ok i x, checkedWith ok i s   all tests, in their order, by the lists' lengths
 --   checked i s                      those of a run
 use Prim.Native.Nat.{ℕ, zero, suc, _+_}
 use mathlib.Core.Bool.{Bool, true, false, not, _&&_, _||_, cond}
@@ -19,6 +21,7 @@ use Rattle.simulation.specs.declared.Refusal.{Refusal}
 use Rattle.simulation.specs.declared.Refusal.the-variants as refusal
 use Rattle.simulation.specs.declared.Check.{Check}
 use Rattle.simulation.specs.declared.Check.the-variants as check
+use Rattle.simulation.specs.declared.Lengths.{Lengths}
 use Rattle.simulation.specs.State.{State, mostCards, mostDays}
 
 -- What a run is given besides the lists that it writes
@@ -67,20 +70,54 @@ checkParameters w next =
     failIf (ltb (length w) 34) (refusal.Parameters 34)
     (let i = firstWhere (notFinite w) 34 0 in failIf (ltb i 34) (refusal.Parameters i) next)
 
--- 6: lists that belong together are as long as each other, and written lists are long enough
-unfoldable pub listsOk : {C : Type 0} → Inputs → State C → Bool
-listsOk i s =
-    let deck = i .config .«deck_size» in
-    let span = i .config .«learn_span» in
-    eqb (length (i .existing)) (length (i .existing-counts))
-    && (eqb (length (s .table .keys)) (length (s .table .intervals))
-    && (eqb (length (s .cards)) (length (s .counts))
-    && (leb deck (length (s .cards))
-    && (leb deck (length (s .queue .rows))
-    && (leb span (length (s .days))
-    && (leb span (length (s .costs))
-    && (leb span (length (s .memorized))
-    && leb (dueDays span) (length (s .due)))))))))
+-- the lengths of the lists that a call writes
+abbrev pub lengthsOf : {C : Type 0} → State C → Lengths
+lengthsOf s = record {
+  cards = length (s .cards);
+  counts = length (s .counts);
+  rows = length (s .queue .rows);
+  days = length (s .days);
+  costs = length (s .costs);
+  memorized = length (s .memorized);
+  due = length (s .due);
+  keys = length (s .table .keys);
+  intervals = length (s .table .intervals);
+}
+
+-- 6: lists that belong together are as long as each other, and written lists are long enough; `n` and `m` are the
+-- lengths of the existing cards and of their counts
+unfoldable pub lengthsOk : SimulatorConfig → ℕ → ℕ → Lengths → Bool
+lengthsOk g n m x =
+    let deck = g .«deck_size» in
+    let span = g .«learn_span» in
+    eqb n m
+    && (eqb (x .keys) (x .intervals)
+    && (eqb (x .cards) (x .counts)
+    && (leb deck (x .cards)
+    && (leb deck (x .rows)
+    && (leb span (x .days)
+    && (leb span (x .costs)
+    && (leb span (x .memorized)
+    && leb (dueDays span) (x .due))))))))
+
+-- which list is the first that fails 6, by its number in the order of the tests; 0 where none does (`lists-told`,
+-- proofs/entry/Settings)
+unfoldable pub shortList : SimulatorConfig → ℕ → ℕ → Lengths → ℕ
+shortList g n m x =
+    let deck = g .«deck_size» in
+    let span = g .«learn_span» in
+    cond (not (eqb n m)) 1
+    (cond (not (eqb (x .keys) (x .intervals))) 2
+    (cond (not (eqb (x .cards) (x .counts))) 3
+    (cond (not (leb deck (x .cards))) 4
+    (cond (not (leb deck (x .rows))) 5
+    (cond (not (leb span (x .days))) 6
+    (cond (not (leb span (x .costs))) 7
+    (cond (not (leb span (x .memorized))) 8
+    (cond (not (leb (dueDays span) (x .due))) 9 0))))))))
+
+abbrev pub listsOk : {C : Type 0} → Inputs → State C → Bool
+listsOk i s = lengthsOk (i .config) (length (i .existing)) (length (i .existing-counts)) (lengthsOf s)
 
 -- 5: each kept one of the first n existing cards
 unfoldable pub checkFirst : List (List Float) → List (List ℕ) → ℕ → Check
@@ -88,16 +125,26 @@ checkFirst cards counts n =
     let i = firstWhere (notOk cards counts) n 0 in
     failIf (ltb i n) (refusal.ExistingCard i) check.Passed
 
--- all tests; `ok` is the test of what a run and a search each have of their own: a retention, rounds
-unfoldable pub checkedWith : {C : Type 0} → Bool → Inputs → State C → Check
-checkedWith ok i s =
-    checkParameters (i .parameters)
-    (failIf (eqb (i .config .«deck_size») 0 || ltb mostCards (i .config .«deck_size»)) refusal.DeckSize
-    (failIf (eqb (i .config .«learn_span») 0 || ltb mostDays (i .config .«learn_span»)) refusal.LearnSpan
-    (failIf (not (configOk (i .config) && ok)) refusal.Config
-    (failIf (not (listsOk i s)) refusal.Lists
-    (failIf (ltb (i .config .«deck_size») (length (i .existing))) refusal.TooManyCards
-    (checkFirst (i .existing) (i .existing-counts) (length (i .existing))))))))
+-- all tests before that of the cards, of which n exist, and then `next`; `ok` is the test of what a run and a search each
+-- have of their own: a retention, rounds; `lists` is that of refusal 6
+unfoldable pub checkSettings : Bool → Bool → List Float → SimulatorConfig → ℕ → Check → Check
+checkSettings ok lists w g n next =
+    checkParameters w
+    (failIf (eqb (g .«deck_size») 0 || ltb mostCards (g .«deck_size»)) refusal.DeckSize
+    (failIf (eqb (g .«learn_span») 0 || ltb mostDays (g .«learn_span»)) refusal.LearnSpan
+    (failIf (not (configOk g && ok)) refusal.Config
+    (failIf (not lists) refusal.Lists
+    (failIf (ltb (g .«deck_size») n) refusal.TooManyCards next)))))
+
+-- all tests
+abbrev pub checkEntry : Bool → Inputs → Lengths → Check
+checkEntry ok i x =
+    let n = length (i .existing) in
+    checkSettings ok (lengthsOk (i .config) n (length (i .existing-counts)) x) (i .parameters) (i .config) n
+    (checkFirst (i .existing) (i .existing-counts) n)
+
+abbrev pub checkedWith : {C : Type 0} → Bool → Inputs → State C → Check
+checkedWith ok i s = checkEntry ok i (lengthsOf s)
 
 -- of a run: its retention is finite
 abbrev pub checked : {C : Type 0} → Inputs → State C → Check

@@ -33,8 +33,8 @@ pub record Result (C : Type 0) : Type 0 where
   pub answer : Option Answer
   pub state : State C
 
-abbrev pub progress : ℕ → ℕ → ℕ → Progress
-progress turns cards draws = record { turns = turns; cards = cards; draws = draws }
+abbrev pub progress : ℕ → ℕ → ℕ → ℕ → Progress
+progress turns cards queued draws = record { turns = turns; cards = cards; queued = queued; draws = draws }
 
 abbrev pub answerOf : Stop → Progress → Answer
 answerOf stop.Ended p = answer.Finished p
@@ -62,14 +62,14 @@ module _ {C : Type 0} (R : Rules C) where
       let r = runFrom s in
       record {
         answer = answerIf (stopOf (next R) (bound s) s)
-            (progress (length (r .turns)) (s .queue .len) (r .state .draws));
+            (progress (length (r .turns)) (s .queue .len) (r .state .queue .len) (r .state .draws));
         state = r .state;
       }
 
   -- an entry refusal leaves the lists as they are
   abbrev pub afterCheck : Inputs → Check → State C → Result C
   afterCheck i check.Passed s = resultFrom (setUp (R .costs .none) i s)
-  afterCheck i (check.Failed r) s = record { answer = some (answer.Refused r (progress 0 0 (i .seed))); state = s }
+  afterCheck i (check.Failed r) s = record { answer = some (answer.Refused r (progress 0 0 0 (i .seed))); state = s }
 
   -- a run by any rules, from inputs and lent lists
   unfoldable pub simulatedBy : Inputs → State C → Result C

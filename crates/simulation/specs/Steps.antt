@@ -92,13 +92,15 @@ pub record CardWritten (c : ℕ) (k : Card) (len : ℕ) (cards : List (List Floa
 pub record RunTurns {C : Type 0} (R : Rules C) (s : State C) (n : ℕ) (r : RunEnd) (l : Lent C) : Type 0 where
   pub stop-is : (x : Stop) → stopOf (next R) n s ≡ some x → r .stop ≡ x
   pub turns : r .turns ≡ length ((run (next R) n [] s) .turns)
+  pub queued : r .queued ≡ (run (next R) n [] s) .state .queue .len
   pub draws : r .draws ≡ (run (next R) n [] s) .state .draws
   pub lists : l ≡ listsOf ((run (next R) n [] s) .state)
 
 -- and what a call that the entry accepts leaves, from the state as set up
 pub record InnerContract {C : Type 0} (R : Rules C) (s : State C) (r : Answer) (l : Lent C) : Type 0 where
   pub answer : (x : Stop) → stopOf (next R) (bound R s) s ≡ some x
-      → r ≡ answerOf x (progress (length ((runFrom R s) .turns)) (s .queue .len) ((runFrom R s) .state .draws))
+      → r ≡ answerOf x (progress (length ((runFrom R s) .turns)) (s .queue .len)
+      ((runFrom R s) .state .queue .len) ((runFrom R s) .state .draws))
   pub lists : l ≡ listsOf ((runFrom R s) .state)
 
 -- ---- set-up

@@ -1,10 +1,11 @@
 // The entry's tests, in the order of the refusals' table; they write nothing.
 use super::Check;
+use super::Lengths;
 use super::Refusal;
 use cards::Card;
 use cards::SimulatorConfig;
 ghost use mathlib.Core.Path.{_≡_};
-ghost use mathlib.Core.Bool.{not, _&&_};
+ghost use mathlib.Core.Bool.{not, cond, _&&_};
 ghost use Prim.Native.Nat.{_+_, _/_};
 ghost use mathlib.Core.List.{List};
 ghost use lib.ListN.{getD};
@@ -13,7 +14,7 @@ ghost use Rattle.float32.specs.Numbers.{0ᶠ};
 ghost use Rattle.cards.specs.Cards.{isKept, cardOk};
 ghost use Rattle.simulation.specs.State.{lent, state};
 ghost use Rattle.simulation.specs.declared.Check.the-variants as check;
-ghost use Rattle.simulation.specs.Entry.{inputs, firstWhere, notFinite, notOk, checkParameters, listsOk, checkFirst, checkedWith};
+ghost use Rattle.simulation.specs.Entry.{inputs, firstWhere, notFinite, notOk, failIf, checkParameters, lengthsOk, shortList, checkFirst, checkSettings, checkEntry};
 
 fn parameter(w: &[f32], i: u32) -> f32
     ensures { λ r. ⌜ r ≡ getD (now (w .entry)) i nan ⌝ }
@@ -36,17 +37,18 @@ fn first_not_finite(w: &[f32], n: u32) -> u32
     n
 }
 
-fn check_parameters(w: &[f32]) -> Check
-    ensures { λ r. ⌜ r ≡ checkParameters (now (w .entry)) check.Passed ⌝ }
+fn fail_if(test: bool, refusal: Refusal, next: Check) -> Check
+    ensures { λ r. ⌜ r ≡ failIf test refusal next ⌝ }
 {
-    if w.len() < 34 {
-        return Check::Failed(Refusal::Parameters(34));
-    }
+    if test { Check::Failed(refusal) } else { next }
+}
+
+fn check_parameters(w: &[f32], next: Check) -> Check
+    ensures { λ r. ⌜ r ≡ checkParameters (now (w .entry)) next ⌝ }
+{
     let i = first_not_finite(w, 34);
-    if i < 34 {
-        return Check::Failed(Refusal::Parameters(i));
-    }
-    Check::Passed
+    let finite = fail_if(i < 34, Refusal::Parameters(i), next);
+    fail_if(w.len() < 34, Refusal::Parameters(34), finite)
 }
 
 fn is_bad(card: Card) -> bool
@@ -78,10 +80,7 @@ fn check_cards(existing: &[[f32; 6]], existing_counts: &[[u32; 2]], n: u32) -> C
     ensures { λ r. ⌜ r ≡ checkFirst (now (existing .entry)) (now («existing_counts» .entry)) n ⌝ }
 {
     let i = first_not_ok(existing, existing_counts, n);
-    if i < n {
-        return Check::Failed(Refusal::ExistingCard(i));
-    }
-    Check::Passed
+    fail_if(i < n, Refusal::ExistingCard(i), Check::Passed)
 }
 
 fn due_days(span: u32) -> usize
@@ -90,116 +89,89 @@ fn due_days(span: u32) -> usize
     (span as usize) + (span / 2) as usize
 }
 
-fn lists_ok(
-    cards: &[[f32; 6]],
-    counts: &[[u32; 2]],
-    rows: &[[u64; 2]],
-    days: &[[u32; 4]],
-    costs: &[f32],
-    memorized: &[f32],
-    due: &[u32],
-    keys: &[[u32; 2]],
-    intervals: &[f32],
-    existing: &[[f32; 6]],
-    existing_counts: &[[u32; 2]],
+pub fn lists_ok(
     config: SimulatorConfig,
+    existing: usize,
+    existing_counts: usize,
+    x: Lengths,
 ) -> bool
-    ensures { λ r. ⌜ ((w : List Float) (retention : Float) →
-        r ≡ listsOk
-        (inputs config w retention 0 (now (existing .entry)) (now («existing_counts» .entry)))
-        (state (lent (now (cards .entry)) (now (counts .entry)) (now (rows .entry)) (now (days .entry)) (now (costs .entry)) (now (memorized .entry)) (now (due .entry)) (now (keys .entry)) (now (intervals .entry))) 0 0)) ⌝ }
+    ensures { λ r. ⌜ r ≡ lengthsOk config existing «existing_counts» x ⌝ }
 {
     let deck = config.deck_size as usize;
     let span = config.learn_span as usize;
-    if existing.len() != existing_counts.len() {
-        return false;
-    }
-    if keys.len() != intervals.len() {
-        return false;
-    }
-    if cards.len() != counts.len() {
-        return false;
-    }
-    if cards.len() < deck {
-        return false;
-    }
-    if rows.len() < deck {
-        return false;
-    }
-    if days.len() < span {
-        return false;
-    }
-    if costs.len() < span {
-        return false;
-    }
-    if memorized.len() < span {
-        return false;
-    }
-    due_days(config.learn_span) <= due.len()
+    let days_long = (span <= x.days)
+        & ((span <= x.costs) & ((span <= x.memorized) & (due_days(config.learn_span) <= x.due)));
+    let cards_long = (deck <= x.cards) & ((deck <= x.rows) & days_long);
+    (existing == existing_counts) & ((x.keys == x.intervals) & ((x.cards == x.counts) & cards_long))
 }
 
-// What a run and a search test alike; `setting_ok` is the test of what each has of its own.
+fn number_if(test: bool, number: u32, next: u32) -> u32
+    ensures { λ r. ⌜ r ≡ cond test number next ⌝ }
+{
+    if test { number } else { next }
+}
+
+// Which list refusal 6 is about, for callers who would know; 0 where it is about none.
+pub fn short_list(
+    config: SimulatorConfig,
+    existing: usize,
+    existing_counts: usize,
+    x: Lengths,
+) -> u32
+    ensures { λ r. ⌜ r ≡ shortList config existing «existing_counts» x ⌝ }
+{
+    let deck = config.deck_size as usize;
+    let span = config.learn_span as usize;
+    let due = number_if(!(due_days(config.learn_span) <= x.due), 9, 0);
+    let memorized = number_if(!(span <= x.memorized), 8, due);
+    let costs = number_if(!(span <= x.costs), 7, memorized);
+    let days = number_if(!(span <= x.days), 6, costs);
+    let rows = number_if(!(deck <= x.rows), 5, days);
+    let cards = number_if(!(deck <= x.cards), 4, rows);
+    let counts = number_if(!(x.cards == x.counts), 3, cards);
+    let intervals = number_if(!(x.keys == x.intervals), 2, counts);
+    number_if(!(existing == existing_counts), 1, intervals)
+}
+
+// The tests before that of the cards, of n existing ones; `setting_ok` is the test of what a run and a search each have of their own,
+// `lists_ok` that of the lists' lengths.
+pub fn check_settings(
+    parameters: &[f32],
+    config: SimulatorConfig,
+    setting_ok: bool,
+    lists_ok: bool,
+    n: usize,
+) -> Check
+    ensures { λ r. ⌜ r ≡ checkSettings «setting_ok» «lists_ok» (now (parameters .entry)) config n check.Passed ⌝ }
+{
+    let deck = config.deck_size;
+    let span = config.learn_span;
+    let config_ok = cards::config_ok(config) & setting_ok;
+    let few = fail_if((deck as usize) < n, Refusal::TooManyCards, Check::Passed);
+    let lists = fail_if(!lists_ok, Refusal::Lists, few);
+    let settings = fail_if(!config_ok, Refusal::Config, lists);
+    let days = fail_if((span == 0) | (36500 < span), Refusal::LearnSpan, settings);
+    let cards = fail_if((deck == 0) | (65536 < deck), Refusal::DeckSize, days);
+    check_parameters(parameters, cards)
+}
+
+// What a run and a search test alike.
 pub fn check_entry(
-    cards: &[[f32; 6]],
-    counts: &[[u32; 2]],
-    rows: &[[u64; 2]],
-    days: &[[u32; 4]],
-    costs: &[f32],
-    memorized: &[f32],
-    due: &[u32],
-    keys: &[[u32; 2]],
-    intervals: &[f32],
+    lengths: Lengths,
     parameters: &[f32],
     existing: &[[f32; 6]],
     existing_counts: &[[u32; 2]],
     config: SimulatorConfig,
     setting_ok: bool,
 ) -> Check
-    ensures { λ r. ⌜ r ≡ checkedWith «setting_ok»
-        (inputs config (now (parameters .entry)) 0ᶠ 0 (now (existing .entry)) (now («existing_counts» .entry)))
-        (state (lent (now (cards .entry)) (now (counts .entry)) (now (rows .entry)) (now (days .entry)) (now (costs .entry)) (now (memorized .entry)) (now (due .entry)) (now (keys .entry)) (now (intervals .entry))) 0 0) ⌝ }
+    ensures { λ r. ⌜ r ≡ checkEntry «setting_ok»
+        (inputs config (now (parameters .entry)) 0ᶠ 0 (now (existing .entry)) (now («existing_counts» .entry))) lengths ⌝ }
 {
-    let first = check_parameters(parameters);
+    let n = existing.len();
+    let long = lists_ok(config, n, existing_counts.len(), lengths);
+    let first = check_settings(parameters, config, setting_ok, long, n);
     let Check::Passed = first else {
         return first;
     };
-    if config.deck_size == 0 {
-        return Check::Failed(Refusal::DeckSize);
-    }
-    if config.deck_size > 65536 {
-        return Check::Failed(Refusal::DeckSize);
-    }
-    if config.learn_span == 0 {
-        return Check::Failed(Refusal::LearnSpan);
-    }
-    if config.learn_span > 36500 {
-        return Check::Failed(Refusal::LearnSpan);
-    }
-    if !cards::config_ok(config) {
-        return Check::Failed(Refusal::Config);
-    }
-    if !setting_ok {
-        return Check::Failed(Refusal::Config);
-    }
-    if !lists_ok(
-        cards,
-        counts,
-        rows,
-        days,
-        costs,
-        memorized,
-        due,
-        keys,
-        intervals,
-        existing,
-        existing_counts,
-        config,
-    ) {
-        return Check::Failed(Refusal::Lists);
-    }
-    let n = existing.len();
-    if n > (config.deck_size as usize) {
-        return Check::Failed(Refusal::TooManyCards);
-    }
     check_cards(existing, existing_counts, n as u32)
 }

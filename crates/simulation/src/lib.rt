@@ -11,6 +11,9 @@ mod set_up;
 mod turn;
 
 pub use entry::check_entry;
+pub use entry::check_settings;
+pub use entry::lists_ok;
+pub use entry::short_list;
 
 // Why a call is turned away; `refusals::number_of` and `second_of` give the numbers of each.
 pub enum Refusal {
@@ -33,10 +36,25 @@ pub enum Check {
     Failed(Refusal),
 }
 
-// How far a run came: the turns taken, refused ones left out, the run's cards, and the state of the draws.
+// The lengths of the lists that a call writes: refusal 6 looks at no more of them.
+pub struct Lengths {
+    pub cards: usize,
+    pub counts: usize,
+    pub rows: usize,
+    pub days: usize,
+    pub costs: usize,
+    pub memorized: usize,
+    pub due: usize,
+    pub keys: usize,
+    pub intervals: usize,
+}
+
+// How far a run came: the turns taken, refused ones left out, the run's cards, how many of them are still queued, and the state of
+// the draws.
 pub struct Progress {
     pub turns: u32,
     pub cards: u32,
+    pub queued: u32,
     pub draws: u64,
 }
 
@@ -61,6 +79,7 @@ pub enum Outcome {
 pub struct RunEnd {
     pub stop: Stop,
     pub turns: u32,
+    pub queued: u32,
     pub draws: u64,
 }
 
@@ -89,16 +108,19 @@ pub fn simulate(
         RunContract i s r
         (lent (now (cards .exit)) (now (counts .exit)) (now (rows .exit)) (now (days .exit)) (now (costs .exit)) (now (memorized .exit)) (now (due .exit)) (now (keys .exit)) (now (intervals .exit)))) ⌝ }
 {
+    let lengths = Lengths {
+        cards: cards.len(),
+        counts: counts.len(),
+        rows: rows.len(),
+        days: days.len(),
+        costs: costs.len(),
+        memorized: memorized.len(),
+        due: due.len(),
+        keys: keys.len(),
+        intervals: intervals.len(),
+    };
     let entry = entry::check_entry(
-        cards,
-        counts,
-        rows,
-        days,
-        costs,
-        memorized,
-        due,
-        keys,
-        intervals,
+        lengths,
         parameters,
         existing,
         existing_counts,
@@ -111,6 +133,7 @@ pub fn simulate(
             Progress {
                 turns: 0,
                 cards: 0,
+                queued: 0,
                 draws: seed,
             },
         ),

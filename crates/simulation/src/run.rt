@@ -74,6 +74,7 @@ fn run_turns(
             return RunEnd {
                 stop: stop_in(o),
                 turns,
+                queued: n,
                 draws,
             };
         };
@@ -84,6 +85,7 @@ fn run_turns(
     RunEnd {
         stop: Stop::Ended,
         turns,
+        queued: n,
         draws,
     }
 }
@@ -96,11 +98,12 @@ fn bound_of(len: u32, span: u32) -> u32
 }
 
 fn answer_of(r: RunEnd, cards: u32) -> Answer
-    ensures { λ x. ⌜ x ≡ answerOf (r .stop) (progress (r .turns) cards (r .draws)) ⌝ }
+    ensures { λ x. ⌜ x ≡ answerOf (r .stop) (progress (r .turns) cards (r .queued) (r .draws)) ⌝ }
 {
     let progress = Progress {
         turns: r.turns,
         cards,
+        queued: r.queued,
         draws: r.draws,
     };
     let stop = r.stop;

@@ -5,6 +5,52 @@ use crate::lists::held;
 use crate::result::Result;
 use oracle::case::Case;
 
+/// `struct drill_config`.
+#[repr(C)]
+struct Config {
+    deck_size: u32,
+    learn_span: u32,
+    max_cost_perday: f32,
+    max_ivl: f32,
+    first_rating_prob: [f32; 4],
+    review_rating_prob: [f32; 3],
+    learn_limit: u32,
+    review_limit: u32,
+    new_cards_ignore_review_limit: bool,
+    suspend_after_lapses: u32,
+    learning_step_transitions: [f32; 12],
+    relearning_step_transitions: [f32; 12],
+    state_rating_costs: [f32; 12],
+    learning_step_count: u32,
+    relearning_step_count: u32,
+}
+
+/// `struct drill_answer`.
+#[repr(C)]
+struct RunNumbers {
+    refusal: u32,
+    second: u32,
+    list: u32,
+    turns: u32,
+    cards: u32,
+    queued: u32,
+    draws: u64,
+}
+
+/// `struct drill_found`.
+#[repr(C)]
+struct SearchNumbers {
+    refusal: u32,
+    second: u32,
+    list: u32,
+    rounds: u32,
+    retention: f32,
+    mean: f32,
+}
+
+/// A run's answer: number, second number, turns, cards, draws, how many cards are queued, and the list that refusal 6 is about.
+pub type Answer = [u64; 7];
+
 unsafe extern "C" {
     fn drill_simulate(
         parameters: *const f32,
@@ -13,14 +59,7 @@ unsafe extern "C" {
         existing_len: usize,
         existing_counts: *const [u32; 2],
         existing_counts_len: usize,
-        numbers: &[u32; 8],
-        max_cost_perday: f32,
-        max_ivl: f32,
-        first_rating_prob: &[f32; 4],
-        review_rating_prob: &[f32; 3],
-        learning_step_transitions: &[f32; 12],
-        relearning_step_transitions: &[f32; 12],
-        state_rating_costs: &[f32; 12],
+        config: Config,
         desired_retention: f32,
         seed: u64,
         cards: *mut [f32; 6],
@@ -41,8 +80,7 @@ unsafe extern "C" {
         keys_len: usize,
         intervals: *mut f32,
         intervals_len: usize,
-        answer: &mut [u64; 5],
-    );
+    ) -> RunNumbers;
     fn drill_optimal_retention(
         parameters: *const f32,
         parameters_len: usize,
@@ -50,14 +88,7 @@ unsafe extern "C" {
         existing_len: usize,
         existing_counts: *const [u32; 2],
         existing_counts_len: usize,
-        numbers: &[u32; 8],
-        max_cost_perday: f32,
-        max_ivl: f32,
-        first_rating_prob: &[f32; 4],
-        review_rating_prob: &[f32; 3],
-        learning_step_transitions: &[f32; 12],
-        relearning_step_transitions: &[f32; 12],
-        state_rating_costs: &[f32; 12],
+        config: Config,
         rounds: u32,
         cards: *mut [f32; 6],
         cards_len: usize,
@@ -77,9 +108,7 @@ unsafe extern "C" {
         keys_len: usize,
         intervals: *mut f32,
         intervals_len: usize,
-        answer: &mut [u32; 3],
-        found: &mut [f32; 2],
-    );
+    ) -> SearchNumbers;
 }
 
 pub const MARK: u32 = 0x4ABC_DEF1;
@@ -235,7 +264,28 @@ impl Call {
         (floats, counts)
     }
 
-    /// The configuration's whole numbers, in the order of the C function.
+    fn config(&self) -> Config {
+        let c = &self.case;
+        Config {
+            deck_size: c.deck_size,
+            learn_span: c.learn_span,
+            max_cost_perday: c.max_cost_perday,
+            max_ivl: c.max_ivl,
+            first_rating_prob: c.first_rating_prob,
+            review_rating_prob: c.review_rating_prob,
+            learn_limit: c.learn_limit,
+            review_limit: c.review_limit,
+            new_cards_ignore_review_limit: c.new_cards_ignore_review_limit,
+            suspend_after_lapses: c.suspend_after_lapses,
+            learning_step_transitions: c.learning_step_transitions,
+            relearning_step_transitions: c.relearning_step_transitions,
+            state_rating_costs: c.state_rating_costs,
+            learning_step_count: c.learning_step_count,
+            relearning_step_count: c.relearning_step_count,
+        }
+    }
+
+    /// The configuration's whole numbers, as a stored run tells them.
     pub fn numbers(&self) -> [u32; 8] {
         let c = &self.case;
         [
@@ -283,12 +333,11 @@ impl Lists {
         }
     }
 
-    /// The port's run: number, second number, turns, cards, draws.
-    pub fn simulate(&mut self, call: &Call) -> [u64; 5] {
+    /// The port's run.
+    pub fn simulate(&mut self, call: &Call) -> Answer {
         let c = &call.case;
         let (floats, counts) = call.existing();
-        let mut answer = [u64::MAX; 5];
-        unsafe {
+        let x = unsafe {
             drill_simulate(
                 c.parameters.as_ptr(),
                 c.parameters.len(),
@@ -296,14 +345,7 @@ impl Lists {
                 floats.len(),
                 counts.as_ptr(),
                 counts.len(),
-                &call.numbers(),
-                c.max_cost_perday,
-                c.max_ivl,
-                &c.first_rating_prob,
-                &c.review_rating_prob,
-                &c.learning_step_transitions,
-                &c.relearning_step_transitions,
-                &c.state_rating_costs,
+                call.config(),
                 c.desired_retention,
                 c.seed,
                 self.cards.places_mut().as_mut_ptr(),
@@ -324,18 +366,16 @@ impl Lists {
                 self.keys.places().len(),
                 self.intervals.places_mut().as_mut_ptr(),
                 self.intervals.places().len(),
-                &mut answer,
-            );
-        }
-        answer
+            )
+        };
+        [x.refusal.into(), x.second.into(), x.turns.into(), x.cards.into(), x.draws, x.queued.into(), x.list.into()]
     }
 
-    /// The port's search: number, second number, rounds; the retention found and its mean.
-    pub fn search(&mut self, call: &Call, rounds: u32) -> ([u32; 3], [f32; 2]) {
+    /// The port's search: number, second number, rounds, and the list of refusal 6; the retention found and its mean.
+    pub fn search(&mut self, call: &Call, rounds: u32) -> ([u32; 4], [f32; 2]) {
         let c = &call.case;
         let (floats, counts) = call.existing();
-        let (mut answer, mut found) = ([u32::MAX; 3], [f32::NAN; 2]);
-        unsafe {
+        let x = unsafe {
             drill_optimal_retention(
                 c.parameters.as_ptr(),
                 c.parameters.len(),
@@ -343,14 +383,7 @@ impl Lists {
                 floats.len(),
                 counts.as_ptr(),
                 counts.len(),
-                &call.numbers(),
-                c.max_cost_perday,
-                c.max_ivl,
-                &c.first_rating_prob,
-                &c.review_rating_prob,
-                &c.learning_step_transitions,
-                &c.relearning_step_transitions,
-                &c.state_rating_costs,
+                call.config(),
                 rounds,
                 self.cards.places_mut().as_mut_ptr(),
                 self.cards.places().len(),
@@ -370,11 +403,9 @@ impl Lists {
                 self.keys.places().len(),
                 self.intervals.places_mut().as_mut_ptr(),
                 self.intervals.places().len(),
-                &mut answer,
-                &mut found,
-            );
-        }
-        (answer, found)
+            )
+        };
+        ([x.refusal, x.second, x.rounds, x.list], [x.retention, x.mean])
     }
 
     /// Whether every place but those that a run of so many cards and days may write is as it was lent; of the interval table
@@ -392,12 +423,13 @@ impl Lists {
             && self.intervals.marked_but(places)
     }
 
-    /// What the port's run left; of the queue, whose length no answer tells, the first `queued` places.
-    pub fn result(&self, call: &Call, answer: [u64; 5], queued: usize) -> Result {
-        let [number, second, turns, cards, draws] = answer;
+    /// What the port's run left.
+    pub fn result(&self, call: &Call, answer: Answer) -> Result {
+        let [number, second, turns, cards, draws, queued, list] = answer;
         if (1..=6).contains(&number) {
             let spared = self.spared(call, 0, 0, 0);
-            return Result { turns, cards: cards as u32, spared, ..Result::refused(draws, number as u32, second as u32) };
+            let (cards, queued, list) = (cards as u32, queued as u32, list as u32);
+            return Result { turns, cards, queued, list, spared, ..Result::refused(draws, number as u32, second as u32) };
         }
         let (deck, span) = (cards as usize, call.case.learn_span as usize);
         Result {
@@ -405,10 +437,12 @@ impl Lists {
             second: second as u32,
             turns,
             cards: cards as u32,
+            queued: queued as u32,
+            list: list as u32,
             draws,
             floats: self.cards.first(deck).iter().map(|row| row.map(bits)).collect(),
             counts: self.counts.first(deck).to_vec(),
-            queue: self.queue.first(queued.min(deck)).to_vec(),
+            queue: self.queue.first(deck.min(queued as usize)).to_vec(),
             days: self.days.first(span).to_vec(),
             costs: self.costs.first(span).iter().map(|x| bits(*x)).collect(),
             memorized: self.memorized.first(span).iter().map(|x| bits(*x)).collect(),

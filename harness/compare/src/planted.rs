@@ -3,7 +3,7 @@
 //! another call, or changes what it left.
 use crate::edges;
 use crate::leaf;
-use crate::lent::{Call, Lengths, Lists, MARK};
+use crate::lent::{Answer, Call, Lengths, Lists, MARK};
 use crate::reference;
 use crate::rules::faults;
 use crate::runs::{Port, port, varied};
@@ -12,15 +12,15 @@ use crate::stored_runs;
 use oracle::drawn::{self, OWN, PORTS, Rule};
 use oracle::native;
 
-pub type Wrong = Box<dyn Fn(&Call, &mut Lists) -> [u64; 5]>;
+pub type Wrong = Box<dyn Fn(&Call, &mut Lists) -> Answer>;
 pub type Named = (String, Wrong);
 
-fn named(name: &str, wrong: impl Fn(&Call, &mut Lists) -> [u64; 5] + 'static) -> Named {
+fn named(name: &str, wrong: impl Fn(&Call, &mut Lists) -> Answer + 'static) -> Named {
     (name.to_string(), Box::new(wrong))
 }
 
 /// Right, but for what is changed afterwards in a run that was not turned away at the entry.
-fn after(name: &str, change: impl Fn(&Call, &mut Lists, &mut [u64; 5]) + 'static) -> Named {
+fn after(name: &str, change: impl Fn(&Call, &mut Lists, &mut Answer) + 'static) -> Named {
     named(name, move |call, lists| {
         let mut answer = port(call, lists);
         if !(1..=6).contains(&answer[0]) {
@@ -45,7 +45,7 @@ fn refuses(name: &str, number: u64, test: impl Fn(&Call) -> bool + 'static) -> N
     named(
         name,
         move |call, lists| {
-            if faults(call).is_empty() && test(call) { [number, 0, 0, 0, call.case.seed] } else { port(call, lists) }
+            if faults(call).is_empty() && test(call) { [number, 0, 0, 0, call.case.seed, 0, 0] } else { port(call, lists) }
         },
     )
 }
@@ -97,6 +97,17 @@ fn beyond() -> Vec<Named> {
         after("a card's place beyond the run's cards", |_, lists, answer| {
             lists.cards.places_mut().iter_mut().skip(answer[3] as usize).for_each(|row| row[0] = 0.0)
         }),
+        after("how many cards are queued", |_, _, answer| answer[5] ^= 1),
+        named("the list of refusal 6", |call, lists| {
+            let mut answer = port(call, lists);
+            answer[6] += u64::from(answer[0] == 6);
+            answer
+        }),
+        named("a list told with another refusal", |call, lists| {
+            let mut answer = port(call, lists);
+            answer[6] |= u64::from(answer[0] == 2);
+            answer
+        }),
     ]
 }
 
@@ -120,7 +131,7 @@ fn writes_at_refusal() -> Vec<Named> {
 
 /// Sizes, lengths and ways of making a call that are reached.
 fn reached() -> Vec<Named> {
-    let last_card = |lists: &mut Lists, answer: &[u64; 5]| {
+    let last_card = |lists: &mut Lists, answer: &Answer| {
         if answer[3] > 0 {
             flip(&mut lists.cards.places_mut()[answer[3] as usize - 1][1])
         }
@@ -339,7 +350,7 @@ pub fn seen_in_stored(port: Port, stored: &[Stored]) -> bool {
     stored.iter().any(|(call, text)| {
         let mut lists = Lists::of(call);
         let answer = port(call, &mut lists);
-        *text != stored_runs::text(call, &lists.result(call, answer, 0))
+        *text != stored_runs::text(call, &lists.result(call, answer))
     })
 }
 

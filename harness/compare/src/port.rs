@@ -1,4 +1,31 @@
 //! The C functions of include/street_drill.h on numbers and on the queue and the interval table; the run is in lent.rs.
+
+/// `struct drill_brent`.
+#[repr(C)]
+#[derive(Clone, Copy)]
+pub struct Brent {
+    pub a: f32,
+    pub b: f32,
+    pub x: f32,
+    pub v: f32,
+    pub w: f32,
+    pub fx: f32,
+    pub fv: f32,
+    pub fw: f32,
+    pub deltax: f32,
+    pub rat: f32,
+    pub done: u32,
+}
+
+/// `struct drill_search`.
+#[repr(C)]
+#[derive(Clone, Copy)]
+pub struct Search {
+    pub begun: bool,
+    pub rounds: u32,
+    pub state: Brent,
+}
+
 unsafe extern "C" {
     pub safe fn drill_exp(x: f32) -> f32;
     pub safe fn drill_ln(x: f32) -> f32;
@@ -20,7 +47,7 @@ unsafe extern "C" {
     pub safe fn drill_stability_bucket(stability: f32) -> u32;
     pub safe fn drill_retention_bucket(retention: f32) -> u32;
     pub safe fn drill_card_priority(day: u32, new: bool, difficulty: f32) -> u64;
-    fn drill_rating(weights: *const f32, len: usize, word: u32) -> usize;
+    fn drill_weighted_index(weights: *const f32, len: usize, word: u32) -> usize;
     fn drill_init_stability(w: *const f32, len: usize, rating: u32) -> f32;
     fn drill_init_difficulty(w: *const f32, len: usize, rating: u32) -> f32;
     fn drill_next_difficulty(w: *const f32, len: usize, d: f32, rating: u32, retention: f32) -> f32;
@@ -54,10 +81,10 @@ unsafe extern "C" {
     pub safe fn drill_sample_size(span: u32) -> u32;
     fn drill_target(span: u32, costs: *const f32, costs_len: usize, memorized: *const f32, memorized_len: usize) -> f32;
     fn drill_mean(targets: *const f32, targets_len: usize, n: u32) -> f32;
-    pub safe fn drill_search_start(rounds: u32, floats: &mut [f32; 10], counts: &mut [u32; 3]);
-    pub safe fn drill_search_next(floats: &[f32; 10], counts: &[u32; 3]) -> f32;
-    pub safe fn drill_search_take(mean: f32, floats: &mut [f32; 10], counts: &mut [u32; 3]);
-    pub safe fn drill_search_answer(floats: &[f32; 10], counts: &[u32; 3]) -> u32;
+    pub safe fn drill_search_start(rounds: u32) -> Search;
+    pub safe fn drill_search_next(s: Search) -> f32;
+    pub safe fn drill_search_take(s: Search, mean: f32) -> Search;
+    pub safe fn drill_search_answer(s: Search) -> u32;
 }
 
 pub fn target(span: u32, costs: &[f32], memorized: &[f32]) -> f32 {
@@ -69,7 +96,7 @@ pub fn mean(targets: &[f32]) -> f32 {
 }
 
 pub fn rating(weights: &[f32], word: u32) -> usize {
-    unsafe { drill_rating(weights.as_ptr(), weights.len(), word) }
+    unsafe { drill_weighted_index(weights.as_ptr(), weights.len(), word) }
 }
 
 pub fn init_stability(w: &[f32], rating: u32) -> f32 {

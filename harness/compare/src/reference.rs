@@ -10,7 +10,7 @@ use oracle::trace::{self, Trace};
 /// Of a longer list of parameters the Rust is given the first 34.
 pub fn result(call: &Call) -> Result {
     if let Some(&(number, second)) = faults(call).first() {
-        return Result::refused(call.case.seed, number, second);
+        return Result::refused_at_entry(call, number, second);
     }
     let mut c = call.case.clone();
     c.parameters.truncate(34);

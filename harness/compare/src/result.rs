@@ -1,6 +1,8 @@
 //! What a run leaves: the definitions' `Result`, floats by their bits.
 use crate::floats::bits;
+use crate::lent::Call;
 use crate::lists::{entries, keyed};
+use crate::rules::short_list;
 use oracle::trace::Trace;
 
 /// `number` 0 is Ok. The lists are those places that the run may write; `spared` says that every other place, the guard
@@ -11,6 +13,10 @@ pub struct Result {
     pub second: u32,
     pub turns: u64,
     pub cards: u32,
+    /// How many cards are still queued.
+    pub queued: u32,
+    /// The list that refusal 6 is about.
+    pub list: u32,
     pub draws: u64,
     pub floats: Vec<[u64; 6]>,
     pub counts: Vec<[u32; 2]>,
@@ -31,6 +37,8 @@ impl Result {
             second,
             turns: 0,
             cards: 0,
+            queued: 0,
+            list: 0,
             draws: seed,
             floats: vec![],
             counts: vec![],
@@ -44,6 +52,12 @@ impl Result {
         }
     }
 
+    /// What a call that the entry turns away leaves, by the rules.
+    pub fn refused_at_entry(call: &Call, number: u32, second: u32) -> Result {
+        let list = if number == 6 { short_list(call) } else { 0 };
+        Result { list, ..Result::refused(call.case.seed, number, second) }
+    }
+
     /// What a run of the Rust came to.
     pub fn of(t: &Trace, turns: u64, number: u32, second: u32) -> Result {
         Result {
@@ -51,6 +65,8 @@ impl Result {
             second,
             turns,
             cards: t.cards.len() as u32,
+            queued: t.queue.len() as u32,
+            list: 0,
             draws: t.draws,
             floats: t.cards.iter().map(|c| c.0.map(bits)).collect(),
             counts: t.cards.iter().map(|c| c.1).collect(),
@@ -80,6 +96,8 @@ impl Result {
             ("second number", self.second == other.second),
             ("turns", self.turns == other.turns),
             ("number of cards", self.cards == other.cards),
+            ("cards queued", self.queued == other.queued),
+            ("list of refusal 6", self.list == other.list),
             ("draws", self.draws == other.draws),
             ("cards", self.floats == other.floats),
             ("reps and lapses", self.counts == other.counts),

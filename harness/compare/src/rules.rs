@@ -27,15 +27,26 @@ fn card_taken(row: [f32; 6], counts: [u32; 2]) -> bool {
     stability.is_finite() && retention.is_finite() && dated(due) && history && counts[1] <= 4_000_000_000
 }
 
-fn lists_taken(call: &Call) -> bool {
+/// The first list that is too short, or not as long as the one beside it, by its number in the header; 0 where none is.
+pub fn short_list(call: &Call) -> u32 {
     let n = &call.lengths;
     let (deck, span) = (call.case.deck_size as usize, call.case.learn_span as usize);
-    n.existing == n.existing_counts
-        && n.keys == n.intervals
-        && n.cards == n.counts
-        && [n.cards, n.queue].iter().all(|&len| len >= deck)
-        && n.of_days().iter().all(|&len| len >= span)
-        && n.due >= span + span / 2
+    let long = [
+        n.existing == n.existing_counts,
+        n.keys == n.intervals,
+        n.cards == n.counts,
+        n.cards >= deck,
+        n.queue >= deck,
+        n.days >= span,
+        n.costs >= span,
+        n.memorized >= span,
+        n.due >= span + span / 2,
+    ];
+    long.iter().position(|ok| !ok).map_or(0, |i| i as u32 + 1)
+}
+
+fn lists_taken(call: &Call) -> bool {
+    short_list(call) == 0
 }
 
 fn first_bad_parameter(c: &Case) -> Option<(u32, u32)> {

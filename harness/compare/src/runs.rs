@@ -3,16 +3,16 @@
 //! with the Rust drawing by the harness's own rule, the others with the Rust drawing by the port's functions.
 use crate::calls::{following, generated, smaller};
 use crate::generate::Words;
-use crate::lent::{Call, Lists};
+use crate::lent::{Answer, Call, Lists};
 use crate::reference;
 use crate::result::Result;
 use oracle::drawn::{self, OWN, PORTS, Rule};
 use std::collections::BTreeMap;
 
-/// A port's run: the lists are written, and the answer's five numbers returned.
-pub type Port<'a> = &'a dyn Fn(&Call, &mut Lists) -> [u64; 5];
+/// A port's run: the lists are written, and the answer's numbers returned.
+pub type Port<'a> = &'a dyn Fn(&Call, &mut Lists) -> Answer;
 
-pub fn port(call: &Call, lists: &mut Lists) -> [u64; 5] {
+pub fn port(call: &Call, lists: &mut Lists) -> Answer {
     lists.simulate(call)
 }
 
@@ -28,7 +28,7 @@ pub fn compare(port: Port, call: &Call) -> std::result::Result<Result, Box<Diffe
     let theirs = reference::result(call);
     let mut lists = Lists::of(call);
     let answer = port(call, &mut lists);
-    let ours = lists.result(call, answer, theirs.queue.len());
+    let ours = lists.result(call, answer);
     if ours == theirs { Ok(theirs) } else { Err(Box::new(Difference { call: call.clone(), ours, theirs })) }
 }
 

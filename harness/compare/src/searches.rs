@@ -9,17 +9,18 @@ use crate::lent::{Call, Lists};
 use crate::port;
 use crate::reference;
 use crate::result::Result;
-use crate::rules::search_faults;
+use crate::rules::{search_faults, short_list};
 use crate::spoils::pairs;
 use oracle::ours::simulation::probe;
 use oracle::trace;
 use std::time::Instant;
 
-/// What a search says: number, second number, rounds done, the retention found and its mean.
+/// What a search says: number, second number, the list of refusal 6, rounds done, the retention found and its mean.
 #[derive(Clone, Debug, PartialEq)]
 pub struct Said {
     pub number: u32,
     pub second: u32,
+    pub list: u32,
     pub rounds: u32,
     pub retention: u64,
     pub mean: u64,
@@ -27,11 +28,11 @@ pub struct Said {
 
 impl Said {
     fn found(retention: f32, mean: f32, rounds: u32) -> Said {
-        Said { number: 0, second: 0, rounds, retention: bits(retention), mean: bits(mean) }
+        Said { number: 0, second: 0, list: 0, rounds, retention: bits(retention), mean: bits(mean) }
     }
 
     fn refused(number: u32, second: u32) -> Said {
-        Said { number, second, rounds: 0, retention: 0, mean: 0 }
+        Said { number, second, list: 0, rounds: 0, retention: 0, mean: 0 }
     }
 }
 
@@ -57,7 +58,8 @@ fn last_call(call: &Call) -> Call {
 /// What the Rust says, and its last run's call.
 fn reference(call: &Call, rounds: u32) -> (Searched, Option<Call>) {
     if let Some(&(number, second)) = search_faults(call, rounds).first() {
-        return (Searched { said: Said::refused(number, second), trials: vec![], last: None }, None);
+        let list = if number == 6 { short_list(call) } else { 0 };
+        return (Searched { said: Said { list, ..Said::refused(number, second) }, trials: vec![], last: None }, None);
     }
     let mut c = call.case.clone();
     c.parameters.truncate(34);
@@ -84,9 +86,9 @@ pub fn said(call: &Call, rounds: u32) -> Said {
 }
 
 /// A port's whole search: the lists are written, and the answer's numbers and floats returned.
-type Port<'a> = &'a dyn Fn(&Call, u32, &mut Lists) -> ([u32; 3], [f32; 2]);
+type Port<'a> = &'a dyn Fn(&Call, u32, &mut Lists) -> ([u32; 4], [f32; 2]);
 
-fn port_itself(call: &Call, rounds: u32, lists: &mut Lists) -> ([u32; 3], [f32; 2]) {
+fn port_itself(call: &Call, rounds: u32, lists: &mut Lists) -> ([u32; 4], [f32; 2]) {
     lists.search(call, rounds)
 }
 
@@ -94,11 +96,13 @@ fn port_itself(call: &Call, rounds: u32, lists: &mut Lists) -> ([u32; 3], [f32; 
 /// are the Rust's.
 fn whole(port: Port, call: &Call, rounds: u32, theirs: &Searched, last: Option<&Call>) -> (Said, Option<Result>) {
     let mut lists = Lists::of(call);
-    let ([number, second, done], [retention, mean]) = port(call, rounds, &mut lists);
-    let said = if number == 0 { Said::found(retention, mean, done) } else { Said::refused(number, second) };
+    let ([number, second, done, list], [retention, mean]) = port(call, rounds, &mut lists);
+    let said = if number == 0 { Said::found(retention, mean, done) } else { Said { list, ..Said::refused(number, second) } };
     let left = match (last, &theirs.last) {
-        (Some(last), Some(r)) => lists.result(last, [r.number as u64, r.second as u64, r.turns, r.cards as u64, r.draws], r.queue.len()),
-        _ => lists.result(call, [number as u64, second as u64, 0, 0, call.case.seed], 0),
+        (Some(last), Some(r)) => {
+            lists.result(last, [r.number.into(), r.second.into(), r.turns, r.cards.into(), r.draws, r.queued.into(), r.list.into()])
+        }
+        _ => lists.result(call, [number.into(), second.into(), 0, 0, call.case.seed, 0, list.into()]),
     };
     (said, Some(left))
 }
@@ -132,11 +136,10 @@ fn trial(call: &Call, retention: f32, threads: usize) -> std::result::Result<Vec
 
 /// The search by the stepper, on so many threads.
 fn stepped(call: &Call, rounds: u32, threads: usize) -> (Said, Trials) {
-    let (mut floats, mut counts) = ([0.0; 10], [0; 3]);
+    let mut search = port::drill_search_start(rounds);
     let mut trials = vec![];
-    port::drill_search_start(rounds, &mut floats, &mut counts);
     loop {
-        let u = port::drill_search_next(&floats, &counts);
+        let u = port::drill_search_next(search);
         if u.is_nan() {
             break;
         }
@@ -145,13 +148,13 @@ fn stepped(call: &Call, rounds: u32, threads: usize) -> (Said, Trials) {
             Ok(targets) => {
                 let mean = port::mean(&targets);
                 trials.push((bits(u), bits(mean)));
-                port::drill_search_take(mean, &mut floats, &mut counts);
+                search = port::drill_search_take(search, mean);
             }
         }
     }
-    let said = match port::drill_search_answer(&floats, &counts) {
-        0 => Said::found(floats[2], floats[5], counts[0]),
-        number => Said::refused(number, counts[0]),
+    let said = match port::drill_search_answer(search) {
+        0 => Said::found(search.state.x, search.state.fx, search.state.done),
+        number => Said::refused(number, search.state.done),
     };
     (said, trials)
 }
@@ -177,7 +180,7 @@ fn cores() -> usize {
 fn compare(port: Port, call: &Call, rounds: u32) -> std::result::Result<Searched, String> {
     let (theirs, last) = reference(call, rounds);
     let (said, left) = whole(port, call, rounds, &theirs, last.as_ref());
-    let expected = theirs.last.clone().unwrap_or_else(|| Result::refused(call.case.seed, theirs.said.number, theirs.said.second));
+    let expected = theirs.last.clone().unwrap_or_else(|| Result::refused_at_entry(call, theirs.said.number, theirs.said.second));
     if said != theirs.said {
         return Err(format!("port {said:?}, reference {:?}", theirs.said));
     }
@@ -328,10 +331,10 @@ pub fn bench(rounds: u64) {
     }
 }
 
-type Wrong = (&'static str, fn(&Call, u32, &mut Lists) -> ([u32; 3], [f32; 2]));
+type Wrong = (&'static str, fn(&Call, u32, &mut Lists) -> ([u32; 4], [f32; 2]));
 
 /// Right, but for what is changed afterwards.
-fn after(call: &Call, rounds: u32, lists: &mut Lists, change: impl Fn(&mut Lists, &mut [u32; 3], &mut [f32; 2])) -> ([u32; 3], [f32; 2]) {
+fn after(call: &Call, rounds: u32, lists: &mut Lists, change: impl Fn(&mut Lists, &mut [u32; 4], &mut [f32; 2])) -> ([u32; 4], [f32; 2]) {
     let (mut numbers, mut floats) = lists.search(call, rounds);
     change(lists, &mut numbers, &mut floats);
     (numbers, floats)
@@ -342,10 +345,11 @@ fn flip(x: &mut f32) {
 }
 
 /// Wrong searches, each wrong in one thing.
-const WRONG: [Wrong; 10] = [
+const WRONG: [Wrong; 11] = [
     ("the number", |c, n, l| after(c, n, l, |_, numbers, _| numbers[0] ^= 1)),
     ("the second number", |c, n, l| after(c, n, l, |_, numbers, _| numbers[1] += 1)),
     ("the rounds done", |c, n, l| after(c, n, l, |_, numbers, _| numbers[2] += 1)),
+    ("the list of refusal 6", |c, n, l| after(c, n, l, |_, numbers, _| numbers[3] += u32::from(numbers[0] == 6))),
     ("the retention", |c, n, l| after(c, n, l, |_, _, floats| flip(&mut floats[0]))),
     ("the mean", |c, n, l| after(c, n, l, |_, _, floats| flip(&mut floats[1]))),
     ("a cost that is left", |c, n, l| after(c, n, l, |lists, _, _| lists.costs.places_mut().iter_mut().take(1).for_each(flip))),

@@ -7,7 +7,7 @@ pub use crate::native::WeightedIndex;
 unsafe extern "C" {
     fn drill_next(state: *mut u64) -> u64;
     fn drill_word(output: u64) -> u32;
-    fn drill_rating(weights: *const f32, len: usize, word: u32) -> usize;
+    fn drill_weighted_index(weights: *const f32, len: usize, word: u32) -> usize;
     fn drill_recalled(chance: f32, word: u32) -> bool;
 }
 
@@ -21,7 +21,7 @@ pub struct Rule {
 
 pub const PORTS: Rule = Rule {
     word: |state| unsafe { drill_word(drill_next(state)) },
-    rating: |weights, word| unsafe { drill_rating(weights.as_ptr(), weights.len(), word) },
+    rating: |weights, word| unsafe { drill_weighted_index(weights.as_ptr(), weights.len(), word) },
     recalled: |chance, word| unsafe { drill_recalled(chance, word) },
 };
 

@@ -25,7 +25,7 @@ search-requires c κs =
     let at-enum-told = c .before .before .before .before .before .before .before .before .before in
     let at-check-entry = at-enum-told .before .before in
     let at-rounds-ok = at-check-entry .before in
-    let start = at-rounds-ok .before .before .before .before .before .before .before .before .before .before .before .before .before .before .before in
+    let start = at-rounds-ok .before .before .before .before .before .before in
     let a = start .args in
     let i = searchInputs (a .config) (a .parameters .now) (a .existing .now) (a .existing-counts .now) in
     let l = lent (a .cards .now) (a .counts .now) (a .rows .now) (a .days .now) (a .costs .now) (a .memorized .now)
@@ -33,6 +33,20 @@ search-requires c κs =
     rounds-few i (a .rounds) l
     (sym (entry-is i (a .rounds) l (at-rounds-ok .rounds-ok .result) (at-rounds-ok .rounds-ok .ensures)
     (at-check-entry .check-entry .ensures)) ∙ at-enum-told .enum-told .given .1)
+
+returns : tie.Need-returns
+returns c =
+    let at-entry = c .before in
+    let at-check-entry = at-entry .before .before in
+    let at-rounds-ok = at-check-entry .before in
+    let start = at-rounds-ok .before .before .before .before .before .before in
+    let a = start .args in
+    let i = searchInputs (a .config) (a .parameters .now) (a .existing .now) (a .existing-counts .now) in
+    let l = lent (a .cards .now) (a .counts .now) (a .rows .now) (a .days .now) (a .costs .now) (a .memorized .now)
+    (a .due .now) (a .keys .now) (a .intervals .now) in
+    search-contract i (a .rounds) l (search-refused i (a .rounds) l _
+    (sym (entry-is i (a .rounds) l (at-rounds-ok .rounds-ok .result) (at-rounds-ok .rounds-ok .ensures)
+    (at-check-entry .check-entry .ensures)) ∙ at-entry .entry .given .1))
 
 same-length : tie.Need-same-length
 same-length c = search needs
@@ -61,54 +75,13 @@ same-length-8 c = search needs
 same-length-9 : tie.Need-same-length-9
 same-length-9 c = search needs
 
-returns : tie.Need-returns
-returns c =
-    let at-entry = c .before in
-    let at-check-entry = at-entry .before .before in
-    let at-rounds-ok = at-check-entry .before in
-    let start = at-rounds-ok .before .before .before .before .before .before .before .before .before .before .before .before .before .before .before in
-    let a = start .args in
-    let i = searchInputs (a .config) (a .parameters .now) (a .existing .now) (a .existing-counts .now) in
-    let l = lent (a .cards .now) (a .counts .now) (a .rows .now) (a .days .now) (a .costs .now) (a .memorized .now)
-    (a .due .now) (a .keys .now) (a .intervals .now) in
-    search-contract i (a .rounds) l (search-refused i (a .rounds) l _
-    (sym (entry-is i (a .rounds) l (at-rounds-ok .rounds-ok .result) (at-rounds-ok .rounds-ok .ensures)
-    (at-check-entry .check-entry .ensures)) ∙ at-entry .entry .given .1))
-
-same-length-10 : tie.Need-same-length-10
-same-length-10 c = search needs
-
-same-length-11 : tie.Need-same-length-11
-same-length-11 c = search needs
-
-same-length-12 : tie.Need-same-length-12
-same-length-12 c = search needs
-
-same-length-13 : tie.Need-same-length-13
-same-length-13 c = search needs
-
-same-length-14 : tie.Need-same-length-14
-same-length-14 c = search needs
-
-same-length-15 : tie.Need-same-length-15
-same-length-15 c = search needs
-
-same-length-16 : tie.Need-same-length-16
-same-length-16 c = search needs
-
-same-length-17 : tie.Need-same-length-17
-same-length-17 c = search needs
-
-same-length-18 : tie.Need-same-length-18
-same-length-18 c = search needs
-
 returns-2 : tie.Need-returns-2
 returns-2 c =
     let at-search = c .before .before .before .before .before .before .before .before .before .before .before .before .before in
     let at-enum-told = at-search .before .before .before .before .before .before .before .before .before .before in
     let at-check-entry = at-enum-told .before .before in
     let at-rounds-ok = at-check-entry .before in
-    let start = at-rounds-ok .before .before .before .before .before .before .before .before .before .before .before .before .before .before .before in
+    let start = at-rounds-ok .before .before .before .before .before .before in
     let a = start .args in
     let i = searchInputs (a .config) (a .parameters .now) (a .existing .now) (a .existing-counts .now) in
     let l = lent (a .cards .now) (a .counts .now) (a .rows .now) (a .days .now) (a .costs .now) (a .memorized .now)
@@ -126,6 +99,7 @@ optimal-retention-spec =
     enum-known-entry
     enum-told
     search-requires
+    returns
     same-length
     same-length-2
     same-length-3
@@ -135,14 +109,4 @@ optimal-retention-spec =
     same-length-7
     same-length-8
     same-length-9
-    returns
-    same-length-10
-    same-length-11
-    same-length-12
-    same-length-13
-    same-length-14
-    same-length-15
-    same-length-16
-    same-length-17
-    same-length-18
     returns-2)

@@ -16,7 +16,7 @@ use Rattle.simulation.specs.declared.Check.the-variants as check
 use Rattle.simulation.specs.State.{State}
 use Rattle.simulation.proofs.entry.FirstWhere.{none-before}
 use Rattle.simulation.specs.Entry.{Inputs, firstWhere, notFinite, notOk, failIf, checkParameters, listsOk}
-use Rattle.simulation.specs.Entry.{checkFirst, checkedWith, checked}
+use Rattle.simulation.specs.Entry.{lengthsOk, checkFirst, checkSettings, checked}
 use Rattle.turns.proofs.Logic.{not-one, both, neither, not-false}
 
 pub record Accepted {C : Type 0} (i : Inputs) (s : State C) : Type 0 where
@@ -67,7 +67,7 @@ lists-test i s =
     && leb (dueDays span) (length (s .due)))))))))
 
 pub accepted : {C : Type 0} (i : Inputs) (s : State C) → checked i s ≡ check.Passed → Accepted i s
-unfolding checkedWith checkParameters checkFirst listsOk
+unfolding checkSettings checkParameters checkFirst lengthsOk
 accepted i s e =
     let w = i .parameters in
     let g = i .config in

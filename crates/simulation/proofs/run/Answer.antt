@@ -27,16 +27,16 @@ module _ {C : Type 0} (R : Rules C) (i : Inputs) (s : State C) {s₁ : State C}
 
   pub inner-is : {b : ℕ} {x : RunEnd} {l′ : Lent C} → b ≡ bound R s₁ → RunTurns R s₁ b x l′
       → InnerContract R (setUp (R .costs .none) i s)
-      (answerOf (x .stop) (progress (x .turns) (s₁ .queue .len) (x .draws))) l′
+      (answerOf (x .stop) (progress (x .turns) (s₁ .queue .len) (x .queued) (x .draws))) l′
   unfolding runFrom
   inner-is {b = b} {x = x} {l′ = l′} eb r =
       subst (λ (z : State C). InnerContract R z
-      (answerOf (x .stop) (progress (x .turns) (s₁ .queue .len) (x .draws))) l′) up
+      (answerOf (x .stop) (progress (x .turns) (s₁ .queue .len) (x .queued) (x .draws))) l′) up
       (go (subst (λ (z : ℕ). RunTurns R s₁ z x l′) eb r))
     where
       go : RunTurns R s₁ (bound R s₁) x l′
-          → InnerContract R s₁ (answerOf (x .stop) (progress (x .turns) (s₁ .queue .len) (x .draws))) l′
-      go r₁ = record { answer = λ y e. rw (r₁ .stop-is y e, r₁ .turns, r₁ .draws); lists = r₁ .lists }
+          → InnerContract R s₁ (answerOf (x .stop) (progress (x .turns) (s₁ .queue .len) (x .queued) (x .draws))) l′
+      go r₁ = record { answer = λ y e. rw (r₁ .stop-is y e, r₁ .turns, r₁ .queued, r₁ .draws); lists = r₁ .lists }
 
 pub bound-fits : (len span : ℕ) → len ≤ 65536 → span ≤ 36500 → len * (span + 1) ≤ 2392129536
 bound-fits len span h l = let k : span + 1 ≤ 36501 = omega arith in mul-le-mul h k

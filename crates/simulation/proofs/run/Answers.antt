@@ -16,7 +16,7 @@ use Rattle.simulation.specs.Rules.{Rules}
 use Rattle.simulation.specs.Turn.{next}
 use Rattle.simulation.specs.Entry.{Inputs, checked}
 use Rattle.simulation.specs.Simulate.{Result, progress, answerOf, answerIf, resultFrom, afterCheck, simulatedBy}
-use Rattle.simulation.specs.Demands.{startOf, cardsOf, endOf, turnsOf, DemandThree}
+use Rattle.simulation.specs.Demands.{startOf, cardsOf, endOf, turnsOf, progressOf, DemandThree}
 use Rattle.simulation.proofs.entry.Accepted.{accepted}
 use Rattle.simulation.proofs.run.Suits.{Suits}
 use Rattle.simulation.proofs.run.DemandThree.{has-stopped, stops-so, daily-rules, rows-are}
@@ -57,7 +57,7 @@ module _ {C : Type 0} (R : Rules C) (i : Inputs) (s : State C) where
     where
       go : (c : Check) → afterCheck R i c s .answer ≡ some (answer.Finished p) → c ≡ check.Passed
       go check.Passed x = refl
-      go (check.Failed r) x = absurd (refused-not r (progress 0 0 (i .seed)) p x)
+      go (check.Failed r) x = absurd (refused-not r (progress 0 0 0 (i .seed)) p x)
 
   pub passed-is : checked i s ≡ check.Passed → simulatedBy R i s ≡ resultFrom R (startOf R i s)
   unfolding simulatedBy
@@ -65,7 +65,7 @@ module _ {C : Type 0} (R : Rules C) (i : Inputs) (s : State C) where
 
   module _ (fit : Suits R i) (e : checked i s ≡ check.Passed) where
     abbrev own : Progress
-    own = progress (length (turnsOf R i s)) (cardsOf R i s) (endOf R i s .draws)
+    own = progressOf R i s
 
     -- an accepted call that answers so has stopped so
     pub told-all : (y : Stop) (q : Progress) → simulatedBy R i s .answer ≡ some (answerOf y q)

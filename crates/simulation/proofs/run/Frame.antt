@@ -29,7 +29,7 @@ use Rattle.simulation.specs.declared.Stop.the-variants as stop
 use Rattle.simulation.specs.State.{State, Lent, listsOf, withTable}
 use Rattle.simulation.specs.Rules.{Rules}
 use Rattle.simulation.specs.Turn.{next}
-use Rattle.simulation.specs.Entry.{Inputs, listsOk, checkedWith, checked}
+use Rattle.simulation.specs.Entry.{Inputs, listsOk, checkSettings, checked}
 use Rattle.simulation.specs.SetUp.{keptCount, newCardCount}
 use Rattle.simulation.specs.Simulate.{progress, answerOf, bound, runFrom, resultFrom, simulatedBy}
 use Rattle.simulation.specs.Invariant.{RunBounds, StateInvariant}
@@ -105,9 +105,9 @@ module _ {C : Type 0} (R : Rules C) (cards : ℕ) (fine : RunBounds (R .span) ca
 same-stop : {C : Type 0} (n : Next (Turn Drawn) (State C) Stop) (x y : Stop) → n ≡ stops x → n ≡ stops y → x ≡ y
 same-stop n x y e q = cc
 
-same-answer : (x : Stop) {a a′ b b′ c c′ : ℕ} → a ≡ a′ → b ≡ b′ → c ≡ c′
-    → some (answerOf x (progress a b c)) ≡ some (answerOf x (progress a′ b′ c′))
-same-answer x p q r = rw (p, q, r)
+same-answer : (x : Stop) {a a′ b b′ n n′ c c′ : ℕ} → a ≡ a′ → b ≡ b′ → n ≡ n′ → c ≡ c′
+    → some (answerOf x (progress a b n c)) ≡ some (answerOf x (progress a′ b′ n′ c′))
+same-answer x p q m r = rw (p, q, m, r)
 
 module _ {C : Type 0} (R : Rules C) (i : Inputs) (fit : Suits R i) (s s′ : State C) (e : checked i s ≡ check.Passed)
     (e′ : checked i s′ ≡ check.Passed) where
@@ -214,10 +214,13 @@ module _ {C : Type 0} (R : Rules C) (i : Inputs) (fit : Suits R i) (s s′ : Sta
         let draws : endOf R i s′ .draws ≡ endOf R i s .draws =
         ap (λ (z : State C). z .draws) (two .states .whole) ∙ ap (λ (z : State C). z .draws) (both .states .same)
         ∙ sym (ap (λ (z : State C). z .draws) (one .states .whole)) in
+        let queued : endOf R i s′ .queue .len ≡ endOf R i s .queue .len =
+        ap (λ (z : State C). z .queue .len) (two .states .whole) ∙ ap (λ (z : State C). z .queue .len) (both .states .same)
+        ∙ sym (ap (λ (z : State C). z .queue .len) (one .states .whole)) in
         record {
           answers = rw (e, e′)
               (rw (here, there) (same-answer x (ap (λ (z : List (Turn Drawn)). length z) turns)
-              (cards-there ∙ sym cards-here) draws));
+              (cards-there ∙ sym cards-here) queued draws));
           turns-are = turns;
           places-are = subst (λ (n : ℕ). firstPlaces n (R .span) (endOf R i s′)
               ≡ withTable (endOf R i s′ .table) (firstPlaces n (R .span) (endOf R i s))) (sym cards-here)
@@ -230,7 +233,7 @@ module _ {C : Type 0} (R : Rules C) (i : Inputs) (fit : Suits R i) (s s′ : Sta
 -- ---- the second call passes the entry too, and its table has as many places or more
 pub passes-too : {C : Type 0} (i : Inputs) (s s′ : State C) → checked i s ≡ check.Passed → listsOk i s′ ≡ true
     → checked i s′ ≡ check.Passed
-unfolding checkedWith
+unfolding checkSettings
 passes-too i s s′ e l = rw l (rw (accepted i s e .lists-ok) at e)
 
 -- THE LONGER TABLE: a run that ends Ok has the same run with any lists that are long enough and a table that is as long

@@ -84,11 +84,11 @@ module _ {C : Type 0} (R : Rules C) (s₀ : State C) (bound : ℕ) where
             }
 
     pub going-stops : OneOf (1 ∷ []) (tagOf outcome-type.the-type o) → (z : Stop) → z ≡ stopIn o
-        → RunTurns R s₀ bound (record { stop = z; turns = k; draws = st .draws }) l′
+        → RunTurns R s₀ bound (record { stop = z; turns = k; queued = st .queue .len; draws = st .draws }) l′
     going-stops t z ez = go (next R st) refl p
       where
         go : (x : Next (Turn Drawn) (State C) Stop) → next R st ≡ x → TurnContract x st o l′
-            → RunTurns R s₀ bound (record { stop = z; turns = k; draws = st .draws }) l′
+            → RunTurns R s₀ bound (record { stop = z; turns = k; queued = st .queue .len; draws = st .draws }) l′
         go (takes u s′) q h = absurd (took-tag o (s′ .queue .len) (s′ .draws) t (h .outcome))
         go (stops x) q h =
             let q′ : next R ((after k) .state) ≡ stops x = rw (← i .at) q in
@@ -100,12 +100,13 @@ module _ {C : Type 0} (R : Rules C) (s₀ : State C) (bound : ℕ) where
             record {
               stop-is = λ w ew. ez ∙ ap stopIn (h .outcome) ∙ same-stop x w (sym y ∙ ew);
               turns = sym (ap (λ (z : RunState (Turn Drawn) (State C)). length (z .turns)) one ∙ i .many);
+              queued = ap (λ (z : State C). z .queue .len) s;
               draws = ap (λ (z : State C). z .draws) s;
               lists = h .lists ∙ ap listsOf s;
             }
 
   pub going-spent : {x : Lent C} {n draws k : ℕ} → Going (state x n draws) k → bound ≤ k
-      → RunTurns R s₀ bound (record { stop = stop.Ended; turns = k; draws = draws }) x
+      → RunTurns R s₀ bound (record { stop = stop.Ended; turns = k; queued = n; draws = draws }) x
   going-spent {x} {n} {draws} {k} i l =
       let e : k ≡ bound = omega (arith, i .within) in
       let zero-left : bound - k ≡ 0 = omega arith in
@@ -114,6 +115,7 @@ module _ {C : Type 0} (R : Rules C) (s₀ : State C) (bound : ℕ) where
       record {
         stop-is = λ w ew. absurd (no-stop w (ap (λ (z : ℕ). stopOf (next R) z st) (sym zero-left) ∙ i .left ∙ ew));
         turns = sym (i .many) ∙ ap (λ (z : ℕ). length ((after z) .turns)) e;
+        queued = ap (λ (z : State C). z .queue .len) s;
         draws = ap (λ (z : State C). z .draws) s;
         lists = ap listsOf s;
       }

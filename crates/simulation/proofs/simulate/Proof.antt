@@ -24,8 +24,7 @@ simulate-inner-requires c κs =
     let at-enum-told = c .before .before .before .before .before .before .before .before .before in
     let at-check-entry = at-enum-told .before .before in
     let at-is-finite = at-check-entry .before in
-    let start = at-is-finite .before .before .before .before .before .before .before .before .before .before .before
-    .before .before .before .before in
+    let start = at-is-finite .before .before .before .before .before .before in
     let a = start .args in
     let i = inputs (a .config) (a .parameters .now) (a .retention) (a .seed) (a .existing .now)
     (a .existing-counts .now) in
@@ -33,6 +32,20 @@ simulate-inner-requires c κs =
     (a .memorized .now) (a .due .now) (a .keys .now) (a .intervals .now)) 0 (a .seed) in
     sym (same-check i s (at-is-finite .is-finite .result) (at-is-finite .is-finite .ensures)
     (at-check-entry .check-entry .ensures)) ∙ at-enum-told .enum-told .given .1
+
+returns : tie.Need-returns
+returns c =
+    let at-entry = c .before in
+    let at-check-entry = at-entry .before .before in
+    let at-is-finite = at-check-entry .before in
+    let start = at-is-finite .before .before .before .before .before .before in
+    let a = start .args in
+    let i = inputs (a .config) (a .parameters .now) (a .retention) (a .seed) (a .existing .now)
+    (a .existing-counts .now) in
+    let s = state (lent (a .cards .now) (a .counts .now) (a .rows .now) (a .days .now) (a .costs .now)
+    (a .memorized .now) (a .due .now) (a .keys .now) (a .intervals .now)) 0 (a .seed) in
+    refused-is i s _ (sym (same-check i s (at-is-finite .is-finite .result) (at-is-finite .is-finite .ensures)
+    (at-check-entry .check-entry .ensures)) ∙ at-entry .entry .given .1)
 
 same-length : tie.Need-same-length
 same-length c = search needs
@@ -61,48 +74,6 @@ same-length-8 c = search needs
 same-length-9 : tie.Need-same-length-9
 same-length-9 c = search needs
 
-returns : tie.Need-returns
-returns c =
-    let at-entry = c .before in
-    let at-check-entry = at-entry .before .before in
-    let at-is-finite = at-check-entry .before in
-    let start = at-is-finite .before .before .before .before .before .before .before .before .before .before .before
-    .before .before .before .before in
-    let a = start .args in
-    let i = inputs (a .config) (a .parameters .now) (a .retention) (a .seed) (a .existing .now)
-    (a .existing-counts .now) in
-    let s = state (lent (a .cards .now) (a .counts .now) (a .rows .now) (a .days .now) (a .costs .now)
-    (a .memorized .now) (a .due .now) (a .keys .now) (a .intervals .now)) 0 (a .seed) in
-    refused-is i s _ (sym (same-check i s (at-is-finite .is-finite .result) (at-is-finite .is-finite .ensures)
-    (at-check-entry .check-entry .ensures)) ∙ at-entry .entry .given .1)
-
-same-length-10 : tie.Need-same-length-10
-same-length-10 c = search needs
-
-same-length-11 : tie.Need-same-length-11
-same-length-11 c = search needs
-
-same-length-12 : tie.Need-same-length-12
-same-length-12 c = search needs
-
-same-length-13 : tie.Need-same-length-13
-same-length-13 c = search needs
-
-same-length-14 : tie.Need-same-length-14
-same-length-14 c = search needs
-
-same-length-15 : tie.Need-same-length-15
-same-length-15 c = search needs
-
-same-length-16 : tie.Need-same-length-16
-same-length-16 c = search needs
-
-same-length-17 : tie.Need-same-length-17
-same-length-17 c = search needs
-
-same-length-18 : tie.Need-same-length-18
-same-length-18 c = search needs
-
 returns-2 : tie.Need-returns-2
 returns-2 c =
     let at-simulate-inner = c .before .before .before .before .before .before .before .before .before .before .before
@@ -111,8 +82,7 @@ returns-2 c =
     .before in
     let at-check-entry = at-enum-told .before .before in
     let at-is-finite = at-check-entry .before in
-    let start = at-is-finite .before .before .before .before .before .before .before .before .before .before .before
-    .before .before .before .before in
+    let start = at-is-finite .before .before .before .before .before .before in
     let a = start .args in
     let i = inputs (a .config) (a .parameters .now) (a .retention) (a .seed) (a .existing .now)
     (a .existing-counts .now) in
@@ -131,6 +101,7 @@ simulate-spec =
     enum-known-entry
     enum-told
     simulate-inner-requires
+    returns
     same-length
     same-length-2
     same-length-3
@@ -140,14 +111,4 @@ simulate-spec =
     same-length-7
     same-length-8
     same-length-9
-    returns
-    same-length-10
-    same-length-11
-    same-length-12
-    same-length-13
-    same-length-14
-    same-length-15
-    same-length-16
-    same-length-17
-    same-length-18
     returns-2)

@@ -1,16 +1,10 @@
-use Rattle.cards.specs.declared.SimulatorConfig.{SimulatorConfig}
-use Rattle.simulation.specs.State.{lent, state}
-use Rattle.simulation.specs.Entry.{inputs}
-use Rattle.capi.proofs.Telling.{told}
+-- The numbers are those of the answer, and the list that of the lengths.
 use borrow.Author.Needs.{needs}
 use Rattle.capi.proofs.run.drill_simulate.Statement.{statement}
 use Rattle.capi.proofs.run.drill_simulate.Tie as tie
-use Rattle.capi.proofs.run.config_of.Reads as config-of-reads
-use Rattle.capi.proofs.run.numbers_of.Reads as numbers-of-reads
-use Rattle.simulation.proofs.simulate.Reads as simulate-reads
 
-config-of-requires : tie.Need-config-of-requires
-config-of-requires c κs = search needs
+short-list-requires : tie.Need-short-list-requires
+short-list-requires c κs = search needs
 
 simulate-requires : tie.Need-simulate-requires
 simulate-requires c κs = search needs
@@ -48,19 +42,18 @@ same-length-9 c = search needs
 returns : tie.Need-returns
 returns c =
     let at-simulate = c .before .before .before .before .before .before .before .before .before .before .before .before .before .before in
-    let at-config-of = at-simulate .before .before .before .before .before .before .before .before .before .before in
-    let start = at-config-of .before .before .before .before .before .before in
-    let a = start .args in
-    told
-    (λ (g : SimulatorConfig). inputs g (a .parameters .now) (a .desired-retention) (a .seed) (a .existing .now) (a .existing-counts .now))
-    (state (lent (a .cards .now) (a .counts .now) (a .queue .now) (a .days .now) (a .costs .now) (a .memorized .now) (a .due .now) (a .keys .now) (a .intervals .now)) 0 (a .seed))
-    (at-config-of .config-of .ensures) (c .numbers-of .ensures) (at-simulate .simulate .ensures)
+    let at-short-list = at-simulate .before .before .before .before .before .before .before .before .before .before in
+    record {
+      answer = at-simulate .simulate .result;
+      numbers-are = rw (c .numbers-of .ensures, at-short-list .short-list .ensures);
+      run = at-simulate .simulate .ensures;
+    }
 
 pub drill-simulate-spec : {M : Type 1} → statement M
 drill-simulate-spec =
     tie.close
     (tie.spec
-    config-of-requires
+    short-list-requires
     simulate-requires
     numbers-of-requires
     same-length

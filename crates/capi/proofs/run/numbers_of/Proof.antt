@@ -1,4 +1,4 @@
--- `capi::run::numbers_of` meets its contract. Assumes nothing.
+-- `capi::run::numbers_of` meets its contract.
 use borrow.Author.Needs.{needs}
 use Rattle.capi.proofs.run.numbers_of.Statement.{statement}
 use Rattle.capi.proofs.run.numbers_of.Tie as tie
@@ -25,7 +25,14 @@ returns : tie.Need-returns
 returns c = rw (c .before .before .answer .given .1, c .numbers-from .ensures)
 
 returns-2 : tie.Need-returns-2
-returns-2 c = rw (c .before .before .before .before .answer2 .given .1, c .numbers-from2 .ensures, c .before .second-of .ensures, c .before .before .number-of .ensures)
+returns-2 c =
+    let at-answer = c .before .before .before .before in
+    rw (
+      at-answer .answer2 .given .1,
+      c .numbers-from2 .ensures,
+      c .before .second-of .ensures,
+      c .before .before .number-of .ensures,
+    )
 
 pub numbers-of-spec : {M : Type 1} → statement M
 numbers-of-spec =

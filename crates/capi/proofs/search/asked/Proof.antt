@@ -1,4 +1,5 @@
-use Rattle.capi.specs.Stepper.{asked}
+-- `capi::search::asked` meets its contract.
+use Rattle.capi.specs.Search.{asked}
 use lib.Ieee.{ofBits, ofFields, div}
 use borrow.Author.Needs.{needs}
 use Rattle.capi.proofs.search.asked.Statement.{statement}

@@ -1,32 +1,23 @@
 -- `simulation::entry::check_parameters` meets its contract.
-use borrow.Author.Tests.{lt-ltb, le-ltb}
 use Rattle.simulation.specs.Entry.{checkParameters}
 use borrow.Author.Needs.{needs}
 use Rattle.simulation.proofs.entry.check_parameters.Statement.{statement}
 use Rattle.simulation.proofs.entry.check_parameters.Tie as tie
 
-returns : tie.Need-returns
-unfolding checkParameters
-returns c = rw (lt-ltb _ _ (c .if1 .taken))
-
 first-not-finite-requires : tie.Need-first-not-finite-requires
 first-not-finite-requires c κs = search needs
 
-returns-2 : tie.Need-returns-2
-unfolding checkParameters
-returns-2 c = rw (
-  le-ltb _ _ (c .before .before .if1 .left),
-  ← c .before .first-not-finite .ensures,
-  lt-ltb _ _ (c .if2 .taken),
-)
+fail-if-requires : tie.Need-fail-if-requires
+fail-if-requires c κs = search needs
 
-returns-3 : tie.Need-returns-3
+fail-if-requires-2 : tie.Need-fail-if-requires-2
+fail-if-requires-2 c κs = search needs
+
+returns : tie.Need-returns
 unfolding checkParameters
-returns-3 c = rw (
-  le-ltb _ _ (c .before .before .if1 .left),
-  ← c .before .first-not-finite .ensures,
-  le-ltb _ _ (c .if2 .left),
-)
+returns c =
+    rw (← c .before .before .first-not-finite .ensures, ← c .before .fail-if .ensures) (c .fail-if2 .ensures)
 
 pub check-parameters-spec : {M : Type 1} → statement M
-check-parameters-spec = tie.close (tie.spec returns first-not-finite-requires returns-2 returns-3)
+check-parameters-spec =
+    tie.close (tie.spec first-not-finite-requires fail-if-requires fail-if-requires-2 returns)

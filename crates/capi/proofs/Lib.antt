@@ -1,2 +1,0 @@
--- What the proofs of `capi` share.
-pub mod Telling
