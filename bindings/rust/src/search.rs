@@ -84,7 +84,7 @@ fn stepped(inputs: &Inputs, rounds: u32, threads: NonZeroUsize, places: usize) -
         // Refused at the entry, which no run of a trial tests: by 4, or by what comes before it in the table.
         return whole(inputs, rounds, places);
     }
-    let runs = native::sample_size(inputs.span());
+    let runs = native::sample_size(inputs);
     let mut lists: Vec<Lists> = (0..threads.get().min(runs)).map(|_| Lists::new(inputs.config, places)).collect();
     let mut search = Stepper::start(rounds);
     while let Some(retention) = search.next_retention() {
@@ -103,7 +103,7 @@ fn trial(inputs: &Inputs, retention: f32, runs: usize, lists: &mut [Lists]) -> R
             let first_seed = FIRST_SEED + (i * part) as u64;
             scope.spawn(move || {
                 for (seed, target) in (first_seed..).zip(targets) {
-                    *target = run(inputs, retention, seed, lists).map(|_| native::target(inputs.span(), lists));
+                    *target = run(inputs, retention, seed, lists).map(|_| native::target(inputs, lists));
                     if target.is_err() {
                         break;
                     }
