@@ -60,6 +60,7 @@ int main(void) {
     printf("(forecast %d (turns %u) (cards %u))\n", SPAN, answer.turns, answer.cards);
     for (int i = 0; i < SPAN; i++)
         printf("(day %d (learn %u) (review %u) (correct %u) (introduced %u) (cost %08X) (held %08X))\n", i,
-               days[i].learned, days[i].reviewed, days[i].correct, days[i].introduced, bits(costs[i]), bits(memorized[i]));
+               days[i].learned, days[i].reviewed, days[i].correct, days[i].introduced, bits(costs[i]),
+               bits(memorized[i]));
     return 0;
 }

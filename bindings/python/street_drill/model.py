@@ -7,8 +7,9 @@
 """
 
 from collections.abc import Iterable, Sequence
-from dataclasses import dataclass
+from dataclasses import dataclass, fields
 from operator import attrgetter
+from typing import Any
 
 from . import library
 from .errors import Refusal
@@ -101,26 +102,20 @@ def _whole(name: str, value: int, bits: int) -> int:
     return value
 
 
-def _flat(name: str, table: Iterable[Sequence[float]], rows: int, columns: int) -> list[float]:
-    rows_given = [list(row) for row in table]
-    if [len(row) for row in rows_given] != [columns] * rows:
-        raise ValueError(f"{name} must have {rows} rows of {columns} numbers")
-    return [value for row in rows_given for value in row]
+def _like(name: str, value: Any, default: Any) -> Any:
+    """A setting as the library takes it: of as many entries as the default, and a whole number where that is one."""
+    if isinstance(default, tuple):
+        if len(value) != len(default):
+            raise ValueError(f"{name} has {len(value)} entries, and must have {len(default)}")
+        return tuple(_like(name, entry, default[0]) for entry in value)
+    return _whole(name, value, 32) if type(default) is int else value
 
 
 def _inputs(config: SimulatorConfig, parameters: Sequence[float], cards: Sequence[Card]) -> library.Inputs:
-    names = ["deck_size", "learn_span", "learn_limit", "review_limit", "new_cards_ignore_review_limit",
-             "suspend_after_lapses", "learning_step_count", "relearning_step_count"]
-    tables = [_flat("first_rating_prob", [config.first_rating_prob], 1, 4),
-              _flat("review_rating_prob", [config.review_rating_prob], 1, 3),
-              _flat("learning_step_transitions", config.learning_step_transitions, 3, 4),
-              _flat("relearning_step_transitions", config.relearning_step_transitions, 3, 4),
-              _flat("state_rating_costs", config.state_rating_costs, 3, 4)]
+    settings = {field.name: _like(field.name, getattr(config, field.name), field.default) for field in fields(config)}
     floats = [value for card in cards for value in attrgetter(*CARD_FLOATS)(card)]
     counts = [_whole(name, getattr(card, name), 32) for card in cards for name in CARD_COUNTS]
-    return library.Inputs(list(parameters), floats, counts,
-                          [_whole(name, getattr(config, name), 32) for name in names],
-                          config.max_cost_perday, config.max_ivl, tables)
+    return library.Inputs(parameters, floats, counts, library.Config(**settings))
 
 
 def _rows(flat: Sequence, width: int, count: int) -> Iterable[Sequence]:
@@ -153,12 +148,12 @@ class Runner:
         while True:
             lists = library.Lists(self.inputs, table)
             answer = library.simulate(self.inputs, desired_retention, _whole("seed", seed, 64), lists)
-            if answer.number != 8 or table >= MOST_TABLE:
+            if answer.refusal != 8 or table >= MOST_TABLE:
                 break
             table = min(max(4 * table, FIRST_TABLE), MOST_TABLE)
             self._table = max(self._table, table)
-        if answer.number != 0:
-            raise Refusal(answer.number, answer.second)
+        if answer.refusal != 0:
+            raise Refusal(answer.refusal, answer.second)
         return answer, lists
 
     def forecast(self, desired_retention: float, seed: int, with_cards: bool = True) -> Forecast:

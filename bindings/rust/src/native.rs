@@ -76,9 +76,9 @@ pub struct Stepper {
     state: Brent,
 }
 
-// SAFETY: the declarations are those of include/street_drill.h. Rows of lists are arrays of as many numbers as its structs
-// have, and lie in memory alike; a usize stands for its size_t. The functions marked safe take numbers only, and by their
-// contracts take every value of these.
+// SAFETY: the declarations are those of include/street_drill.h. Rows of lists are arrays of as many numbers as its
+// structs have, and lie in memory alike; a usize stands for its size_t. The functions marked safe take numbers only,
+// and by their contracts take every value of these.
 unsafe extern "C" {
     fn drill_simulate(
         parameters: *const f32,
@@ -147,8 +147,8 @@ unsafe extern "C" {
     safe fn drill_search_answer(s: Stepper) -> u32;
 }
 
-/// Calls `drill_simulate` or `drill_optimal_retention`: both have the inputs first, then arguments of their own, and the
-/// lists that are written.
+/// Calls `drill_simulate` or `drill_optimal_retention`: both have the inputs first, then arguments of their own, and
+/// the lists that are written.
 macro_rules! call {
     ($function:ident, $inputs:expr, ($($own:expr),+), $lists:expr) => {
         $function(
