@@ -105,6 +105,17 @@ def _library() -> ctypes.CDLL:
     return library
 
 
+def check_float_modes() -> None:
+    """The library's promises are for a thread that rounds to nearest and keeps subnormals; others raise RuntimeError.
+
+    An extension that was built with -ffast-math may have changed its thread's modes.
+    """
+    one, half_step, least, small = 1.0, 2.0**-53, 5e-324, 2.0**-1022
+    to_nearest = one + half_step == one and one + 3 * half_step == one + 4 * half_step
+    if not (to_nearest and least * one > 0 and small / 2 > 0):
+        raise RuntimeError("this thread's float modes are not the default ones")
+
+
 def _zeros(kind: str, places: int) -> array:
     return array(kind, bytes(array(kind).itemsize * places))
 
@@ -151,11 +162,13 @@ class Lists:
 
 
 def simulate(inputs: Inputs, desired_retention: float, seed: int, lists: Lists) -> Answer:
+    check_float_modes()
     return _library().drill_simulate(*inputs._arguments(), desired_retention, seed, *lists._arguments())
 
 
 def optimal_retention(inputs: Inputs, rounds: int, lists: Lists) -> Found:
     """The whole search in one call, on one thread."""
+    check_float_modes()
     return _library().drill_optimal_retention(*inputs._arguments(), rounds, *lists._arguments())
 
 

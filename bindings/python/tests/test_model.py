@@ -1,5 +1,6 @@
 """Runs and searches by names, beside the proved programs."""
 
+import ctypes
 import math
 import re
 import unittest
@@ -78,6 +79,20 @@ class Refusals(unittest.TestCase):
                 simulate(replace(SMALL, **{field: value}), PARAMETERS)
         with self.assertRaises(ValueError):
             simulate(SMALL, PARAMETERS, seed=2**64)
+
+
+class FloatModes(unittest.TestCase):
+    def test_rounding(self) -> None:
+        """To nearest is 0; down, up and towards zero are the others of x86-64's fenv.h."""
+        modes = ctypes.CDLL(None)
+        for mode in [0x400, 0x800, 0xC00]:
+            modes.fesetround(mode)
+            try:
+                with self.assertRaises(RuntimeError):
+                    simulate(SMALL, PARAMETERS)
+            finally:
+                modes.fesetround(0)
+        simulate(SMALL, PARAMETERS)
 
 
 class Searches(unittest.TestCase):
