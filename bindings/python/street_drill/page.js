@@ -42,7 +42,7 @@ const mark = (figure, day) => {
         const value = lineOf(course, figure.dataset.column)[day] ?? null;
         if (value === null) return;
         const y = told.bottom - (value / figure.dataset.top) * (told.bottom - told.top);
-        draw(pointer, "circle", { class: `dot c${number % 8}`, cx: xOf(day), cy: y, r: 4 });
+        draw(pointer, "circle", { class: `dot c${number % told.colours}`, cx: xOf(day), cy: y, r: 4 });
     });
 };
 
@@ -51,7 +51,7 @@ const tellCourse = (tip, course, number, column, day) => {
     if (day >= line.length) return;
     const row = make(tip, "div");
     if (told.courses.length > 1) {
-        make(row, "i", "", `c${number % 8}`);
+        make(row, "i", "", `c${number % told.colours}`);
         row.append(`${course.name} `);
     }
     make(row, "strong", shown(line[day], column));

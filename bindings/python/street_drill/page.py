@@ -98,6 +98,7 @@ def _values(courses: Sequence[Course]) -> str:
     """What the script tells at the pointer."""
     told = {
         "left": picture.LEFT, "right": picture.RIGHT, "top": picture.TOP, "bottom": picture.BOTTOM,
+        "colours": picture.COLOURS,
         "last": picture.last_day(courses), "days": max(course.span for course in courses),
         "courses": [{
             "name": course.name,

@@ -21,7 +21,7 @@ TITLES = {
 # A picture's own units; the browser scales it to the window.
 WIDTH, HEIGHT = 480, 256
 LEFT, RIGHT, TOP, BOTTOM = 58, 472, 14, 216
-_COLOURS = 8
+COLOURS = 8
 _DASHES = ("", "7 4", "2 3", "9 3 2 3")
 _TIME_STEPS = (1, 2, 5, 10, 20, 30, 60, 120, 300, 600, 900, 1800, 3600, 7200, 10800, 21600, 43200, 86400)
 _MARKS = 5
@@ -111,25 +111,25 @@ def _points(scale: _Scale, places: Iterable[tuple[int, float]]) -> str:
 
 
 def _line(scale: _Scale, values: Sequence[float], colour: int, kind: str = "course") -> Iterator[str]:
-    dash = _DASHES[colour // _COLOURS % len(_DASHES)]
+    dash = _DASHES[colour // COLOURS % len(_DASHES)]
     for stretch in _stretches(zip(values)):
         points = _points(scale, [(day, value) for day, (value,) in stretch])
         # A stretch of one day is a dot: a line to itself with round ends.
         lone = f"L{points}" if len(stretch) == 1 else ""
-        yield f'<path class="{kind} c{colour % _COLOURS}" stroke-dasharray="{dash}" d="M{points}{lone}"/>'
+        yield f'<path class="{kind} c{colour % COLOURS}" stroke-dasharray="{dash}" d="M{points}{lone}"/>'
 
 
 def _band(scale: _Scale, lows: Sequence[float], highs: Sequence[float], colour: int) -> Iterator[str]:
     for stretch in _stretches(zip(lows, highs)):
         there = _points(scale, [(day, high) for day, (_, high) in stretch])
         back = _points(scale, [(day, low) for day, (low, _) in reversed(stretch)])
-        yield f'<path class="band c{colour % _COLOURS}" d="M{there}L{back}Z"/>'
+        yield f'<path class="band c{colour % COLOURS}" d="M{there}L{back}Z"/>'
 
 
 def swatch(colour: int) -> str:
-    dash = _DASHES[colour // _COLOURS % len(_DASHES)]
+    dash = _DASHES[colour // COLOURS % len(_DASHES)]
     return (f'<svg class="swatch" viewBox="0 0 28 8" aria-hidden="true">'
-            f'<path class="course c{colour % _COLOURS}" stroke-dasharray="{dash}" d="M2 4L26 4"/></svg>')
+            f'<path class="course c{colour % COLOURS}" stroke-dasharray="{dash}" d="M2 4L26 4"/></svg>')
 
 
 # ---- the day that holds so many streets
@@ -148,10 +148,10 @@ def _openings(scale: _Scale, courses: Sequence[Course], streets: int) -> Iterato
     yield f'<text class="over" x="{x}" y="{y + below:.1f}" text-anchor="{side}">{_mark(streets)} streets</text>'
     for row, (day, colour) in enumerate(sorted(days)):
         x = scale.x(day)
-        yield f'<circle class="dot c{colour % _COLOURS}" cx="{x:.1f}" cy="{y:.1f}" r="4"/>'
+        yield f'<circle class="dot c{colour % COLOURS}" cx="{x:.1f}" cy="{y:.1f}" r="4"/>'
         if len(days) <= _MOST_OPENINGS:
             side, gap = ("start", 5) if x < (LEFT + RIGHT) / 2 else ("end", -5)
-            yield (f'<text class="over c{colour % _COLOURS}" x="{x + gap:.1f}" y="{BOTTOM - 7 - 17 * row}" '
+            yield (f'<text class="over c{colour % COLOURS}" x="{x + gap:.1f}" y="{BOTTOM - 7 - 17 * row}" '
                    f'text-anchor="{side}">day {day}</text>')
 
 
