@@ -3,6 +3,7 @@ mod bench;
 mod calls;
 mod cases;
 mod edges;
+mod findings;
 mod floats;
 mod generate;
 mod leaf;
@@ -34,6 +35,7 @@ fn main() {
     match words.iter().map(String::as_str).collect::<Vec<_>>()[..] {
         ["leaf", ..] => leaf::main(number(&words, 1, 100), number(&words, 2, 1)),
         ["edges"] => edges::main(),
+        ["findings"] => findings::main(),
         ["runs", ..] => runs::main(number(&words, 1, 1000), number(&words, 2, 1)),
         ["search", ..] => searches::main(number(&words, 1, 100), number(&words, 2, 1)),
         ["planted", ..] => planted::main(number(&words, 1, 3000)),

@@ -1,4 +1,5 @@
 //! The built program `forecast` beside the second reading of its texts over the Rust's run.
+use crate::cases::USUAL;
 use crate::generate::Words;
 use crate::text::{WRONG, Wrong, answer, cheapest, is_small, read};
 use crate::text_cases::varied;
@@ -65,8 +66,10 @@ fn planted(all: &[(Vec<u8>, String)]) {
 
 /// Texts that show what chance seldom does.
 pub fn telling() -> Vec<Vec<u8>> {
-    let parameters = format!("(parameters {})\n", crate::cases::USUAL.map(|x| format!("{:08X}", x.to_bits())).join(" "));
-    let with = |rest: &str| (parameters.clone() + rest).into_bytes();
+    let form = |w: [f32; 34]| format!("(parameters {})\n", w.map(|x| format!("{:08X}", x.to_bits())).join(" "));
+    let with = |rest: &str| (form(USUAL) + rest).into_bytes();
+    let mut no_curve = USUAL;
+    no_curve[26] = 2.0;
     vec![
         b"(deck5)".to_vec(),
         b"(deck 007)".to_vec(),
@@ -97,6 +100,7 @@ pub fn telling() -> Vec<Vec<u8>> {
         with("\n\n(deck 2) (span 2)"),
         with("(deck 20)\n(span 5)\n(retention 7FC00000)"),
         with("(deck 20)\n(span 5)\n(maxcost 7F800000)\n(cost all 7F7FFFFF)"),
+        (form(no_curve) + "(deck 1)\n(span 6)\n(review 0)").into_bytes(),
     ]
 }
 
