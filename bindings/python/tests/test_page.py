@@ -137,6 +137,8 @@ class Page(unittest.TestCase):
             file.write_text(page([course]).replace("</body>", point + "</body>"))
             browser = ["chromium", "--headless=new", "--no-sandbox", f"--user-data-dir={folder}/profile", "--dump-dom"]
             shown = subprocess.run([*browser, file.as_uri()], capture_output=True, text=True).stdout
+        if not shown:
+            self.skipTest("chromium does not start")
         told = re.search('<div class="tip" style=[^>]*>(.*?)</figure>', shown)
         words = re.sub("<.*?>", " ", told[1]).split()
         self.assertEqual(words, ["day", "15", *duration(course.columns["cost"][15]).split()])
