@@ -51,7 +51,8 @@ fn check_parameters(w: &[f32], next: Check) -> Check
     fail_if(w.len() < 34, Refusal::Parameters(34), finite)
 }
 
-fn is_bad(card: Card) -> bool
+// Whether refusal 5 turns a card away: it is kept and not as it must be.
+pub fn is_bad(card: Card) -> bool
     ensures { λ r. ⌜ r ≡ isKept card && not (cardOk card) ⌝ }
 {
     if cards::is_kept(card) {

@@ -12,6 +12,7 @@ mod turn;
 
 pub use entry::check_entry;
 pub use entry::check_settings;
+pub use entry::is_bad;
 pub use entry::lists_ok;
 pub use entry::short_list;
 

@@ -2,7 +2,7 @@
 --   PassesOn f        what f does with the tests that follow
 --   settings-on       the tests of the settings are so
 --   settings-pass, settings-fail   what passes with nothing behind it, and what fails
---   settings-few      the existing cards of a call that passes
+--   settings-passed   of tests that pass: the lists, the number of existing cards, and what follows
 --   lists-told        refusal 6 is about no list exactly where the lists pass
 use mathlib.Core.Path.{_≡_, refl, sym, _∙_}
 use mathlib.Core.Bool.{Bool, true, false, not, cond, _||_, _&&_}
@@ -27,7 +27,7 @@ use Rattle.simulation.specs.declared.Lengths.{Lengths}
 use Rattle.simulation.specs.State.{mostCards, mostDays}
 use Rattle.simulation.specs.Entry.{firstWhere, notFinite, failIf, checkParameters, lengthsOk}
 use Rattle.simulation.specs.Entry.{shortList, checkSettings}
-use Rattle.turns.proofs.Logic.{not-one, neither}
+use Rattle.turns.proofs.Logic.{not-one, neither, not-false}
 use Rattle.simulation.proofs.entry.Accepted.{passes}
 
 -- what a test, or a chain of tests, does with the tests that follow
@@ -80,9 +80,10 @@ module _ (ok lists : Bool) (w : List Float) (g : SimulatorConfig) (n : ℕ) wher
       go (passing p) = absurd (not-passed c t (e ∙ p check.Passed))
       go (failing r p) = e ∙ p check.Passed ∙ sym (p next)
 
-  pub settings-few : checkSettings ok lists w g n check.Passed ≡ check.Passed → (n ≤ mostCards)
+  pub settings-passed : (next : Check) → checkSettings ok lists w g n next ≡ check.Passed
+      → (lists ≡ true) × (n ≤ mostCards) × (next ≡ check.Passed)
   unfolding checkSettings checkParameters
-  settings-few e =
+  settings-passed next e =
       let p₁ = passes (ltb (length w) 34) _ _ e in
       let p₂ = passes (ltb (firstWhere (notFinite w) 34 0) 34) _ _ (p₁ .1) in
       let p₃ = passes (eqb (g .«deck_size») 0 || ltb mostCards (g .«deck_size»)) _ _ (p₂ .1) in
@@ -91,7 +92,7 @@ module _ (ok lists : Bool) (w : List Float) (g : SimulatorConfig) (n : ℕ) wher
       let p₆ = passes (not lists) _ _ (p₅ .1) in
       let p₇ = passes (ltb (g .«deck_size») n) _ _ (p₆ .1) in
       let deck = ltb-false mostCards (g .«deck_size») (neither (eqb (g .«deck_size») 0) _ (p₃ .0) .1) in
-      omega (arith, deck, ltb-false (g .«deck_size») n (p₇ .0))
+      (not-false lists (p₆ .0), omega (arith, deck, ltb-false (g .«deck_size») n (p₇ .0)), p₇ .1)
 
 told : (b : Bool) (k : ℕ) {rest : Bool} (n : ℕ) → rest ≡ eqb n 0 → (b && rest) ≡ eqb (cond (not b) (suc k) n) 0
 told true k n e = e

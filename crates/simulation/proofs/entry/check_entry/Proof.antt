@@ -1,7 +1,7 @@
 -- The tests of the settings, and where they pass those of the cards.
 use mathlib.Core.Path.{sym, _∙_}
 use native.Mathlib.Omega.{arith}
-use Rattle.simulation.proofs.entry.Settings.{settings-pass, settings-fail, settings-few}
+use Rattle.simulation.proofs.entry.Settings.{settings-pass, settings-fail, settings-passed}
 use borrow.Author.Needs.{needs}
 use Rattle.simulation.proofs.entry.check_entry.Statement.{statement}
 use Rattle.simulation.proofs.entry.check_entry.Tie as tie
@@ -29,8 +29,8 @@ returns c =
 cast-check-cards : tie.Need-cast-check-cards
 cast-check-cards c =
     let at-settings = c .before .before in
-    let few = settings-few _ _ _ _ _ (sym (at-settings .check-settings .ensures) ∙ c .enum-told .given .1) in
-    omega (arith, few)
+    let few = settings-passed _ _ _ _ _ _ (sym (at-settings .check-settings .ensures) ∙ c .enum-told .given .1) in
+    omega (arith, few .1)
 
 check-cards-requires : tie.Need-check-cards-requires
 check-cards-requires c κs = search needs

@@ -1,0 +1,4 @@
+pub mod Again
+pub mod Call
+pub mod Laws
+pub mod Local
