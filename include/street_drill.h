@@ -1,12 +1,14 @@
-/* The street drill forecast: how many streets a sorter learns, reviews and gets right on each day, what that costs in seconds,
- * and how many streets are held in memory; and the cheapest retention. The simulation of fsrs-rs with FSRS-7, bit for bit.
+/* The street drill forecast: how many streets a sorter learns, reviews and gets right on each day, what that costs in
+ * seconds, and how many streets are held in memory; and the cheapest retention. The simulation of fsrs-rs with FSRS-7,
+ * bit for bit.
  *
- * Link libcapi.a, which `rt staticlib capi` writes (x86-64 Linux). examples/forecast.c is a whole program.
+ * Link libcapi.a, which `rt staticlib capi` writes (x86-64 Linux). examples/new_round.c is a whole program.
  *
  * - A list is a pointer and its number of places. A list of no places may be NULL.
- * - A list that a call writes overlaps no other argument. Nothing is kept from call to call, so calls on lists of their own may
- *   run on threads.
- * - Every function takes every value of its arguments; what it cannot use it refuses, or the comment says what it gives.
+ * - A list that a call writes overlaps no other argument. Nothing is kept from call to call, so calls on lists of their
+ * own may run on threads.
+ * - Every function takes every value of its arguments; what it cannot use it refuses, or the comment says what it
+ * gives.
  * - Ratings are 1 again, 2 hard, 3 good, 4 easy. Any NaN is as good as another.
  * - The promises hold in the default float modes (to nearest, subnormals kept): see drill_float_modes_ok. */
 #ifndef STREET_DRILL_H
@@ -22,8 +24,8 @@ extern "C" {
 
 /* ==== refusals: what drill_simulate and drill_optimal_retention answer
  *
- * Tests are made in the order 1, 2, 3, 4, 6, 2, 5. Refused by 1 to 6, a call has changed no list. Refused by 7 or 8, a run leaves
- * every list as after its last whole turn, or as set up. */
+ * Tests are made in the order 1, 2, 3, 4, 6, 2, 5. Refused by 1 to 6, a call has changed no list. Refused by 7 or 8, a
+ * run leaves every list as after its last whole turn, or as set up. */
 enum drill_refusal {
     DRILL_OK = 0,
     /* under 34 parameters, or one of the first 34 is not finite; second: 34 if too few, else the first such index */
@@ -32,23 +34,25 @@ enum drill_refusal {
     DRILL_DECK_SIZE_REFUSED = 2,
     /* learn_span is not 1 to DRILL_MOST_DAYS */
     DRILL_LEARN_SPAN_REFUSED = 3,
-    /* a weight or a cost is negative or not finite; the weights of a row add up to 0 or to no finite number; max_cost_perday is
-     * a NaN; max_ivl is not 1 to 36500; the retention is not finite; the rounds of a search are not 1 to 64 */
+    /* a weight or a cost is negative or not finite; the weights of a row add up to 0 or to no finite number;
+     * max_cost_perday is a NaN; max_ivl is not 1 to 36500; the retention is not finite; the rounds of a search are not
+     * 1 to 64 */
     DRILL_CONFIG_REFUSED = 4,
-    /* a card that has a memory state (stability above 1e-9): stability, due or desired_retention is not finite; last_date is a
-     * NaN; due or last_date is beyond 16777216 either way (last_date may be -INFINITY); difficulty is not finite though there is
-     * a last_date; lapses are above 4000000000; second: the first such card's place among the existing ones, from 0 */
+    /* a card that has a memory state (stability above 1e-9): stability, due or desired_retention is not finite;
+     * last_date is a NaN; due or last_date is beyond 16777216 either way (last_date may be -INFINITY); difficulty is
+     * not finite though there is a last_date; lapses are above 4000000000; second: the first such card's place among
+     * the existing ones, from 0 */
     DRILL_CARD_REFUSED = 5,
     /* a list is too short, or not as long as the one beside it; list says which (enum drill_list) */
     DRILL_LISTS_REFUSED = 6,
     /* in the run: a chance of recall is a NaN or not 0 to 1; second: the card, a place in the list cards */
     DRILL_CHANCE_REFUSED = 7,
-    /* in the run: an interval is to be entered and the interval table is full; second: the card. Call again with a longer table:
-     * whatever length ends Ok, the forecast is the same */
+    /* in the run: an interval is to be entered and the interval table is full; second: the card. Call again with a
+     * longer table: whatever length ends Ok, the forecast is the same */
     DRILL_TABLE_FULL = 8,
     /* in the run: a due count would fall below 0; it is proved that no run answers this */
     DRILL_DUE_REFUSED = 9,
-    /* in a search: the rounds are used up, or the retention found is not within 0.70 to 0.95; second: the rounds done */
+    /* in a search: the rounds are used up, or the answer is not within 0.70 to 0.95; second: the rounds done */
     DRILL_NOT_FOUND = 10
 };
 
@@ -77,22 +81,23 @@ enum drill_list {
 
 /* SimulatorConfig of fsrs-rs. Rows of four are for the ratings 1 to 4, of three for 2 to 4. */
 struct drill_config {
-    uint32_t deck_size;  /* streets, 1 to DRILL_MOST_CARDS, the existing ones among them */
-    uint32_t learn_span; /* days, 1 to DRILL_MOST_DAYS */
-    float max_cost_perday; /* seconds after which a day begins nothing more; INFINITY: no limit */
-    float max_ivl;         /* the longest interval in days, 1 to 36500 */
-    float first_rating_prob[4];  /* weights of the first rating */
-    float review_rating_prob[3]; /* weights of hard, good and easy where a street is recalled */
-    uint32_t learn_limit;  /* most learnings a day, or DRILL_NO_LIMIT */
-    uint32_t review_limit; /* most reviews a day, or DRILL_NO_LIMIT */
+    uint32_t deck_size;                 /* streets, 1 to DRILL_MOST_CARDS, the existing ones among them */
+    uint32_t learn_span;                /* days, 1 to DRILL_MOST_DAYS */
+    float max_cost_perday;              /* seconds after which a day begins nothing more; INFINITY: no limit */
+    float max_ivl;                      /* the longest interval in days, 1 to 36500 */
+    float first_rating_prob[4];         /* weights of the first rating */
+    float review_rating_prob[3];        /* weights of hard, good and easy where a street is recalled */
+    uint32_t learn_limit;               /* most learnings a day, or DRILL_NO_LIMIT */
+    uint32_t review_limit;              /* most reviews a day, or DRILL_NO_LIMIT */
     bool new_cards_ignore_review_limit; /* false: learnings count against review_limit too */
-    uint32_t suspend_after_lapses; /* a card with so many lapses is retired: 0 retires every card at its first turn; DRILL_NO_LIMIT
-                                      none */
-    float learning_step_transitions[3][4];   /* weights of the next rating in the learning steps, by the rating before: 1 to 3 */
-    float relearning_step_transitions[3][4]; /* and in the relearning steps */
-    float state_rating_costs[3][4]; /* seconds by learning, review, relearning and by rating */
-    uint32_t learning_step_count;
-    uint32_t relearning_step_count;
+    /* a card with so many lapses is retired: 0 retires every card at its first turn, DRILL_NO_LIMIT none */
+    uint32_t suspend_after_lapses;
+    /* weights of the next rating in the learning and the relearning steps, by the rating before: 1 to 3 */
+    float learning_step_transitions[3][4];
+    float relearning_step_transitions[3][4];
+    float state_rating_costs[3][4]; /* seconds by learning, review and relearning, and by rating */
+    uint32_t learning_step_count;   /* most steps after a learning's first rating; five at most are taken */
+    uint32_t relearning_step_count; /* and after a lapse */
 };
 
 /* a card's memory and dates; days are counted from the first of the span */
@@ -139,18 +144,18 @@ struct drill_answer {
     uint64_t draws;   /* the generator's state: the seed of a run that goes on from here */
 };
 
-/* A run. cards, counts, queue, days, costs, memorized and due may hold anything before; keys and intervals are emptied first.
- * After it cards and counts are the updated deck (card states of new streets too), days, costs (seconds) and memorized (the sum of
- * the cards' chances of recall) have a place for each day, due for each day that is counted. What lies behind a list's needed
- * length stays as it was. 16384 places for the interval table serve most years. */
-struct drill_answer drill_simulate(const float *parameters, size_t parameters_len, const struct drill_card_state *existing_cards,
-                                   size_t existing_cards_len, const struct drill_card_counts *existing_counts,
-                                   size_t existing_counts_len, struct drill_config config, float desired_retention, uint64_t seed,
-                                   struct drill_card_state *cards, size_t cards_len, struct drill_card_counts *counts,
-                                   size_t counts_len, struct drill_queue_row *queue, size_t queue_len, struct drill_day *days,
-                                   size_t days_len, float *costs, size_t costs_len, float *memorized, size_t memorized_len,
-                                   uint32_t *due, size_t due_len, struct drill_interval_key *keys, size_t keys_len,
-                                   float *intervals, size_t intervals_len);
+/* A run. The lists that it writes may hold anything before; the interval table (keys and intervals) is emptied first.
+ * After it cards and counts are the updated deck, new streets too; days, costs (seconds) and memorized (the sum of the
+ * cards' chances of recall) have a place for each day, due one for each day that is counted. What lies behind a list's
+ * needed length stays as it was. 32768 places of the interval table serve where all cards have one desired retention. */
+struct drill_answer
+drill_simulate(const float *parameters, size_t parameters_len, const struct drill_card_state *existing_cards,
+               size_t existing_cards_len, const struct drill_card_counts *existing_counts, size_t existing_counts_len,
+               struct drill_config config, float desired_retention, uint64_t seed, struct drill_card_state *cards,
+               size_t cards_len, struct drill_card_counts *counts, size_t counts_len, struct drill_queue_row *queue,
+               size_t queue_len, struct drill_day *days, size_t days_len, float *costs, size_t costs_len,
+               float *memorized, size_t memorized_len, uint32_t *due, size_t due_len, struct drill_interval_key *keys,
+               size_t keys_len, float *intervals, size_t intervals_len);
 
 /* ==== the search for the retention from 0.70 to 0.95 at which a run costs least for each card memorized in the end */
 
@@ -158,10 +163,10 @@ struct drill_found {
     uint32_t refusal; /* enum drill_refusal: 1 to 6 at the entry, 7 or 8 where a run was refused, 10 */
     uint32_t second;
     uint32_t list;
-    uint32_t rounds;  /* done; 0 where nothing was found */
-    float retention;  /* 0 where nothing was found */
-    float mean;       /* the seconds it costs for each card memorized: look at it. A NaN or an infinity says that no card was
-                         memorized in a trial, and then the retention means nothing; 0 where nothing was found */
+    uint32_t rounds; /* done; 0 where nothing was found */
+    float retention; /* 0 where nothing was found */
+    float mean; /* the seconds it costs for each card memorized: look at it. A NaN or an infinity says that no card was
+                   memorized in a trial, and then the retention means nothing; 0 where nothing was found */
 };
 
 /* Arguments as of drill_simulate; rounds is 1 to DRILL_MOST_ROUNDS. The lists are left as by the last run. */
@@ -170,9 +175,10 @@ struct drill_found drill_optimal_retention(const float *parameters, size_t param
                                            const struct drill_card_counts *existing_counts, size_t existing_counts_len,
                                            struct drill_config config, uint32_t rounds, struct drill_card_state *cards,
                                            size_t cards_len, struct drill_card_counts *counts, size_t counts_len,
-                                           struct drill_queue_row *queue, size_t queue_len, struct drill_day *days, size_t days_len,
-                                           float *costs, size_t costs_len, float *memorized, size_t memorized_len, uint32_t *due,
-                                           size_t due_len, struct drill_interval_key *keys, size_t keys_len, float *intervals,
+                                           struct drill_queue_row *queue, size_t queue_len, struct drill_day *days,
+                                           size_t days_len, float *costs, size_t costs_len, float *memorized,
+                                           size_t memorized_len, uint32_t *due, size_t due_len,
+                                           struct drill_interval_key *keys, size_t keys_len, float *intervals,
                                            size_t intervals_len);
 
 /* The same search one trial at a time, so that a host may make a trial's runs on threads of its own:
@@ -182,7 +188,8 @@ struct drill_found drill_optimal_retention(const float *parameters, size_t param
  *         s = drill_search_take(s, mean at r);
  *     if (drill_search_answer(s) == DRILL_OK) use s.state.x, the retention, and s.state.fx, its mean;
  *
- * where the mean at r is drill_mean of drill_target over drill_sample_size(span) runs at r, with the seeds 42, 43, .. */
+ * where the mean at r is drill_mean of drill_target over drill_sample_size(span) runs at r, with the seeds 42, 43, ..
+ */
 struct drill_brent {
     float a, b, x, v, w, fx, fv, fw, deltax, rat; /* the Rust's names: x is the best so far, fx its mean */
     uint32_t done;                                /* rounds */
@@ -211,8 +218,8 @@ float drill_mean(const float *targets, size_t targets_len, uint32_t n);
 
 /* ==== the float modes
  *
- * Whether this thread computes in the modes that the promises are for. Another library may have changed them (-ffast-math does),
- * and they are the thread's own: ask on each thread, if in doubt before each call. */
+ * Whether this thread computes in the modes that the promises are for. Another library may have changed them
+ * (-ffast-math does), and they are the thread's own: ask on each thread, if in doubt before each call. */
 static inline bool drill_float_modes_ok(void) {
     volatile float one = 1.0f, half_step = 5.9604645e-8f, least = 1e-45f, small = 1.17549435e-38f;
     volatile float down = one + half_step, up = one + 3 * half_step, minus = -one - half_step;
@@ -232,26 +239,31 @@ float drill_stability_short_term(const float *w, size_t w_len, float stability, 
                                  uint32_t rating);
 /* the chance of recall t days after an event */
 float drill_forgetting_curve(const float *w, size_t w_len, float t, float stability);
-float drill_forgetting_curve_for_state(const float *w, size_t w_len, float t, float stability, float difficulty, float fast);
+float drill_forgetting_curve_for_state(const float *w, size_t w_len, float t, float stability, float difficulty,
+                                       float fast);
 /* the solver's curve, with its derivative */
-float drill_forgetting_curve_and_derivative(const float *w, size_t w_len, float t, float stability, float difficulty, float fast,
-                                            float *derivative);
+float drill_forgetting_curve_and_derivative(const float *w, size_t w_len, float t, float stability, float difficulty,
+                                            float fast, float *derivative);
 /* days until the chance of recall has fallen to the desired one */
 float drill_next_interval(const float *w, size_t w_len, float stability, float desired);
-float drill_next_interval_for_state(const float *w, size_t w_len, float stability, float difficulty, float fast, float desired);
-float drill_next_interval_bisection(const float *w, size_t w_len, float stability, float difficulty, float fast, float desired);
+float drill_next_interval_for_state(const float *w, size_t w_len, float stability, float difficulty, float fast,
+                                    float desired);
+float drill_next_interval_bisection(const float *w, size_t w_len, float stability, float difficulty, float fast,
+                                    float desired);
 /* in whole days from 1 to the largest */
 float drill_scheduled(const float *w, size_t w_len, float stability, float desired, float largest);
 
-/* ==== the interval table: a key beside each interval, a place with an interval below 1 being free. drill_clear empties it; memory
- * of zeros is an empty table too */
+/* ==== the interval table: a key beside each interval, a place with an interval below 1 being free. drill_clear empties
+ * it; memory of zeros is an empty table too */
 void drill_clear(float *intervals, size_t intervals_len);
-/* the interval that is scheduled, from the table or else entered there; a NaN where it is to be entered and the table is full.
- * Clear the table before its first use */
+/* the interval that is scheduled, from the table or else entered there; a NaN where it is to be entered and the table
+ * is full. Clear the table before its first use */
 float drill_scheduled_interval(const float *w, size_t w_len, float stability, float retention, float most,
-                               struct drill_interval_key *keys, size_t keys_len, float *intervals, size_t intervals_len);
+                               struct drill_interval_key *keys, size_t keys_len, float *intervals,
+                               size_t intervals_len);
 /* whether an interval found under a key is one to use */
-bool drill_certifies_rounded_interval(const float *w, size_t w_len, float stability, float retention, float interval, float most);
+bool drill_certifies_rounded_interval(const float *w, size_t w_len, float stability, float retention, float interval,
+                                      float most);
 uint32_t drill_bucket_index(float value, float step);
 uint32_t drill_stability_bucket(float stability);
 uint32_t drill_retention_bucket(float retention);
@@ -269,8 +281,8 @@ void drill_change_front(struct drill_queue_row *rows, size_t rows_len, uint32_t 
 /* ==== draws: SplitMix64; a word is the top half of an output */
 uint64_t drill_next(uint64_t *state);
 uint32_t drill_word(uint64_t output);
-/* the index, from 0, of the weight that the word chooses. It is a rating only after the first of its row is added (1 for four
- * weights, 2 for three), and says nothing for weights that refusal 4 turns away */
+/* the index, from 0, of the weight that the word chooses. It is a rating only after the first of its row is added (1
+ * for four weights, 2 for three), and says nothing for weights that refusal 4 turns away */
 size_t drill_weighted_index(const float *weights, size_t weights_len, uint32_t word);
 bool drill_recalled(float chance, uint32_t word);
 

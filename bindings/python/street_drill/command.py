@@ -8,10 +8,9 @@ import math
 import os
 import sys
 from collections.abc import Sequence
-from concurrent.futures import ProcessPoolExecutor
 from pathlib import Path
 
-from . import course, deck, files, listing, region, runs, settings
+from . import cluster, course, deck, files, listing, region, runs, settings
 from .course import Course
 from .deck import NO_DECK
 from .decimals import shortest
@@ -23,16 +22,16 @@ from .search import Trial, optimal_retention
 
 def _positive(text: str) -> int:
     number = int(text)
-    if number < 1:
+    if not 1 <= number < 2**32:
         raise ValueError
     return number
 
 
-_positive.__name__ = "whole number from 1"
+_positive.__name__ = "whole number from 1 to 4294967295"
 
 
 def _parser() -> argparse.ArgumentParser:
-    parser = argparse.ArgumentParser(prog="street_drill", description="Forecasts a street drill.")
+    parser = argparse.ArgumentParser(prog="python3 -m street_drill", description="Forecasts a street drill.")
     commands = parser.add_subparsers(dest="command", required=True)
     made = argparse.ArgumentParser(add_help=False)
     made.add_argument("--workers", type=_positive, default=os.cpu_count(), help="runs at once (default: all cores)")
@@ -54,6 +53,7 @@ def _parser() -> argparse.ArgumentParser:
     depots = commands.add_parser("region", parents=[made], help="a forecast of each settings file of a folder")
     depots.add_argument("folder", metavar="DIR", help="has NAME.toml for each depot, and NAME.csv where it has a deck")
     depots.add_argument("--open", type=_positive, metavar="STREETS", help="tell the first day that holds so many")
+    depots.add_argument("--scheduler", metavar="ADDRESS", help="HOST:PORT of a Dask cluster for the runs")
     depots.add_argument("--summary", metavar="SUMMARY.csv", default="region.csv", help="a row a depot (region.csv)")
     depots.add_argument("--page", metavar="PAGE.html", default="region.html", help="all as one (region.html)")
     return parser
@@ -72,7 +72,7 @@ def _forecast(options: argparse.Namespace) -> None:
         if options.cards:
             texts[options.cards] = deck.updated(known, made[0].cards, given.config.learn_span)
     if options.rows:
-        _add(texts, options.rows, course.as_csv(*course.table(courses[0])))
+        _add(texts, options.rows, course.as_csv(course.days_table(courses[0])))
     if options.page:
         _add(texts, options.page, page(courses, options.open))
     # The deck may be followed by its next one under the same name.
@@ -118,15 +118,15 @@ def _page(options: argparse.Namespace) -> None:
 
 def _region(options: argparse.Namespace) -> None:
     depots = region.read(options.folder)
-    with ProcessPoolExecutor(min(options.workers, len(depots))) as executor:
+    with cluster.executor(options.scheduler, min(options.workers, len(depots))) as executor:
         made = region.courses(options.folder, depots, executor)
     mistakes = [each for each in made if isinstance(each, Mistake)]
     if mistakes:
         raise Mistakes(mistakes)
-    head, rows = region.rows(made, options.open)
+    depots_table = region.table(made, options.open)
     whole = region.total(made)
-    texts = {options.summary: course.as_csv(head, rows)}
-    _add(texts, options.page, page([whole], tables=[("Depots", head, rows)]))
+    texts = {options.summary: course.as_csv(depots_table)}
+    _add(texts, options.page, page([whole], tables=[depots_table]))
     files.write_all(texts, [path for depot in depots for path in (depot.path, depot.deck_path)])
     sys.stdout.write(course.summary(whole, None))
 

@@ -2,8 +2,8 @@
 
   Course      columns by name, with bands where there were several runs
   of_runs     from forecasts; the first is the course, the others make the band
-  table       a row a day; as_csv: rows as CSV
-  summary     some lines for the terminal
+  days_table  a row a day; as_csv: a table as CSV
+  facts       what a planner asks first; summary: the same for the terminal
 """
 
 import csv
@@ -53,7 +53,8 @@ def percentile(values: Sequence[float], share: float) -> float:
     low = math.floor(place)
     high = min(low + 1, len(values) - 1)
     # Equal ends are told apart first: the difference of two infinities is no number.
-    return values[low] if values[low] == values[high] else values[low] + (place - low) * (values[high] - values[low])
+    step = 0.0 if values[low] == values[high] else (place - low) * (values[high] - values[low])
+    return values[low] + step
 
 
 def _mean(values: Sequence[float]) -> float:
@@ -72,13 +73,12 @@ def of_runs(name: str, forecasts: Sequence[Forecast]) -> Course:
     return Course(name, columns[0], bands, len(forecasts))
 
 
-def _text(value: float) -> str:
-    """Means and percentiles are no f32, and are rounded to one, which is more than they are worth."""
-    return str(value) if isinstance(value, int) else shortest(ctypes.c_float(value).value)
+# A name, a head and rows.
+Table = tuple[str, Sequence[str], Sequence[Sequence[float | str]]]
 
 
-def table(course: Course) -> tuple[list[str], list[list[str]]]:
-    """The head, and a row a day."""
+def days_table(course: Course) -> Table:
+    """A row a day; the columns of a band follow their own."""
     names, columns = ["day"], [range(course.span)]
     for name in COLUMNS:
         if name in course.columns:
@@ -88,20 +88,28 @@ def table(course: Course) -> tuple[list[str], list[list[str]]]:
             band = course.bands[name]
             names += [f"{name}_mean", f"{name}_p10", f"{name}_p90"]
             columns += [band.mean, band.p10, band.p90]
-    return names, [[_text(value) for value in row] for row in zip(*columns)]
+    return course.name, names, list(zip(*columns))
 
 
-def as_csv(head: Sequence[str], rows: Sequence[Sequence[str]]) -> str:
+def _text(value: float | str) -> str:
+    """Means, percentiles and sums are no f32, and are rounded to one, which is more than they are worth."""
+    return shortest(ctypes.c_float(value).value) if isinstance(value, float) else str(value)
+
+
+def as_csv(table: Table) -> str:
+    _, head, rows = table
     out = io.StringIO()
-    csv.writer(out, lineterminator="\n").writerows([head, *rows])
+    csv.writer(out, lineterminator="\n").writerows([head, *([_text(value) for value in row] for row in rows)])
     return out.getvalue()
 
 
 def duration(seconds: float) -> str:
     if not math.isfinite(seconds):
         return "no finite time"
+    if seconds < 59.5:
+        return f"{seconds:.0f} s"
     minutes = round(seconds / 60)
-    return f"{minutes // 60} h {minutes % 60:02} min"
+    return f"{minutes // 60:,} h {minutes % 60:02} min" if minutes >= 60 else f"{minutes} min"
 
 
 def opening(course: Course, streets: int) -> int | None:
@@ -115,16 +123,21 @@ def busiest(course: Course) -> int:
     return max(range(course.span), key=lambda day: (-math.inf if math.isnan(costs[day]) else costs[day], -day))
 
 
-def summary(course: Course, streets: int | None) -> str:
-    """Some lines; days count from 0."""
+def facts(course: Course, streets: int | None) -> list[tuple[str, str]]:
+    """What a planner asks first, each with its label; days count from 0."""
     costs, held = course.columns["cost"], course.columns["memorized"]
     day = busiest(course)
-    lines = [f"{course.name}: {course.span} days, {duration(sum(costs))} in all"]
+    told = [("span", f"{course.span:,} days" if course.span > 1 else "1 day"), ("in all", duration(sum(costs)))]
     if course.bands:
-        lines.append(f"  mean of {course.runs} runs: {duration(sum(course.bands['cost'].mean))} in all")
-    lines.append(f"  busiest day: day {day}, {duration(costs[day])}")
-    lines.append(f"  held on the last day: {held[-1]:.1f} streets of {course.columns['introduced'][-1]} introduced")
+        told.append((f"in all, mean of {course.runs} runs", duration(sum(course.bands["cost"].mean))))
+    told.append(("busiest day", f"day {day}, {duration(costs[day])}"))
+    told.append(("held on the last day", f"{held[-1]:,.1f} of {course.columns['introduced'][-1]:,} introduced"))
     if streets is not None:
         opens = opening(course, streets)
-        lines.append(f"  {streets} streets held: " + ("on no day" if opens is None else f"from day {opens}"))
-    return "\n".join(lines) + "\n"
+        told.append((f"{streets:,} streets held", "on no day" if opens is None else f"from day {opens}"))
+    return told
+
+
+def summary(course: Course, streets: int | None) -> str:
+    """Some lines for the terminal."""
+    return "".join([f"{course.name}\n", *(f"  {label}: {value}\n" for label, value in facts(course, streets))])

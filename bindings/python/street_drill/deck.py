@@ -5,14 +5,14 @@ import ctypes
 import io
 import math
 from collections.abc import Iterator, Sequence
-from dataclasses import dataclass
+from dataclasses import dataclass, replace
 
 from . import files
 from .decimals import exact, nearest, shortest
 from .errors import Mistake
-from .model import Card
+from .model import CARD_COUNTS, CARD_FLOATS, Card
 
-_FLOATS = Card._fields[:6]
+_FIELDS = CARD_FLOATS + CARD_COUNTS
 # The run keeps an existing card only where its stability is above this f32; the others' streets are new ones.
 _KEPT_ABOVE = ctypes.c_float(1e-9).value
 
@@ -28,7 +28,7 @@ class Deck:
     cards: tuple[Card, ...]
 
 
-NO_DECK = Deck("", Card._fields, (), (), ())
+NO_DECK = Deck("", _FIELDS, (), (), ())
 
 
 def _records(path: str, text: str) -> Iterator[tuple[int, list[str]]]:
@@ -45,7 +45,7 @@ def _records(path: str, text: str) -> Iterator[tuple[int, list[str]]]:
 
 
 def _check_head(path: str, line: int, head: Sequence[str]) -> None:
-    for name in Card._fields:
+    for name in _FIELDS:
         if head.count(name) != 1:
             how = "is missing in the head" if name not in head else "stands twice in the head"
             raise Mistake(f"{path}: line {line}", f"column {name} {how}")
@@ -53,7 +53,7 @@ def _check_head(path: str, line: int, head: Sequence[str]) -> None:
 
 def _value(name: str, text: str) -> float:
     text = text.strip(" \t")
-    if name in _FLOATS:
+    if name in CARD_FLOATS:
         return nearest(exact(text))
     if not (text.isascii() and text.isdigit()):
         raise ValueError("is no whole number")
@@ -68,7 +68,7 @@ def _card(path: str, line: int, head: Sequence[str], record: Sequence[str]) -> C
         raise Mistake(f"{path}: line {line}", f"has {len(record)} columns, and the head has {len(head)}")
     values = {}
     for number, (name, text) in enumerate(zip(head, record), start=1):
-        if name in Card._fields:
+        if name in _FIELDS:
             try:
                 values[name] = _value(name, text)
             except ValueError as error:
@@ -100,7 +100,8 @@ def _later(day: float, span: int) -> float:
 
 
 def _row(head: Sequence[str], row: Sequence[str], card: Card) -> list[str]:
-    texts = {name: shortest(value) if name in _FLOATS else str(value) for name, value in card._asdict().items()}
+    texts = {name: shortest(getattr(card, name)) for name in CARD_FLOATS}
+    texts |= {name: str(getattr(card, name)) for name in CARD_COUNTS}
     return [texts.get(name, other) for name, other in zip(head, row)]
 
 
@@ -117,7 +118,7 @@ def updated(deck: Deck, cards: Sequence[Card], span: int) -> str:
     writer = csv.writer(out, lineterminator="\n")
     writer.writerow(deck.head)
     for place, card in enumerate(cards):
-        later = card._replace(last_date=_later(card.last_date, span), due=_later(card.due, span))
+        later = replace(card, last_date=_later(card.last_date, span), due=_later(card.due, span))
         writer.writerow(_row(deck.head, rows[place] if place < len(rows) else nothing, later))
     writer.writerows(rows[len(cards) :])
     return out.getvalue()

@@ -2,9 +2,10 @@
 
 A foreign call lets Python's other threads run, so runs with lists of their own may be made side by side.
 
+  Config      the configuration
   Inputs      what a run only reads
   Lists       what a run writes, sized for its inputs
-  Answer      the numbers that a run answers
+  Answer      what a run answers; Found: what a search does
   simulate    a run; optimal_retention: a whole search
   Search      a search one trial at a time; sample_size, target, mean: what a trial is made of
 """
@@ -14,24 +15,73 @@ import functools
 import os
 from array import array
 from collections.abc import Sequence
-from dataclasses import dataclass
 from pathlib import Path
-from typing import NamedTuple
 
 MOST_CARDS = 65_536
 MOST_DAYS = 36_500
 
+_ROWS = ctypes.c_float * 4 * 3
+
+
+class Config(ctypes.Structure):
+    """`struct drill_config`."""
+
+    _fields_ = [
+        ("deck_size", ctypes.c_uint32),
+        ("learn_span", ctypes.c_uint32),
+        ("max_cost_perday", ctypes.c_float),
+        ("max_ivl", ctypes.c_float),
+        ("first_rating_prob", ctypes.c_float * 4),
+        ("review_rating_prob", ctypes.c_float * 3),
+        ("learn_limit", ctypes.c_uint32),
+        ("review_limit", ctypes.c_uint32),
+        ("new_cards_ignore_review_limit", ctypes.c_bool),
+        ("suspend_after_lapses", ctypes.c_uint32),
+        ("learning_step_transitions", _ROWS),
+        ("relearning_step_transitions", _ROWS),
+        ("state_rating_costs", _ROWS),
+        ("learning_step_count", ctypes.c_uint32),
+        ("relearning_step_count", ctypes.c_uint32),
+    ]
+
+
+class Answer(ctypes.Structure):
+    """`struct drill_answer`: the refusal is 0 where the run ended."""
+
+    _fields_ = [*((name, ctypes.c_uint32) for name in ("refusal", "second", "list", "turns", "cards", "queued")),
+                ("draws", ctypes.c_uint64)]
+
+
+class Found(ctypes.Structure):
+    """`struct drill_found`: the refusal is 0 where a retention was found."""
+
+    _fields_ = [*((name, ctypes.c_uint32) for name in ("refusal", "second", "list", "rounds")),
+                ("retention", ctypes.c_float), ("mean", ctypes.c_float)]
+
+
+class _Brent(ctypes.Structure):
+    """`struct drill_brent`: x is the best retention so far, fx its mean."""
+
+    _fields_ = [*((name, ctypes.c_float) for name in ("a", "b", "x", "v", "w", "fx", "fv", "fw", "deltax", "rat")),
+                ("done", ctypes.c_uint32)]
+
+
+class _Search(ctypes.Structure):
+    """`struct drill_search`."""
+
+    _fields_ = [("begun", ctypes.c_bool), ("rounds", ctypes.c_uint32), ("state", _Brent)]
+
+
 _LIST = [ctypes.c_void_p, ctypes.c_size_t]
-_CONFIG = [*_LIST * 3, ctypes.c_void_p, ctypes.c_float, ctypes.c_float, *[ctypes.c_void_p] * 5]
+_READ = [*_LIST * 3, Config]
 _WRITTEN = _LIST * 9
-_STATE = [ctypes.c_void_p, ctypes.c_void_p]
 _SIGNATURES = {
-    "drill_simulate": (None, [*_CONFIG, ctypes.c_float, ctypes.c_uint64, *_WRITTEN, ctypes.c_void_p]),
-    "drill_optimal_retention": (None, [*_CONFIG, ctypes.c_uint32, *_WRITTEN, ctypes.c_void_p, ctypes.c_void_p]),
-    "drill_search_start": (None, [ctypes.c_uint32, *_STATE]),
-    "drill_search_next": (ctypes.c_float, _STATE),
-    "drill_search_take": (None, [ctypes.c_float, *_STATE]),
-    "drill_search_answer": (ctypes.c_uint32, _STATE),
+    "drill_simulate": (Answer, [*_READ, ctypes.c_float, ctypes.c_uint64, *_WRITTEN]),
+    "drill_optimal_retention": (Found, [*_READ, ctypes.c_uint32, *_WRITTEN]),
+    "drill_search_start": (_Search, [ctypes.c_uint32]),
+    "drill_search_next": (ctypes.c_float, [_Search]),
+    "drill_search_take": (_Search, [_Search, ctypes.c_float]),
+    "drill_search_answer": (ctypes.c_uint32, [_Search]),
     "drill_sample_size": (ctypes.c_uint32, [ctypes.c_uint32]),
     "drill_target": (ctypes.c_float, [ctypes.c_uint32, *_LIST, *_LIST]),
     "drill_mean": (ctypes.c_float, [*_LIST, ctypes.c_uint32]),
@@ -55,46 +105,39 @@ def _library() -> ctypes.CDLL:
     return library
 
 
+def check_float_modes() -> None:
+    """The library's promises are for a thread that rounds to nearest and keeps subnormals; others raise RuntimeError.
+
+    An extension that was built with -ffast-math may have changed its thread's modes.
+    """
+    one, half_step, least, small = 1.0, 2.0**-53, 5e-324, 2.0**-1022
+    to_nearest = one + half_step == one and one + 3 * half_step == one + 4 * half_step
+    if not (to_nearest and least * one > 0 and small / 2 > 0):
+        raise RuntimeError("this thread's float modes are not the default ones")
+
+
 def _zeros(kind: str, places: int) -> array:
-    # The pointer of an empty list must not be null, and that of an empty array is.
-    return array(kind, bytes(array(kind).itemsize * max(places, 1)))
+    return array(kind, bytes(array(kind).itemsize * places))
 
 
-def _lent(places: array, row: int = 1, length: int | None = None) -> tuple[int, int]:
+def _lent(places: array, row: int = 1) -> tuple[int, int]:
     """A list's pointer and its number of rows."""
-    return places.buffer_info()[0], len(places) // row if length is None else length
-
-
-def _pointer(places: array) -> int:
-    return places.buffer_info()[0]
+    return places.buffer_info()[0], len(places) // row
 
 
 class Inputs:
-    """What a run only reads, as lists of numbers: floats are rounded to f32 here.
-
-    numbers: deck_size, learn_span, learn_limit, review_limit, new_cards_ignore_review_limit, suspend_after_lapses,
-    learning_step_count, relearning_step_count. tables: first_rating_prob, review_rating_prob,
-    learning_step_transitions, relearning_step_transitions, state_rating_costs, each row by row. cards: six floats each;
-    counts: two each.
-    """
+    """What a run only reads; floats are rounded to f32 here. Cards are six floats each, counts two numbers."""
 
     def __init__(self, parameters: Sequence[float], cards: Sequence[float], counts: Sequence[int],
-                 numbers: Sequence[int], max_cost_perday: float, max_ivl: float,
-                 tables: Sequence[Sequence[float]]) -> None:
-        self._lengths = len(parameters), len(cards) // 6, len(counts) // 2
-        self._parameters = array("f", parameters or [0.0])
-        self._cards = array("f", cards or [0.0])
-        self._counts = array("I", counts or [0])
-        self._numbers = array("I", numbers)
-        self._amounts = max_cost_perday, max_ivl
-        self._tables = [array("f", table) for table in tables]
-        self.deck_size, self.learn_span = numbers[:2]
+                 config: Config) -> None:
+        self._parameters = array("f", parameters)
+        self._cards = array("f", cards)
+        self._counts = array("I", counts)
+        self._config = config
+        self.deck_size, self.learn_span = config.deck_size, config.learn_span
 
-    def _arguments(self) -> list[float]:
-        parameters, cards, counts = self._lengths
-        return [*_lent(self._parameters, length=parameters), *_lent(self._cards, length=cards),
-                *_lent(self._counts, length=counts), _pointer(self._numbers), *self._amounts,
-                *map(_pointer, self._tables)]
+    def _arguments(self) -> list:
+        return [*_lent(self._parameters), *_lent(self._cards, 6), *_lent(self._counts, 2), self._config]
 
 
 class Lists:
@@ -111,71 +154,41 @@ class Lists:
         self.due = _zeros("I", span + span // 2)
         self._keys = _zeros("I", table * 2)
         self._intervals = _zeros("f", table)
-        self._table = table
 
     def _arguments(self) -> list[int]:
         return [*_lent(self.cards, 6), *_lent(self.counts, 2), *_lent(self._queue, 2), *_lent(self.days, 4),
-                *_lent(self.costs), *_lent(self.memorized), *_lent(self.due),
-                *_lent(self._keys, length=self._table), *_lent(self._intervals, length=self._table)]
-
-
-class Answer(NamedTuple):
-    """number is the refusal's, 0 where the run ended."""
-
-    number: int
-    second: int
-    turns: int
-    cards: int
-    draws: int
+                *_lent(self.costs), *_lent(self.memorized), *_lent(self.due), *_lent(self._keys, 2),
+                *_lent(self._intervals)]
 
 
 def simulate(inputs: Inputs, desired_retention: float, seed: int, lists: Lists) -> Answer:
-    answer = _zeros("Q", 5)
-    _library().drill_simulate(*inputs._arguments(), desired_retention, seed, *lists._arguments(), _pointer(answer))
-    return Answer(*answer)
-
-
-@dataclass(frozen=True)
-class Found:
-    """number is the refusal's, 0 where a retention was found."""
-
-    number: int
-    second: int
-    rounds: int
-    retention: float
-    mean: float
+    check_float_modes()
+    return _library().drill_simulate(*inputs._arguments(), desired_retention, seed, *lists._arguments())
 
 
 def optimal_retention(inputs: Inputs, rounds: int, lists: Lists) -> Found:
     """The whole search in one call, on one thread."""
-    answer, found = _zeros("I", 3), _zeros("f", 2)
-    _library().drill_optimal_retention(*inputs._arguments(), rounds, *lists._arguments(),
-                                       _pointer(answer), _pointer(found))
-    return Found(*answer, *found)
+    check_float_modes()
+    return _library().drill_optimal_retention(*inputs._arguments(), rounds, *lists._arguments())
 
 
 class Search:
     """A search's state between its trials."""
 
     def __init__(self, rounds: int) -> None:
-        self._floats, self._counts = _zeros("f", 10), _zeros("I", 3)
-        _library().drill_search_start(rounds, *self._state())
-
-    def _state(self) -> tuple[int, int]:
-        return _pointer(self._floats), _pointer(self._counts)
+        self._search = _library().drill_search_start(rounds)
 
     def next_retention(self) -> float:
         """The retention to try, a NaN where there is none."""
-        return _library().drill_search_next(*self._state())
+        return _library().drill_search_next(self._search)
 
     def take_mean(self, mean: float) -> None:
-        _library().drill_search_take(mean, *self._state())
+        self._search = _library().drill_search_take(self._search, mean)
 
     def answer(self) -> Found:
-        number = _library().drill_search_answer(*self._state())
-        rounds = self._counts[0]
-        # The third and the sixth of the floats are the best retention so far and its mean.
-        return Found(number, rounds, rounds, self._floats[2], self._floats[5])
+        state = self._search.state
+        refusal = _library().drill_search_answer(self._search)
+        return Found(refusal, state.done, 0, state.done, state.x, state.fx)
 
 
 def sample_size(span: int) -> int:

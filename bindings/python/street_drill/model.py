@@ -7,8 +7,9 @@
 """
 
 from collections.abc import Iterable, Sequence
-from dataclasses import dataclass
-from typing import NamedTuple
+from dataclasses import dataclass, fields
+from operator import attrgetter
+from typing import Any
 
 from . import library
 from .errors import Refusal
@@ -54,7 +55,8 @@ class SimulatorConfig:
     relearning_step_count: int = 1
 
 
-class Card(NamedTuple):
+@dataclass(frozen=True, slots=True)
+class Card:
     """A street. Days count from the forecast's first, which is 0; `last_date` is -inf before the first drill."""
 
     difficulty: float
@@ -67,7 +69,12 @@ class Card(NamedTuple):
     lapses: int
 
 
-class Day(NamedTuple):
+CARD_FLOATS = ("difficulty", "stability", "last_date", "due", "interval", "desired_retention")
+CARD_COUNTS = ("reps", "lapses")
+
+
+@dataclass(frozen=True, slots=True)
+class Day:
     """A day's row: counts, the cards introduced so far, seconds, and the cards held in memory."""
 
     learned: int
@@ -95,38 +102,33 @@ def _whole(name: str, value: int, bits: int) -> int:
     return value
 
 
-def _flat(name: str, table: Iterable[Sequence[float]], rows: int, columns: int) -> list[float]:
-    rows_given = [list(row) for row in table]
-    if [len(row) for row in rows_given] != [columns] * rows:
-        raise ValueError(f"{name} must have {rows} rows of {columns} numbers")
-    return [value for row in rows_given for value in row]
+def _like(name: str, value: Any, default: Any) -> Any:
+    """A setting as the library takes it: of as many entries as the default, and a whole number where that is one."""
+    if isinstance(default, tuple):
+        if len(value) != len(default):
+            raise ValueError(f"{name} has {len(value)} entries, and must have {len(default)}")
+        return tuple(_like(name, entry, default[0]) for entry in value)
+    return _whole(name, value, 32) if type(default) is int else value
 
 
 def _inputs(config: SimulatorConfig, parameters: Sequence[float], cards: Sequence[Card]) -> library.Inputs:
-    names = ["deck_size", "learn_span", "learn_limit", "review_limit", "new_cards_ignore_review_limit",
-             "suspend_after_lapses", "learning_step_count", "relearning_step_count"]
-    tables = [_flat("first_rating_prob", [config.first_rating_prob], 1, 4),
-              _flat("review_rating_prob", [config.review_rating_prob], 1, 3),
-              _flat("learning_step_transitions", config.learning_step_transitions, 3, 4),
-              _flat("relearning_step_transitions", config.relearning_step_transitions, 3, 4),
-              _flat("state_rating_costs", config.state_rating_costs, 3, 4)]
-    counts = [_whole(name, getattr(card, name), 32) for card in cards for name in ("reps", "lapses")]
-    return library.Inputs(list(parameters), [value for card in cards for value in card[:6]], counts,
-                          [_whole(name, getattr(config, name), 32) for name in names],
-                          config.max_cost_perday, config.max_ivl, tables)
+    settings = {field.name: _like(field.name, getattr(config, field.name), field.default) for field in fields(config)}
+    floats = [value for card in cards for value in attrgetter(*CARD_FLOATS)(card)]
+    counts = [_whole(name, getattr(card, name), 32) for card in cards for name in CARD_COUNTS]
+    return library.Inputs(parameters, floats, counts, library.Config(**settings))
 
 
 def _rows(flat: Sequence, width: int, count: int) -> Iterable[Sequence]:
     return (flat[place : place + width] for place in range(0, width * count, width))
 
 
-def _forecast(span: int, answer: library.Answer, lists: library.Lists) -> Forecast:
+def _forecast(span: int, answer: library.Answer, lists: library.Lists, cards: int) -> Forecast:
     rows = zip(_rows(lists.days, 4, span), lists.costs, lists.memorized)
-    cards = zip(_rows(lists.cards, 6, answer.cards), _rows(lists.counts, 2, answer.cards))
+    kept = zip(_rows(lists.cards, 6, cards), _rows(lists.counts, 2, cards))
     return Forecast(
         rows=tuple(Day(*counts, cost, memorized) for counts, cost, memorized in rows),
         due=tuple(lists.due),
-        cards=tuple(Card(*floats, *counts) for floats, counts in cards),
+        cards=tuple(Card(*floats, *counts) for floats, counts in kept),
         turns=answer.turns,
         draws=answer.draws,
     )
@@ -146,17 +148,18 @@ class Runner:
         while True:
             lists = library.Lists(self.inputs, table)
             answer = library.simulate(self.inputs, desired_retention, _whole("seed", seed, 64), lists)
-            if answer.number != 8 or table >= MOST_TABLE:
+            if answer.refusal != 8 or table >= MOST_TABLE:
                 break
             table = min(max(4 * table, FIRST_TABLE), MOST_TABLE)
             self._table = max(self._table, table)
-        if answer.number != 0:
-            raise Refusal(answer.number, answer.second)
+        if answer.refusal != 0:
+            raise Refusal(answer.refusal, answer.second)
         return answer, lists
 
-    def forecast(self, desired_retention: float, seed: int) -> Forecast:
+    def forecast(self, desired_retention: float, seed: int, with_cards: bool = True) -> Forecast:
+        """Without its cards where they are not asked for: while Python makes them, other threads wait."""
         answer, lists = self._run(desired_retention, seed)
-        return _forecast(self.inputs.learn_span, answer, lists)
+        return _forecast(self.inputs.learn_span, answer, lists, answer.cards if with_cards else 0)
 
     def target(self, desired_retention: float, seed: int) -> float:
         """What the run costs for each card memorized on its last day."""

@@ -3,10 +3,9 @@
   read      the folder's files
   courses   the forecast of each, on several processes
   total     all depots as one course
-  rows      a row a depot
+  table     a row a depot
 """
 
-import ctypes
 import math
 from collections.abc import Sequence
 from concurrent.futures import BrokenExecutor, Executor
@@ -14,8 +13,7 @@ from dataclasses import dataclass
 from pathlib import Path
 
 from . import course, deck, files, runs, settings
-from .course import COLUMNS, Course
-from .decimals import shortest
+from .course import COLUMNS, Course, Table
 from .errors import Mistake
 
 
@@ -59,33 +57,41 @@ def courses(folder: str, depots: Sequence[Depot], executor: Executor) -> list[Co
         raise Mistake(folder, "a worker ended before its forecast") from error
 
 
+# What a depot has when its span is over, and keeps in the region's sum.
+_KEPT = ("introduced", "memorized")
+
+
+def _on(depot: Course, column: str, day: int) -> float:
+    if day < depot.span:
+        return depot.columns[column][day]
+    return depot.columns[column][-1] if column in _KEPT else 0
+
+
 def total(depots: Sequence[Course]) -> Course:
-    """Each day's sum over the depots whose span has that day."""
-    days = max(depot.span for depot in depots)
-
-    def sums(column: str) -> tuple[float, ...]:
-        values = [[depot.columns[column][day] for depot in depots if day < depot.span] for day in range(days)]
-        # Counts stay whole numbers; fsum rounds once, whatever the order.
-        return tuple(sum(day) if all(isinstance(value, int) for value in day) else _sum(day) for day in values)
-
-    return Course(f"region of {len(depots)} depots", {column: sums(column) for column in COLUMNS}, {})
+    """Each day's sum over the depots."""
+    days = range(max(depot.span for depot in depots))
+    sums = {column: tuple(_sum([_on(depot, column, day) for depot in depots]) for day in days) for column in COLUMNS}
+    return Course(f"region of {len(depots)} depots", sums, {})
 
 
 def _sum(values: Sequence[float]) -> float:
+    """Counts stay whole numbers; fsum rounds once, whatever the order."""
+    if all(isinstance(value, int) for value in values):
+        return sum(values)
     return math.fsum(values) if all(map(math.isfinite, values)) else sum(values)
 
 
-def rows(depots: Sequence[Course], streets: int | None) -> tuple[list[str], list[list[str]]]:
-    """The head, and a row a depot; `opens` is empty where so many streets are held on no day."""
+def table(depots: Sequence[Course], streets: int | None) -> Table:
+    """A row a depot; `opens` is empty where so many streets are held on no day."""
     head = ["depot", "days", "seconds", "busiest_day", "busiest_seconds", "introduced", "memorized"]
-    return [*head, "opens"] if streets else head, [_row(depot, streets) for depot in depots]
+    return "Depots", [*head, "opens"] if streets else head, [_row(depot, streets) for depot in depots]
 
 
-def _row(depot: Course, streets: int | None) -> list[str]:
+def _row(depot: Course, streets: int | None) -> list[float | str]:
     costs, busiest = depot.columns["cost"], course.busiest(depot)
-    row = [depot.name, str(depot.span), shortest(ctypes.c_float(_sum(costs)).value), str(busiest),
-           shortest(costs[busiest]), str(depot.columns["introduced"][-1]), shortest(depot.columns["memorized"][-1])]
+    row = [depot.name, depot.span, _sum(costs), busiest, costs[busiest],
+           depot.columns["introduced"][-1], depot.columns["memorized"][-1]]
     if streets is None:
         return row
     day = course.opening(depot, streets)
-    return [*row, "" if day is None else str(day)]
+    return [*row, "" if day is None else day]

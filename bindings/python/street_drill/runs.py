@@ -1,7 +1,6 @@
 """Forecasts of settings and a deck for one or more seeds, with refusals told by their place in the planner's files."""
 
 from concurrent.futures import ThreadPoolExecutor
-from dataclasses import replace
 
 from .config_check import wrong_setting
 from .deck import Deck
@@ -23,8 +22,7 @@ def forecasts(given: Settings, known: Deck, runs: int, workers: int) -> list[For
     runner = Runner(given.config, given.parameters, known.cards)
 
     def forecast(number: int) -> Forecast:
-        made = runner.forecast(given.desired_retention, (given.seed + number) % 2**64)
-        return made if number == 0 else replace(made, cards=())
+        return runner.forecast(given.desired_retention, (given.seed + number) % 2**64, with_cards=number == 0)
 
     try:
         # A refusal at the entry is the same for every seed, so the first run goes before the threads.

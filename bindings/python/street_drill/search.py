@@ -44,8 +44,8 @@ def _trial_mean(runner: Runner, retention: float, threads: ThreadPoolExecutor) -
 
 
 def _optimum(found: library.Found) -> Optimum:
-    if found.number != 0:
-        raise Refusal(found.number, found.second)
+    if found.refusal != 0:
+        raise Refusal(found.refusal, found.second)
     return Optimum(found.retention, found.mean, found.rounds)
 
 

@@ -10,6 +10,7 @@ import sys
 import tempfile
 import unittest
 import unittest.mock
+from dataclasses import asdict
 from pathlib import Path
 
 from street_drill import settings, simulate
@@ -51,8 +52,7 @@ class Command(unittest.TestCase):
         forecast = self.forecast(7)
         for number, (row, day) in enumerate(zip(rows_of(rows), forecast.rows, strict=True)):
             self.assertEqual(int(row["day"]), number)
-            self.assertEqual([int(row[name]) for name in day._fields[:4]], list(day[:4]))
-            self.assertEqual([nearest(exact(row[name])) for name in day._fields[4:]], list(day[4:]))
+            self.assertEqual({name: nearest(exact(row[name])) for name in asdict(day)}, asdict(day))
             self.assertEqual(int(row["due"]), forecast.due[number])
 
     def test_runs(self) -> None:

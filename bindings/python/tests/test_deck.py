@@ -2,9 +2,11 @@
 
 import math
 import unittest
+from dataclasses import fields, replace
 
 from street_drill import Card, Mistake, SimulatorConfig, simulate
 from street_drill.deck import NO_DECK, of_text, updated
+from street_drill.decimals import exact, nearest
 
 from .common import PARAMETERS
 
@@ -25,7 +27,7 @@ class Reading(unittest.TestCase):
     def test_cards(self) -> None:
         deck = of_text("d.csv", HEAD + "\n" + UNKNOWN + ROW)
         self.assertEqual(deck.lines, (3, 4))
-        self.assertEqual(deck.cards[1][:5] + deck.cards[1][6:], (5.0, 3.5, -2.0, 1.0, 3.0, 4, 1))
+        self.assertEqual(deck.cards[1], Card(5.0, 3.5, -2.0, 1.0, 3.0, nearest(exact("0.9")), 4, 1))
         self.assertEqual(deck.cards[0].stability, -math.inf)
 
     def test_places(self) -> None:
@@ -52,7 +54,7 @@ class Updated(unittest.TestCase):
         after = of_text("d.csv", updated(deck, forecast.cards, 20))
         self.assertEqual([row[0] for row in after.rows], ["Mill Lane", "New, Street", "", ""])
         for card, later in zip(forecast.cards, after.cards, strict=True):
-            self.assertEqual(later, card._replace(last_date=card.last_date - 20, due=card.due - 20))
+            self.assertEqual(later, replace(card, last_date=card.last_date - 20, due=card.due - 20))
 
     def test_no_new_card(self) -> None:
         deck = of_text("d.csv", HEAD + UNKNOWN + ROW)
@@ -64,5 +66,5 @@ class Updated(unittest.TestCase):
     def test_without_a_deck(self) -> None:
         forecast = simulate(SimulatorConfig(deck_size=3, learn_span=5), PARAMETERS)
         text = updated(NO_DECK, forecast.cards, 5)
-        self.assertEqual(text.splitlines()[0], ",".join(Card._fields))
+        self.assertEqual(text.splitlines()[0], ",".join(field.name for field in fields(Card)))
         self.assertEqual(len(of_text("d.csv", text).cards), 3)

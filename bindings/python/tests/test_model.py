@@ -1,9 +1,10 @@
 """Runs and searches by names, beside the proved programs."""
 
+import ctypes
 import math
 import re
 import unittest
-from dataclasses import replace
+from dataclasses import astuple, replace
 
 from street_drill import Card, Refusal, SimulatorConfig, library, optimal_retention, simulate
 from street_drill.model import Runner
@@ -30,7 +31,8 @@ class Runs(unittest.TestCase):
         forecast = simulate(ROUND, PARAMETERS, seed=7)
         self.assertEqual(lines[0], f"(forecast 30 (turns {forecast.turns}) (cards {len(forecast.cards)}))")
         for number, (line, day) in enumerate(zip(lines[1:], forecast.rows, strict=True)):
-            words = [*map(str, day[:4]), bits_of(day.cost), bits_of(day.memorized)]
+            learned, reviewed, correct, introduced, cost, memorized = astuple(day)
+            words = [*map(str, [learned, reviewed, correct, introduced]), bits_of(cost), bits_of(memorized)]
             self.assertEqual(re.findall(r" (\w+)\)", line), words, f"day {number}")
 
     def test_lengths(self) -> None:
@@ -59,7 +61,7 @@ class Refusals(unittest.TestCase):
             (3, 0): lambda: simulate(replace(SMALL, learn_span=4_294_967_295), PARAMETERS),
             (4, 0): lambda: simulate(replace(SMALL, max_ivl=0.5), PARAMETERS),
             (2, 1): lambda: simulate(replace(SMALL, deck_size=1), PARAMETERS, [KNOWN, KNOWN]),
-            (5, 1): lambda: simulate(SMALL, PARAMETERS, [KNOWN, KNOWN._replace(due=math.nan)]),
+            (5, 1): lambda: simulate(SMALL, PARAMETERS, [KNOWN, replace(KNOWN, due=math.nan)]),
             (7, 2): lambda: simulate(SimulatorConfig(deck_size=5, learn_span=20), senseless),
             (10, 1): lambda: optimal_retention(SMALL, PARAMETERS, rounds=1),
         }
@@ -77,6 +79,20 @@ class Refusals(unittest.TestCase):
                 simulate(replace(SMALL, **{field: value}), PARAMETERS)
         with self.assertRaises(ValueError):
             simulate(SMALL, PARAMETERS, seed=2**64)
+
+
+class FloatModes(unittest.TestCase):
+    def test_rounding(self) -> None:
+        """To nearest is 0; down, up and towards zero are the others of x86-64's fenv.h."""
+        modes = ctypes.CDLL(None)
+        for mode in [0x400, 0x800, 0xC00]:
+            modes.fesetround(mode)
+            try:
+                with self.assertRaises(RuntimeError):
+                    simulate(SMALL, PARAMETERS)
+            finally:
+                modes.fesetround(0)
+        simulate(SMALL, PARAMETERS)
 
 
 class Searches(unittest.TestCase):

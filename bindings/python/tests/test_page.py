@@ -12,9 +12,10 @@ import xml.etree.ElementTree
 from pathlib import Path
 
 from street_drill import Mistake, settings, simulate
-from street_drill.course import COLUMNS, Course, of_runs
+from street_drill.course import COLUMNS, Course, duration, of_runs
 from street_drill.listing import of_text
-from street_drill.page import _axis, _beside, page
+from street_drill.page import _beside, page
+from street_drill.picture import axis
 
 from .common import LISTING, PACKAGE, printed
 from .test_command import run
@@ -62,18 +63,41 @@ class Page(unittest.TestCase):
         pictures = self.check(page([runs_of("round", 5)], 80))
         self.assertEqual(len(pictures), 5)
         for picture in pictures:
-            self.assertEqual([len(picture.findall(f"path[@class='{kind}']")) for kind in ("band", "course")], [1, 1])
+            kinds = [path.get("class") for path in picture.findall("path")]
+            self.assertEqual(kinds, ["band c0", "first c0", "course c0"])
             drawn = " ".join(path.get("d") for path in picture.findall("path"))
             self.assertTrue(all(0 <= float(number) <= 480 for number in re.findall(r"[\d.]+", drawn)))
-        self.assertIn("80 held: day", "".join(pictures[1].itertext()))
+        self.assertRegex(" ".join(pictures[1].itertext()), r"80 streets day \d+$")
+
+    def test_mark_of_the_day(self) -> None:
+        """Courses that come to so many streets have a dot each; their days are told where they have room."""
+        course = runs_of("round", 1)
+        for count, told in [(2, 2), (5, 0)]:
+            picture = self.check(page([course] * count, 80))[-4]
+            self.assertEqual(len(picture.findall("circle")), count)
+            self.assertEqual(sum(text.startswith("day ") for text in picture.itertext()), told)
+        self.assertEqual(self.check(page([course], 121))[1].findall("circle"), [])
 
     def test_a_line_for_each(self) -> None:
         courses = [runs_of(f"round <{number}>", 1) for number in range(10)]
         text = page(courses)
         for picture in self.check(text)[10:]:
             self.assertEqual(len(picture.findall("path")), 10)
-        self.assertEqual(text.count("<table>"), 10)
+        self.assertEqual(text.count('<table class="days">'), 10)
         self.assertNotIn("<0>", text)
+
+    def test_summary(self) -> None:
+        for count in [1, 2, 4]:
+            text = page([runs_of("round", 1), *[runs_of("other", 3)] * (count - 1)], 80)
+            self.check(text)
+            self.assertEqual(text.count("from day"), count)
+            self.assertEqual(text.count("in all, mean of 3 runs"), min(count - 1, 1))
+
+    def test_table(self) -> None:
+        course = runs_of("round", 3)
+        text = page([course])
+        self.assertEqual(text.count('<th class="added">mean</th>'), len(COLUMNS))
+        self.assertIn(f"<td>{course.bands['cost'].p90[3]:.2f}</td>", text)
 
     def test_values_at_the_pointer(self) -> None:
         course = runs_of("</script>", 3)
@@ -90,7 +114,7 @@ class Page(unittest.TestCase):
     def test_marks(self) -> None:
         for most in [1e-45, 0.3, 1, 7, 59, 86_400, 1e7, 3.4e38]:
             for time in [False, True]:
-                marks = _axis(most, time)
+                marks = axis(most, time)
                 self.assertTrue(2 <= len(marks) <= 7 and marks[0] == 0, (most, time, marks))
                 self.assertLessEqual(most, marks[-1] * (1 + 1e-6))
 
@@ -100,6 +124,25 @@ class Page(unittest.TestCase):
             script = Path(folder) / "page.js"
             script.write_text(_beside("page.js"))
             self.assertEqual(subprocess.run(["node", "--check", script], capture_output=True).returncode, 0)
+
+    @unittest.skipUnless(shutil.which("chromium"), "there is no chromium")
+    def test_browser(self) -> None:
+        """The value at the pointer, in a browser: the day in the middle of the first picture."""
+        point = """<script>const box = document.querySelector("figure svg").getBoundingClientRect();
+            const place = { clientX: box.left + box.width * 0.568, clientY: box.top + 50 };
+            document.querySelector("figure svg").dispatchEvent(new PointerEvent("pointermove", place));</script>"""
+        course = runs_of("round", 1)
+        with tempfile.TemporaryDirectory() as folder:
+            file = Path(folder) / "page.html"
+            file.write_text(page([course]).replace("</body>", point + "</body>"))
+            browser = ["chromium", "--headless=new", "--no-sandbox", f"--user-data-dir={folder}/profile", "--dump-dom"]
+            shown = subprocess.run([*browser, file.as_uri()], capture_output=True, text=True).stdout
+        if not shown:
+            self.skipTest("chromium does not start")
+        told = re.search('<div class="tip" style=[^>]*>(.*?)</figure>', shown)
+        words = re.sub("<.*?>", " ", told[1]).split()
+        self.assertEqual(words, ["day", "15", *duration(course.columns["cost"][15]).split()])
+        self.assertEqual(len(re.findall('<circle class="dot c0"', shown)), 5)
 
 
 class Listings(unittest.TestCase):

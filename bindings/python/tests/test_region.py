@@ -1,14 +1,19 @@
 """A region of depots."""
 
 import csv
+import importlib.util
 import os
 import re
+import sys
 import tempfile
 import unittest
+import unittest.mock
 from pathlib import Path
 
 from street_drill import settings, simulate
+from street_drill.course import COLUMNS, Course
 from street_drill.deck import of_text
+from street_drill.region import total
 
 from . import damage
 from .common import PACKAGE
@@ -52,6 +57,14 @@ class Region(unittest.TestCase):
         for kind in ["csv", "html"]:
             self.assertEqual((self.out / f"one.{kind}").read_bytes(), (self.out / f"two.{kind}").read_bytes())
 
+    def test_total(self) -> None:
+        """A depot whose span is over keeps its streets, and costs nothing."""
+        depots = [Course(name, {column: values for column in COLUMNS}, {})
+                  for name, values in [("long", (1, 2, 3)), ("short", (0.5, 4.25))]]
+        whole = total(depots)
+        self.assertEqual((whole.columns["cost"], whole.columns["memorized"]), ((1.5, 6.25, 3), (1.5, 6.25, 7.25)))
+        self.assertEqual(total(depots[:1]).columns["learned"], (1, 2, 3))
+
     def test_every_mistake_is_told(self) -> None:
         (self.depots / "depot 0.toml").write_text("deck = 3")
         (self.depots / "depot 1.csv").write_text("street\n")
@@ -61,3 +74,31 @@ class Region(unittest.TestCase):
 
     def test_no_depot(self) -> None:
         self.assertIn("has no settings file", run("region", self.out)[2])
+
+    def test_no_distributed(self) -> None:
+        with unittest.mock.patch.dict(sys.modules, {"distributed": None}):
+            status, _, errors = self.region("a", "--scheduler", "127.0.0.1:8786")
+        self.assertEqual(status, 2)
+        self.assertIn("needs the package distributed", errors)
+
+    @unittest.skipUnless(importlib.util.find_spec("distributed"), "there is no distributed")
+    def test_cluster(self) -> None:
+        """Two workers of a Dask cluster, and the same bytes; every mistake is told from there too."""
+        from distributed import LocalCluster
+
+        def cluster(workers: int) -> LocalCluster:
+            return LocalCluster(n_workers=workers, threads_per_worker=1, dashboard_address=None, silence_logs=50,
+                                local_directory=str(self.out))
+
+        self.region("one", "--workers", 1)
+        with cluster(2) as two:
+            self.assertEqual(self.region("two", "--scheduler", two.scheduler_address)[0], 0)
+            (self.depots / "depot 0.toml").write_text("deck = 3")
+            (self.depots / "depot 1.csv").write_text("street\n")
+            self.assertEqual(self.region("three", "--scheduler", two.scheduler_address)[2].count("\n"), 2)
+        for kind in ["csv", "html"]:
+            self.assertEqual((self.out / f"one.{kind}").read_bytes(), (self.out / f"two.{kind}").read_bytes())
+        with cluster(0) as none:
+            errors = self.region("three", "--scheduler", none.scheduler_address)[2]
+            self.assertIn("the scheduler has no workers", errors)
+        self.assertIn("is no address", self.region("three", "--scheduler", "nowhere")[2])

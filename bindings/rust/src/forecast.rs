@@ -2,7 +2,7 @@
 use crate::config::{Card, SimulatorConfig};
 use crate::error::Error;
 use crate::lists::{FIRST_PLACES, Inputs, Lists};
-use crate::native;
+use crate::native::{self, Ended};
 
 /// What a run forecasts.
 #[derive(Clone, Debug, PartialEq)]
@@ -63,22 +63,13 @@ pub fn simulate(
     Ok(forecast_of(lists, ended))
 }
 
-/// What the answer of a run that ended tells besides its lists.
-pub struct Ended {
-    turns: u64,
-    cards: usize,
-    draws: u64,
-}
-
 /// A run, made again with a longer interval table for as long as it is full. The length plays no part in what it
 /// forecasts (docs/RULES.md, D6), and a table with a place for each turn is never full, so there is an end.
 pub fn run(inputs: &Inputs, desired_retention: f32, seed: u64, lists: &mut Lists) -> Result<Ended, Error> {
     loop {
-        let [number, second, turns, cards, draws] = native::simulate(inputs, desired_retention, seed, lists);
-        match Error::check(number as u32, second as u32) {
-            Ok(()) => return Ok(Ended { turns, cards: cards as usize, draws }),
+        match native::simulate(inputs, desired_retention, seed, lists) {
             Err(Error::TableFull { .. }) => lists.lengthen(),
-            Err(refused) => return Err(refused),
+            answer => return answer,
         }
     }
 }
@@ -112,11 +103,12 @@ mod tests {
     fn from_short(config: &SimulatorConfig, existing: &[Card], places: usize, enough: usize) {
         let inputs = Inputs::new(config, &[0.5; 34], existing);
         let mut lists = Lists::new(config, places);
-        assert_eq!(native::simulate(&inputs, 0.9, 7, &mut lists)[0], 8, "{places} places are too few");
+        let short = native::simulate(&inputs, 0.9, 7, &mut lists);
+        assert!(matches!(short, Err(Error::TableFull { .. })), "{places} places are too few");
         let ended = run(&inputs, 0.9, 7, &mut lists).unwrap();
         assert!(lists.intervals.len() > places);
         let mut long = Lists::new(config, enough);
-        assert_eq!(native::simulate(&inputs, 0.9, 7, &mut long)[0], 0);
+        assert!(native::simulate(&inputs, 0.9, 7, &mut long).is_ok());
         let ended_long = run(&inputs, 0.9, 7, &mut long).unwrap();
         assert_eq!(forecast_of(lists, ended), forecast_of(long, ended_long));
     }

@@ -7,6 +7,8 @@
 //! - [`optimal_retention_on_threads`]: the same search with the same answer, a trial's runs on threads;
 //! - [`Error`]: why a call was refused.
 //!
+//! What is promised holds in the default float modes, which Rust itself takes for granted.
+//!
 //! ```
 //! use street_drill::{SimulatorConfig, simulate};
 //!

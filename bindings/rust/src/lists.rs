@@ -8,46 +8,23 @@ const MOST_DAYS: usize = 36_500;
 /// stabilities from 0.0001 to 36,500 days have some 19,700 of them: so it is enough where all cards have one retention.
 pub const FIRST_PLACES: usize = 32_768;
 
-/// A number as the u32 that the library takes. One that is too great for it is refused as the greatest u32 is (deck,
-/// span), or is as good as that one: a limit above the largest deck is none, and of learning steps no event makes more
-/// than five.
-fn number(x: usize) -> u32 {
-    u32::try_from(x).unwrap_or(u32::MAX)
-}
-
 /// A call's inputs.
 pub struct Inputs<'a> {
     pub config: &'a SimulatorConfig,
     pub parameters: &'a [f32],
-    pub numbers: [u32; 8],
     pub existing_cards: Vec<[f32; 6]>,
     pub existing_counts: Vec<[u32; 2]>,
 }
 
 impl<'a> Inputs<'a> {
     pub fn new(config: &'a SimulatorConfig, parameters: &'a [f32], existing: &[Card]) -> Inputs<'a> {
-        let numbers = [
-            number(config.deck_size),
-            number(config.learn_span),
-            number(config.learn_limit),
-            number(config.review_limit),
-            u32::from(config.new_cards_ignore_review_limit),
-            config.suspend_after_lapses.unwrap_or(u32::MAX),
-            number(config.learning_step_count),
-            number(config.relearning_step_count),
-        ];
         let row = |c: &Card| [c.difficulty, c.stability, c.last_date, c.due, c.interval, c.desired_retention];
         Inputs {
             config,
             parameters,
-            numbers,
             existing_cards: existing.iter().map(row).collect(),
             existing_counts: existing.iter().map(|c| [c.reps, c.lapses]).collect(),
         }
-    }
-
-    pub fn span(&self) -> u32 {
-        self.numbers[1]
     }
 }
 

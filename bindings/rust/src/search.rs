@@ -3,7 +3,7 @@ use crate::config::{Card, SimulatorConfig};
 use crate::error::Error;
 use crate::forecast::run;
 use crate::lists::{FIRST_PLACES, Inputs, Lists};
-use crate::native;
+use crate::native::{self, Stepper};
 use std::num::NonZeroUsize;
 
 /// The most rounds that a search may be given. With so many it is the search of fsrs-rs, and never refused for their
@@ -49,11 +49,9 @@ pub fn optimal_retention(
 fn whole(inputs: &Inputs, rounds: u32, places: usize) -> Result<Optimum, Error> {
     let mut lists = Lists::new(inputs.config, places);
     loop {
-        let ([number, second, rounds], [retention, mean]) = native::optimal_retention(inputs, rounds, &mut lists);
-        match Error::check(number, second) {
-            Ok(()) => return Ok(Optimum { retention, mean, rounds }),
+        match native::optimal_retention(inputs, rounds, &mut lists) {
             Err(Error::TableFull { .. }) => lists.lengthen(),
-            Err(refused) => return Err(refused),
+            answer => return answer,
         }
     }
 }
@@ -86,7 +84,7 @@ fn stepped(inputs: &Inputs, rounds: u32, threads: NonZeroUsize, places: usize) -
         // Refused at the entry, which no run of a trial tests: by 4, or by what comes before it in the table.
         return whole(inputs, rounds, places);
     }
-    let runs = native::drill_sample_size(inputs.span()) as usize;
+    let runs = native::sample_size(inputs);
     let mut lists: Vec<Lists> = (0..threads.get().min(runs)).map(|_| Lists::new(inputs.config, places)).collect();
     let mut search = Stepper::start(rounds);
     while let Some(retention) = search.next_retention() {
@@ -105,7 +103,7 @@ fn trial(inputs: &Inputs, retention: f32, runs: usize, lists: &mut [Lists]) -> R
             let first_seed = FIRST_SEED + (i * part) as u64;
             scope.spawn(move || {
                 for (seed, target) in (first_seed..).zip(targets) {
-                    *target = run(inputs, retention, seed, lists).map(|_| native::target(inputs.span(), lists));
+                    *target = run(inputs, retention, seed, lists).map(|_| native::target(inputs, lists));
                     if target.is_err() {
                         break;
                     }
@@ -114,35 +112,6 @@ fn trial(inputs: &Inputs, retention: f32, runs: usize, lists: &mut [Lists]) -> R
         }
     });
     targets.into_iter().collect()
-}
-
-/// A search that is under way, as include/street_drill.h has it.
-struct Stepper {
-    floats: [f32; 10],
-    counts: [u32; 3],
-}
-
-impl Stepper {
-    fn start(rounds: u32) -> Stepper {
-        let mut search = Stepper { floats: [0.0; 10], counts: [0; 3] };
-        native::drill_search_start(rounds, &mut search.floats, &mut search.counts);
-        search
-    }
-
-    fn next_retention(&self) -> Option<f32> {
-        Some(native::drill_search_next(&self.floats, &self.counts)).filter(|retention| !retention.is_nan())
-    }
-
-    fn take_mean(&mut self, mean: f32) {
-        native::drill_search_take(mean, &mut self.floats, &mut self.counts);
-    }
-
-    /// Of a search that has nothing more to try.
-    fn answer(&self) -> Result<Optimum, Error> {
-        let rounds = self.counts[0];
-        Error::check(native::drill_search_answer(&self.floats, &self.counts), rounds)?;
-        Ok(Optimum { retention: self.floats[2], mean: self.floats[5], rounds })
-    }
 }
 
 #[cfg(test)]
@@ -155,7 +124,8 @@ mod tests {
         let config = SimulatorConfig { deck_size: 20, learn_span: 40, ..Default::default() };
         let inputs = Inputs::new(&config, &[0.5; 34], &[]);
         let found = whole(&inputs, MOST_ROUNDS, FIRST_PLACES).unwrap();
-        assert_eq!(native::optimal_retention(&inputs, MOST_ROUNDS, &mut Lists::new(&config, 1)).0[0], 8);
+        let short = native::optimal_retention(&inputs, MOST_ROUNDS, &mut Lists::new(&config, 1));
+        assert_eq!(short.unwrap_err().number(), 8);
         assert_eq!(whole(&inputs, MOST_ROUNDS, 1), Ok(found));
         assert_eq!(stepped(&inputs, MOST_ROUNDS, NonZeroUsize::new(3).unwrap(), 1), Ok(found));
     }

@@ -1,16 +1,20 @@
 -- The laws of a run over card records.
 --   fill-none                            a list of which no place is filled
+--   least-left, least-right, fill-least  the least of a number and a list's length, and a list filled up to it
 --   first-none, first-most, first-next   the first number that passes a test, among one more
 --   first-alike                          by two tests that agree
 --   rows-refused, rows-passed            what the run over the copied rows promises
-
 use mathlib.Core.Path.{_≡_, refl, sym, ap, _∙_}
 use mathlib.Core.List.{List}
 use mathlib.Core.Bool.{Bool, true, false, cond}
-use Prim.Native.Nat.{ℕ, zero, suc, _+_, _≤_}
+use Prim.Native.Nat.{ℕ, zero, suc, _+_, _<_, _≤_}
 use native.Mathlib.Omega.{arith}
-use lib.Dec.{ltb}
-use borrow.Author.Tests.{lt-ltb, le-ltb}
+use native.Mathlib.Decide.{decLt}
+use lib.Dec.{leb, ltb}
+use lib.ListN.{length, set}
+use lib.Seq.{set-out}
+use Rattle.elementary.proofs.Filled.{fill-length}
+use borrow.Author.Tests.{lt-ltb, le-ltb, leb-true, leb-false}
 use Rattle.elementary.specs.Filled.{filled}
 use lib.Ieee.{Float}
 use Rattle.turns.proofs.Logic.{not-one}
@@ -28,6 +32,40 @@ use Rattle.card_records.specs.Records.{RowsContract}
 pub fill-none : {A : Type 0} (F : ℕ → A) (l : List A) → filled F 0 l ≡ l
 unfolding filled
 fill-none F l = refl
+
+-- ---- the least of two numbers, and a list that is filled up to it
+pub least-left : (n k : ℕ) → cond (leb n k) n k ≤ n
+least-left n k = go (leb n k) refl
+  where
+    go : (b : Bool) → leb n k ≡ b → cond b n k ≤ n
+    go true e = omega arith
+    go false e = let h = leb-false n k e in omega (arith, h)
+
+pub least-right : (n k : ℕ) → cond (leb n k) n k ≤ k
+least-right n k = go (leb n k) refl
+  where
+    go : (b : Bool) → leb n k ≡ b → cond b n k ≤ k
+    go true e = leb-true n k e
+    go false e = omega arith
+
+-- places past a list's end are filled with nothing
+fill-beyond : {A : Type 0} (F : ℕ → A) (n : ℕ) (l : List A) → length l ≤ n → filled F n l ≡ filled F (length l) l
+unfolding filled
+fill-beyond F zero l h = let e : length l ≡ 0 = omega arith in sym (ap (λ (k : ℕ). filled F k l) e)
+fill-beyond F (suc n) l h = go (decLt n (length l)) (fill-beyond F n l)
+  where
+    go : Dec (n < length l) → (length l ≤ n → filled F n l ≡ filled F (length l) l)
+        → set (filled F n l) n (F n) ≡ filled F (length l) l
+    go (yes x) ih = let e : suc n ≡ length l = omega arith in ap (λ (k : ℕ). filled F k l) e
+    go (no x) ih = set-out (filled F n l) n (F n) (omega (arith, fill-length F n l)) ∙ ih (omega arith)
+
+pub fill-least : {A : Type 0} (F : ℕ → A) (n : ℕ) (l : List A)
+    → filled F (cond (leb n (length l)) n (length l)) l ≡ filled F n l
+fill-least F n l = go (leb n (length l)) refl
+  where
+    go : (b : Bool) → leb n (length l) ≡ b → filled F (cond b n (length l)) l ≡ filled F n l
+    go true e = refl
+    go false e = let h = leb-false n (length l) e in sym (fill-beyond F n l (omega (arith, h)))
 
 -- ---- the first number that passes a test, among one more
 module _ (p : ℕ → Bool) where

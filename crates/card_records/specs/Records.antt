@@ -1,4 +1,4 @@
--- CARD RECORDS: a run whose existing cards are one lent list of records (docs/RULES.md, K1 to K5). Definitions only.
+-- CARD RECORDS: a run whose existing cards are one lent list of records (docs/RULES.md, K1 to K6). Definitions only.
 --   blank                    what stands past a list's end
 --   floatsAt, countsAt cs i  record i's row of floats and its row of counts
 --   floatRows, countRows cs  the records as the rows of the core's two lists

@@ -1,7 +1,8 @@
 // The run over card records: its existing cards are one lent list of `cards::Card`, which is copied to two lent lists
 // of rows, and the core (`simulation::simulate`) is called on those. All of the entry's tests come before the first
 // copy, so a refusal at the entry leaves every list as it was, the room for the copies too; a room too short is refusal
-// 6. The updated cards stand in `cards` and `counts`, and `cards::card_at` makes the record of a place.
+// 6. The updated cards stand in `cards` and `counts`; `read_back` gives them out as records, and `cards::card_at` the
+// record of a place.
 use cards::Card;
 use cards::SimulatorConfig;
 use simulation::Answer;
@@ -23,6 +24,8 @@ ghost use Rattle.card_records.specs.Records.{hasRoom, copied, floatRows,
 ghost use Rattle.card_records.specs.Records.{RecordsContract};
 
 mod records;
+
+pub use records::read_back;
 
 // All of the entry's tests, by the lists' lengths; of the n records `good` pass refusal 5 from the first on.
 fn check_records(

@@ -1,14 +1,14 @@
 // What is done with a lent list of records: one is read, the first that refusal 5 turns away is found, and the first n
-// are copied to rows. Functions with a `&[Card]` are proved by hand, a walk of their MIR each, so they decide nothing
-// but where a loop ends; what is decided stands in functions on numbers and on cards by value.
+// are copied to rows, or from rows. Functions with a `&[Card]` are proved by hand, a walk of their MIR each, so they
+// decide nothing but where a loop ends; what is decided stands in functions on numbers and on cards by value.
 use cards::Card;
 ghost use mathlib.Core.Path.{_≡_};
 ghost use mathlib.Core.Bool.{cond};
 ghost use Prim.Native.Nat.{_+_, _<_, _≤_};
-ghost use lib.Dec.{ltb};
+ghost use lib.Dec.{leb, ltb};
 ghost use lib.ListN.{length, getD, set};
 ghost use Rattle.elementary.specs.Filled.{filled};
-ghost use Rattle.cards.specs.Cards.{floatsOf, countsOf};
+ghost use Rattle.cards.specs.Cards.{cardAt, floatsOf, countsOf};
 ghost use Rattle.simulation.specs.Entry.{firstWhere};
 ghost use Rattle.card_records.specs.Records.{blank, isBad, recordBad, floatsAt, countsAt};
 
@@ -69,6 +69,41 @@ pub fn copy(records: &[Card], existing: &mut [[f32; 6]], existing_counts: &mut [
     while i < n {
         let card = card_at(records, i);
         put_card(existing, existing_counts, i, card);
+        i = i + 1;
+    }
+}
+
+fn least(n: u32, len: usize) -> usize
+    ensures { λ r. ⌜ r ≡ cond (leb n len) n len ⌝ }
+{
+    let wide = n as usize;
+    if wide <= len { wide } else { len }
+}
+
+fn row_at(cards: &[[f32; 6]], counts: &[[u32; 2]], i: usize) -> Card
+    requires { ⌜ i < 4294967296 ⌝ }
+    ensures { λ r. ⌜ r ≡ cardAt (now (cards .entry)) (now (counts .entry)) i ⌝ }
+{
+    cards::card_at(cards, counts, i as u32)
+}
+
+fn put_record(records: &mut [Card], i: usize, card: Card)
+    requires { ⌜ i < length (now records) ⌝ }
+    ensures { λ _. ⌜ now (records .exit) ≡ set (now (records .entry)) i card ⌝ }
+{
+    records[i] = card;
+}
+
+// The first n cards of a run as records, as many as there is room for; `n` is the answer's number of cards.
+pub fn read_back(cards: &[[f32; 6]], counts: &[[u32; 2]], records: &mut [Card], n: u32)
+    ensures { λ _. ⌜ now (records .exit) ≡ filled (cardAt (now (cards .entry)) (now (counts .entry))) n
+        (now (records .entry)) ⌝ }
+{
+    let m = least(n, records.len());
+    let mut i = 0;
+    while i < m {
+        let card = row_at(cards, counts, i);
+        put_record(records, i, card);
         i = i + 1;
     }
 }
