@@ -3,7 +3,7 @@
 --   amountOk x, amountsOk xs             finite and not negative: one number, and all of a row
 --   weightsOk row                        a row that a rating can be drawn by
 --   transitionsOk table, costsOk table   three rows of weights, and three of costs
---   intervalOk x                         a longest interval
+--   intervalOk x                         a longest interval, 1 to 36,500
 --   configOk g                           the whole test
 use Prim.Native.Nat.{ℕ, _+_, _*_}
 use mathlib.Core.Bool.{Bool, true, not, _&&_}
