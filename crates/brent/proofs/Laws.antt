@@ -1,7 +1,9 @@
 -- What a search promises its caller.
--- `cheapest`: where no mean is a NaN, no trial's mean is below the mean of the retention found.
--- `was-tried`: the retention found was tried, and had that mean.
--- `found-within`: it lies within 0.70 to 0.95. `one-more`: there was one trial more than rounds.
+--   by-rounds      what holds of a search's end, and of a trial with what follows it, holds of the search
+--   cheapest       where no mean is a NaN, no trial's mean is below the mean of the retention found
+--   was-tried      the retention found was tried, and had that mean
+--   found-within   it lies within 0.70 to 0.95
+--   one-more       there was one trial more than rounds
 use mathlib.Core.Path.{_≡_, refl, subst}
 use mathlib.Core.Logic.{_⊎_, inl, inr}
 use mathlib.Core.Bool.{Bool, true, false, cond}

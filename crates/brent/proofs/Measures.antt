@@ -1,7 +1,11 @@
 -- A state's measures, where its ends and its best retention are multiples of 2^-24 within 0.70 to 0.95. In those
 -- multiples: the least step lies within 117,000 to 160,000, twice it within 234,000 to 320,000, the middle is at most
 -- one off.
--- `room`: a state that has not converged leaves 233,000 on the side of x where the middle is.
+--   kMin, kMax           0.70 and 0.95 in multiples of 2^-24
+--   tol1-in, tol2-in     the least step, and twice it
+--   middle-at            the middle, at most one off
+--   passes               the test of convergence passes near the middle of a small span
+--   Room i k j c, room   a state that has not converged leaves 233,000 on the side of x where the middle is
 use mathlib.Core.Path.{_≡_, refl, sym, ap, _∙_, subst}
 use mathlib.Core.Bool.{Bool, true, false, not, true≢false}
 use Prim.Native.Nat.{ℕ, zero, suc, _+_, _-_, _*_, _/_, _^_, _≤_, _<_}

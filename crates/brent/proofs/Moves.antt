@@ -1,6 +1,10 @@
--- A move from x that stays between the ends. `fit-moves`: where the tests of the parabola pass, p / q is such a move.
--- `stepped-strides`: a move with room, lengthened to the least step where it is shorter, is a stride that stays between
--- the ends.
+-- A move from x that stays between the ends.
+--   Fit i k j rat, fit-moves   such a move; where the tests of the parabola pass, p / q is one
+--   mulAdd-fits                what the parabola's p is made of fits a binary32
+--   Roomy i k j x rat          a move with room for the least step
+--   Strides i k j u            a trial at least 117,000 from x, and 73,000 from the end ahead of it
+--   sign-yes, sign-no          the test of a move's sign
+--   stepped-strides            a move with room, lengthened to the least step where it is shorter, is such a trial
 use mathlib.Core.Path.{_≡_, refl, sym, ap, _∙_, subst}
 use mathlib.Core.Bool.{Bool, true, false, not, Bool·beq, cond, _&&_, _||_, true≢false}
 use Prim.Native.Nat.{ℕ, zero, suc, _+_, _-_, _*_, _^_, _≤_, _<_}

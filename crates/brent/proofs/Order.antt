@@ -1,4 +1,7 @@
--- The order of floats: `asym` and `not-below-trans`.
+-- The order of floats.
+--   asym              of two floats at most one is below the other
+--   not-below-trans   x is not below y, nor y below z: then x is not below z, if y is no NaN
+--   self              no float is below itself
 use mathlib.Core.Path.{_≡_, refl, sym, _∙_}
 use mathlib.Core.Bool.{Bool, true, false, not, _&&_, true≢false}
 use Prim.Native.Nat.{ℕ, zero, suc, _+_, _*_, _≤_, _<_}

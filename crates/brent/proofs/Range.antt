@@ -1,5 +1,13 @@
--- Every retention that a search tries lies within 0.70 to 0.95, whatever the means are: `trials-within`, and so is
--- finite: `trials-finite`. Refusal 10 comes only of rounds used up: `only-spent`.
+-- Every retention that a search tries lies within 0.70 to 0.95, whatever the means are, and 57 rounds are enough.
+--   Ranged s                       the ends and the best retention are multiples of 2^-24, in order and in range
+--   trial-strides, trial-place     the next trial is a stride between the ends, and a multiple too
+--   Shape i k j i' k' j', Next i k j s, next   how a round moves the ends and the best retention
+--   rMin-at, begun-ranged          0.70 and the first state are in range
+--   within-at                      what is in range passes the test of it
+--   trials-within                  every retention tried is in range
+--   only-spent                     refusal 10 comes only of rounds used up, and a retention is found in fewer
+--   never-ten                      with 57 rounds or more there is no refusal 10
+--   within-finite, trials-finite   what is in range is finite, and so are the retentions tried
 use mathlib.Core.Path.{_≡_, refl, sym, ap, _∙_, subst}
 use mathlib.Core.Bool.{Bool, true, false, not, cond, _&&_, _||_, true≢false}
 use mathlib.Core.List.{List, [], _∷_}

@@ -1,5 +1,19 @@
 -- Floats as fractions: tests and operations on floats whose values are known, and a rounded fraction between two
 -- multiples of 2^-24.
+--   N                                   2^24
+--   le-vals, below-no, below-yes        tests of two floats by their fractions
+--   round-flip, neg-value               the sign of a rounded fraction, and of a value
+--   own-round                           rounding leaves a float's own value
+--   InOf u lo hi y, rounded-in-of       a float between two multiples of 1 / u, and a rounded fraction there
+--   At x k, In lo hi y, rounded-in      a multiple of 2^-24, a float between two of them, and a rounded fraction there
+--   Place lo hi x, placed               a multiple between two others, and a float from 1/2 to below 1 is one
+--   add-at, sub-at, mulAdd-at, mul-at   sums and products of known values
+--   minus-over, minus-under             the difference of two multiples, by its sign
+--   abs-value, scaled                   a value without its sign, and a fraction with both parts multiplied
+--   step-up                             a step up from a multiple, by b to c of them
+--   minus-is, step-down                 a sum of two signs, and such a step down
+--   widen, narrow                       ends further apart, and nearer
+--   at-least, at-most, at-in            where a multiple lies
 use mathlib.Core.Path.{_≡_, refl, sym, ap, _∙_, subst}
 use mathlib.Core.Bool.{Bool, true, false, not, cond, _&&_, _||_, true≢false}
 use Prim.Native.Nat.{ℕ, zero, suc, _+_, _-_, _*_, _%_, _^_, _≤_, _<_}

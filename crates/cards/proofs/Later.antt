@@ -1,6 +1,15 @@
 -- THE FLOAT-DAY LAWS: the whole part of a float, and how it moves on. For any format and any width of the whole number.
--- `later`: a whole day n and an interval of 1 or more, added in floats, come to a later day. `in-span`: a float that is
--- not at or past a whole number has a whole part below it. `day-cut`: the max with 0 changes nothing. Assumes nothing.
+-- Assumes nothing.
+--   whole-ge                     a float at or above a whole number has no lesser whole part
+--   later                        a whole day n and an interval of 1 or more, added in floats, come to a later day
+--   in-span                      a float that is not at or past a whole number has a whole part below it
+--   max-cut, day-cut             the max with 0 changes no whole part, and no card's day
+--   day-later, day-in-span       the laws `later` and `in-span`, of a card's day
+--   one-is                       the bits of 1
+--   whole-le, bound, day-bound   with a longest interval, the next day has a bound too
+--   one-in-range                 an interval of 1 is in range
+--   day-next                     a card put off is due on the next day
+--   in-range-used                an interval in range is not below 1
 use mathlib.Core.Path.{_≡_, refl, sym, ap, _∙_, subst}
 use mathlib.Core.Bool.{Bool, true, false, not, cond, true≢false}
 use Prim.Native.Nat.{ℕ, suc, _+_, _-_, _*_, _/_, _^_, _≤_, _<_, min}

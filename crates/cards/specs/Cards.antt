@@ -1,4 +1,11 @@
 -- A card by value, and as a row of six floats and a row of two counts in the lent lists. Definitions only.
+--   cardOf floats counts                            the card of two rows
+--   noFloats, noCounts                              what is read past a list's end
+--   cardAt cards counts c                           the card at a place of the lists
+--   floatsOf k, countsOf k                          the two rows of a card
+--   writeFloats cards c k, writeCounts counts c k   the lists with a card at a place
+--   isKept k                                        whether an existing card is kept at set-up
+--   dateOk x, historyOk k, cardOk k                 the tests of refusal 5: a date, a last date, the card
 use Prim.Native.Nat.{ℕ}
 use mathlib.Core.Bool.{Bool, _&&_, _||_}
 use mathlib.Core.List.{List, [], _∷_}

@@ -1,4 +1,10 @@
 -- What a turn does with the queue's first card (the rules of a turn). Definitions only.
+--   retires span most k                              whether it leaves: past the span, or at the lapse limit
+--   limits g                                         the daily limits of a configuration
+--   limited l d new learned reviewed                 whether a limit of day d is reached
+--   blocked l d new learned reviewed cost            the same, or the day's cost is above the maximum
+--   choose retire block new                          the choice by the three tests
+--   choiceOf span most l d k learned reviewed cost   the choice of a card on day d
 use Prim.Native.Nat.{ℕ, _+_}
 use mathlib.Core.Bool.{Bool, true, false, not, _&&_, _||_}
 use lib.Dec.{leb}

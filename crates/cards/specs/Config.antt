@@ -1,4 +1,10 @@
 -- What refusal 4 asks of a configuration. Definitions only.
+--   rowOf table i, threeOf row           a row of four, and one of three
+--   amountOk x, amountsOk xs             finite and not negative: one number, and all of a row
+--   weightsOk row                        a row that a rating can be drawn by
+--   transitionsOk table, costsOk table   three rows of weights, and three of costs
+--   intervalOk x                         a longest interval, 1 to 36,500
+--   configOk g                           the whole test
 use Prim.Native.Nat.{ℕ, _+_, _*_}
 use mathlib.Core.Bool.{Bool, true, not, _&&_}
 use mathlib.Core.List.{List, [], _∷_}

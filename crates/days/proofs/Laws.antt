@@ -1,4 +1,10 @@
 -- What the writes of an event leave in each row: one more where it counts, and nothing else changed.
+--   saturating-is                below the top, one more is one more
+--   same-column, raised-column   a row written anew: a number of it stays, or is one more
+--   learn-long, learn-learned, learn-reviewed, learn-correct, learn-introduced   the counts after a learning
+--   from-long, from-learned, from-reviewed, from-correct, from-introduced   with one introduced more from a day on
+--   review-long, review-learned, review-reviewed, review-introduced, review-correct   the counts after a review
+--   cost-long, cost-added        the costs after an event
 use mathlib.Core.Path.{_≡_, refl, sym, ap, _∙_}
 use mathlib.Core.Bool.{Bool, true, false, cond, _&&_}
 use mathlib.Core.List.{List, [], _∷_}

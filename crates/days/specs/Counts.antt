@@ -1,4 +1,10 @@
 -- A day's row of counts: learned, reviewed, correct, introduced. Definitions only.
+--   saturatingSuc n                                    one more, kept within a u32
+--   learnedAt, reviewedAt, correctAt, introducedAt     a count of day d
+--   dayRow learned reviewed correct introduced         the four as a row
+--   addLearn rows d, addReview rows d recalled         one learning or review more on a day
+--   addIntroduced rows d, addIntroducedFrom rows m d   one introduced more on a day, and on m days from it on
+--   addEvent span rows new d recalled                  all counts after an event
 use Prim.Native.Nat.{ℕ, zero, suc, _+_, _-_}
 use mathlib.Core.Bool.{Bool, cond}
 use mathlib.Core.List.{List, [], _∷_}

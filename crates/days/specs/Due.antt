@@ -1,4 +1,9 @@
 -- How many dated cards are due on each day. Definitions only.
+--   dueDays span             the days that are counted
+--   addOneAt due d           one more at a place of the list
+--   addDue span due d        one more on a day, if that is counted
+--   moveDue span due new d   a card is put off from a day to the next
+--   noneDue due new d        the test of refusal 9
 use Prim.Native.Nat.{ℕ, _+_, _-_, _/_}
 use mathlib.Core.Bool.{Bool, not, _&&_, cond}
 use mathlib.Core.List.{List}

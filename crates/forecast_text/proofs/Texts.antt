@@ -1,4 +1,9 @@
 -- Texts at the head of a lent list that has room for them.
+--   line-printed, refused-printed         a line is printed, and the line of a refusal
+--   both-short, run-printed, never-full   the lines of a run: they fit, are printed, and the first always finds room
+--   finished-text, refused-text           what is printed of a run that ends Ok, and of one refused
+--   line-text, read-text                  what is printed of a text with a wrong line, and of one that is read
+--   printed-is, no-room                   what is in the list: with room, and without
 use mathlib.Core.Path.{_≡_, sym, ap, _∙_}
 use Prim.Native.Nat.{ℕ, _+_, _≤_, _<_}
 use native.Mathlib.Omega.{arith}

@@ -1,4 +1,12 @@
 -- Words compared from the left, and digits read from the left.
+--   same-on, same-off, same-end, not-same     two words: equal here, unequal here, at their end, and of two lengths
+--   digits-on, digits-off, value-on           digits: one more, a byte that is none, and the value with one more
+--   digits-end, value-end                     past the last digit
+--   value-ge                                  digits that follow make no number smaller
+--   number-none, number-digits, number-over   no number: an empty word, a byte that is no digit, a value past the most
+--   number-is                                 a number
+--   goes-over, stays                          the code's test: whether one digit more goes past the most
+--   number-le                                 a number that is read is at most the most
 use mathlib.Core.Path.{_≡_, refl, ap}
 use Prim.Native.Nat.{ℕ, suc, _+_, _-_, _*_, _/_, _≤_, _<_}
 use native.Mathlib.Omega.{arith}

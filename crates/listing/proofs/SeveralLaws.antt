@@ -1,4 +1,8 @@
 -- Words read one after the other into an array, against `several`.
+--   as64-as32, from-as32                          the code's 32 bits lose nothing
+--   prepend vs x                                  numbers before others
+--   words-start, words-on, words-off, words-end   the loop: its start, a word, what is no W, and its end
+--   four, whole                                   the first four numbers, and all 34
 use mathlib.Core.Path.{_≡_, refl, sym, ap, _∙_}
 use Prim.Native.Nat.{ℕ, suc, _+_, _-_, _≤_, _<_}
 use native.Mathlib.Omega.{arith}

@@ -1,4 +1,8 @@
 -- What the code's own types hold, for its contracts. `Forms` has the grammar.
+--   as64 r                     a number that was read by 32 bits, as one of 64
+--   asSeveral k w              the first k words that were read
+--   stepTo to r                a word's number, with the place behind it
+--   bitsIn s t, nextBits s i   the bits of a part that was found, and of the next part from place i on
 use Prim.Native.Nat.{ℕ}
 use mathlib.Core.Bool.{cond}
 use mathlib.Core.List.{List}

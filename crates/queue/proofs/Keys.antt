@@ -1,4 +1,8 @@
 -- The order of keys is that of day, reviews before new cards, and priority. Assumes nothing.
+--   widened                                  an i32 is itself at 64 bits
+--   shifted-lt, shifted-sum, shifted-order   a shifted i32 fits 32 bits, is the sum that the code takes, keeps order
+--   packed-order, packed-day                 the order of keys by their parts, and what it says of the days
+--   priority-in, priority-day                a priority fits an i32, and what two cards' keys say of their days
 use mathlib.Core.Path.{_≡_, refl, ap}
 use mathlib.Core.Bool.{Bool, true, false}
 use mathlib.Core.Logic.{inl, inr, _↔_}

@@ -1,6 +1,18 @@
 -- The queue's laws: each operation keeps a sound queue sound, which cards it leaves queued, and with which keys; the
 -- first card's key is least.
 -- Assumes nothing.
+--   Changed, change-law         what a change of the first card's key leaves
+--   Popped, pop-law             what is left without the first card
+--   stands-here, stands-where   a card is queued where a place holds it, and only there
+--   change-queued               a change of key leaves the same cards queued
+--   front-queued, front-least   the first card is queued, and its key is least
+--   pop-other, pop-front        the first card leaves, and no other
+--   Pushed, last-card, last-key, same-row, push-law   a card joins as the last row, and what that leaves
+--   push-queued                 it is queued then, and so are those before
+--   keyed-same                  keys that agree on the cards will do
+--   queued-named, keyed-least   a queued card is one of the cards, and the first has the least key
+--   requeue, unqueue, enqueue   each operation leaves each card with its key
+--   Filled, fill-none, fill-same, fill-next   the queue after cards 0, 1, .. have joined in order
 use mathlib.Core.Path.{_≡_, refl, sym, ap, _∙_, subst}
 use mathlib.Core.List.{List, [], _∷_}
 use mathlib.Core.Bool.{Bool, true, false, _||_, false≢true}

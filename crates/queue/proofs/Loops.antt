@@ -1,5 +1,17 @@
 -- One turn of each of the heap's loops as equations of the definitions. The code keeps the moving row aside and writes
 -- one row a level; put at the place that is left, it makes each such write an exchange. Assumes nothing.
+--   rise-stop, rise-more                          a row rests, or goes up one level
+--   bubble-turn, bubble-end                       the same of bubble_up's loop
+--   lesser-yes, lesser-no, least-two, least-one   the least of a place and its children, case by case
+--   least-range                                   it lies at pos or behind, among the first len
+--   sink-stop, sink-more                          a row rests, or goes down one level
+--   sink-turn, sink-rests                         the same of heapify's loop, at a place with two children
+--   only-moves, only-rests                        and at a place with at most one
+--   room-yes, front-yes                           a row finds room, and there is a first card
+--   peek-none                                     the first card of an empty list is 0
+--   push-full, push-most, push-is                 a push: with no room, with as many cards as a u32 counts, and else
+--   pop-empty, pop-short, pop-is                  a pop: with no card, with a length past the list's end, and else
+--   change-empty, change-short, change-is         a change of the first card's key, in the same cases
 use mathlib.Core.Path.{_≡_, refl, sym, ap, _∙_}
 use mathlib.Core.List.{List, [], _∷_}
 use mathlib.Core.Bool.{Bool, true, false, _&&_}

@@ -1,6 +1,13 @@
 -- Heap order, of the keys by place alone: K x is the key at place x. What one exchange of a place with its parent, or
 -- with its least child, keeps, and what each loop leaves.
 -- Assumes nothing.
+--   Ordered K len                         each key is at least its parent's
+--   Rising K len pos, Sinking K len pos   the same but between pos and its parent, or its children
+--   Swapped K K′ a b                      two keys exchanged
+--   rise-step, sink-step                  an exchange moves the one place that is out of order
+--   risen, sunken                         where pos too is in order, all places are
+--   ordered-root                          a change of the first key leaves only the first place out of order
+--   root-least                            the first key is least
 use mathlib.Core.Path.{_≡_}
 use mathlib.Core.Logic.{_≢_}
 use Prim.Native.Nat.{ℕ, zero, suc, _≤_, _<_}

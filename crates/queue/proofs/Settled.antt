@@ -1,4 +1,8 @@
 -- The heap's loops put the first len rows in heap order, and change nothing but their order. Assumes nothing.
+--   Mixed len rows₀ rows              the same rows in another order
+--   mixed-none                        rows with no card twice are so of themselves
+--   Settled len rows₀ rows            the same rows, in heap order
+--   bubble-settles, heapify-settles   each loop leaves the rows so
 use mathlib.Core.Path.{_≡_, refl, sym, _∙_}
 use mathlib.Core.List.{List, []}
 use mathlib.Core.Logic.{_≢_}

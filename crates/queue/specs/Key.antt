@@ -1,4 +1,9 @@
 -- A card's order key: one number whose order is that of (day, reviews before new cards, priority). Assumes nothing.
+--   shifted z                         an i32 counted from the least
+--   priorityOf difficulty             the priority of a difficulty
+--   packed day new priority           the three in one number
+--   cardPriority day new difficulty   the order key of a card
+--   NoLater d n p d′ n′ p′            the order that a key stands for, by its parts
 use mathlib.Core.Path.{_≡_}
 use mathlib.Core.Bool.{Bool}
 use mathlib.Core.Logic.{_⊎_}

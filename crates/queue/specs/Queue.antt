@@ -2,6 +2,15 @@
 -- card number.
 -- Comparisons and exchanges are those of `CardPriorityQueue`, so cards with equal keys are served in the same order.
 -- Assumes nothing.
+--   keyAt rows i, cardIndexAt rows i        the key and the card of the row at a place
+--   parent i, swap rows i j                 the place above i, and the list with two rows exchanged
+--   rise n rows pos, bubbleUp rows pos      a row goes up while its parent's key is greater
+--   lesser rows i j, least rows len pos     the place with the lesser key of two, and of a place and its children
+--   sink n rows len pos, heapify rows len   a row goes down while a child's key is less, and the first row so
+--   Queue, queue rows n                     a list of rows, and how many of its first places are taken
+--   front q, hasRoom q, hasFront q          the first card, and whether one more finds room or there is one
+--   pushed q card key, popped q             the queue with a card more, and without its first
+--   rekeyed rows key, frontChanged q key    the first card with another key, and the queue after that
 use mathlib.Core.List.{List, [], _∷_}
 use mathlib.Core.Bool.{Bool, cond, _&&_}
 use Prim.Native.Nat.{ℕ, zero, suc, _+_, _-_, _*_, _/_, _%_, _^_}

@@ -1,4 +1,11 @@
 -- The lines of all days, written one after the other.
+--   placed-to, placed-full         what a line's place says of its room
+--   rows-start, rows-start-bytes   the loop's start, of the place and of the bytes
+--   rows-on, rows-full             one more line, and one that finds no room
+--   rows-end, rows-end-bytes       the loop's end
+--   written-sets                   a line that finds room is stored byte by byte
+--   days-whole                     where there is room for all lines, they stand there one behind the other
+--   days-short                     183 bytes a day are room enough
 use mathlib.Core.Path.{_≡_, refl, sym, ap, _∙_}
 use Prim.Native.Nat.{ℕ, zero, suc, _+_, _-_, _*_, _≤_, _<_}
 use native.Mathlib.Omega.{arith}

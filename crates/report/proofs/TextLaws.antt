@@ -1,4 +1,11 @@
 -- The parts of a form that is written with one space between its words, and the lines of such a text.
+--   solid w, Word w           bytes of a word and no line feed, and such a word that is not empty
+--   decimal-word, hex-word    numbers are such words
+--   AllWords ws               all are such words
+--   word-then, wordsThen ws, form-parts   the parts of a word and what follows, of words, and of a form
+--   noFeed l, noFeed-append, solid-noFeed, form-noFeed   bytes without a line feed: of two runs, a word, a form
+--   none-left, line-then      the lines of no text, and of a line with what follows
+--   AllLines ls, text-lines   lines without a line feed within, and the lines of their text
 use mathlib.Core.Path.{_≡_, refl, ap, _∙_}
 use Prim.Native.Nat.{ℕ, zero, suc, _+_, _/_, _%_, _≤_, _<_}
 use native.Mathlib.Omega.{arith}

@@ -1,4 +1,15 @@
 -- Bytes stored one after the other, and digits written from the last on.
+--   sets-append, put-on, put-end, put-both   stores: of two runs, one byte more, all bytes, and one behind the other
+--   digits-more, digits-ended, digits-stop, digits-start   decimal digits: more, the last, no place left, the start
+--   hex-start, hex-on, hex-end       hex digits: the start, one more, the end
+--   digits-part                      the digits within their 20 bytes
+--   decimal-length, decimal-short, hex-length-in, hex-length   how long numbers are
+--   label-decimal, label-hex         where a number behind its label ends
+--   held                             a line written from the start of 256 bytes
+--   line-written, line-bytes         a line that finds room: its place and its bytes
+--   no-room, no-bytes                one that does not
+--   day-short, forecast-short, refused-short, cheapest-short   how long each line is at most
+--   written-length, written-before   the list keeps its length, and the bytes before a line stay
 use mathlib.Core.Path.{_≡_, refl, sym, ap, _∙_}
 use Prim.Native.Nat.{ℕ, zero, suc, _+_, _-_, _/_, _%_, _≤_, _<_}
 use native.Mathlib.Omega.{arith}

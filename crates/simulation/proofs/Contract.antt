@@ -1,5 +1,8 @@
 -- THE CONTRACT OF A CALL (`RunContract`): a call that an entry test fails is answered as it came, and one that passes
 -- has the result of `simulated`; where it ends Ok, demand 3 holds of it.
+--   same-tests, same-check    the entry's tests do not look at the retention's value, the seed or the draws
+--   refused-is, accepted-is   the contract of a call that is refused at its entry, and of one that is accepted
+--   setting-ok                a call that passes has passed the test of its own setting
 use mathlib.Core.Path.{_≡_, refl, sym, ap, _∙_, subst}
 use mathlib.Core.Option.{some}
 use mathlib.Core.Bool.{Bool, true, not, _&&_, _||_}

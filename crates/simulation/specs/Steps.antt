@@ -1,5 +1,14 @@
 -- What the steps of a turn, the loop and the joining of a card leave, as the contracts of private functions say it: no
 -- caller of the run needs it. Definitions only.
+--   stopIn r                   the stop of an outcome
+--   outcomeOf n, afterOf s n   what a turn answers, and the state after it
+--   TurnContract n s r l       what a turn leaves
+--   PutOff, Untouched          the lists that a putting off writes, and lists left as they were
+--   PutOffStep, RetireStep     what these two steps of a turn leave
+--   DaysWritten, CardWritten   the two parts of what an event writes
+--   RunTurns R s n r l         what the loop over turns leaves
+--   InnerContract R s r l      what a call that the entry accepts leaves
+--   CardAdded                  the lists with one card more, at set-up
 use Prim.Native.Nat.{ℕ}
 use mathlib.Core.Bool.{Bool, true, false}
 use mathlib.Core.List.{List, []}

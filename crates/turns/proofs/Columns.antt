@@ -1,4 +1,10 @@
 -- The rows and the lapses that a run writes, turn by turn, are counts of its turns.
+--   Columns S C                    where a state has its rows and its lapses
+--   Writes k b span s t s′         what a turn writes
+--   SetUp k b span introduced₀ s   the rows as a run is set up
+--   Keeps                          a step of a run, as far as the rows go
+--   cost-row                       the cost of a day is the sum over its events
+--   rows                           all rows are what is claimed of them
 use Prim.Native.Nat.{ℕ, suc, _+_, _<_}
 use native.Mathlib.Omega.{arith}
 use mathlib.Core.Bool.{true, false, _&&_, cond}

@@ -1,5 +1,9 @@
 -- What a run has to show of each of its turns, from the state before it and the state after it alone; and that demand 3
 -- follows, of the whole list of turns.
+--   demand                              demand 3 of a chain in the queue's order and within the limits
+--   Tests k l kind d s                  the tests that a turn passes, on the rows of the state
+--   Step v k b l cards span ts s t s′   what a run shows of a turn
+--   run-demand, run-rows                demand 3 of a chain of such turns, and what is claimed of its rows
 use Prim.Native.Nat.{ℕ, _+_, _<_}
 use mathlib.Core.Bool.{true, false}
 use mathlib.Core.List.{List}

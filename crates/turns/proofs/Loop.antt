@@ -1,5 +1,14 @@
 -- A run as a definition: take the next turn until the run stops, at most n times. Its turns are a chain; and where
 -- chains are bounded in length, enough fuel comes to the stop, so that the fuel plays no part in what the run is.
+--   Lawful R I ts s x, Keeps I x, lawful-keeps   a turn that is a step of R and keeps I, and one that keeps I
+--   run-takes, run-stops, run-stopped   a run where a turn is taken, where it stops, and where it has stopped
+--   run-add, run-one-more, run-enough   n turns and m more, one more, and any more after the stop
+--   run-keeps                           what each turn keeps holds after any number
+--   Came m r, came                      a run has stopped, or its fuel is spent
+--   run-chain, run-ends                 the turns of a run are a chain, and with fuel enough it comes to a stop
+--   Same B next r r′ x, Follows B P     two runs of the same turns, and two turns of which the one follows the other
+--   run-follows                         where each turn follows, so does the run
+--   stop-takes, stop-stops, stop-is     how a run stops, turn by turn and in the end
 use Prim.Native.Nat.{ℕ, zero, suc, _+_, _-_, _≤_, _<_}
 use native.Mathlib.Omega.{arith}
 use mathlib.Core.List.{List, [], _∷_}

@@ -2,6 +2,13 @@
 -- turns, from any state: no card has two turns on one day, each has at most span + 1 turns in all, and the turns are at
 -- most cards × (span + 1).
 -- A state is looked at through a `View`: the day of each card, whether it is new, whether it is queued.
+--   View S, Same v s s′ c       how a state is looked at, and a card that looks the same in two
+--   Onward v span c d s′        a card goes on to a later day, from a day in the span
+--   Does v span kind c d s s′   what a turn of each kind needs of its card and leaves of it
+--   Moves v cards span s t s′   the whole of a turn
+--   onward, event-in-span       its card leaves or goes on, and an event lies in the span
+--   MoveSteps v cards span      turns as steps of a chain
+--   few-turns                   the bound on turns
 use Prim.Native.Nat.{ℕ, suc, _*_, _≤_, _<_}
 use native.Mathlib.Omega.{arith}
 use native.Mathlib.Decide.{ℕ-discrete}

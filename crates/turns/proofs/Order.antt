@@ -1,7 +1,10 @@
 -- The order of the queue, of which one number says all: a card's place is twice its day, and one more while it is new,
 -- so that a day's reviews come before its new cards. A turn takes a card whose place is least. Then places never fall
--- along a chain: so days never fall, and
--- on no day does a review come after a learning.
+-- along a chain: so days never fall, and on no day does a review come after a learning.
+--   place v s c, Least v s c              a card's place, and a card that none stands before
+--   least-by-key                          a queue that orders by place first has its least place first
+--   Orderly v cards span ts s t s′        a turn in the order of the queue
+--   days-never-fall, reviews-come-first   what a chain of such turns keeps
 use Prim.Native.Nat.{ℕ, suc, _+_, _*_, _≤_, _<_}
 use native.Mathlib.Omega.{arith}
 use native.Mathlib.Decide.{ℕ-discrete, decLe}

@@ -1,4 +1,10 @@
 -- Laws of sums over the numbers below n, and of the numbers 0 and 1 of a test: what counting by day and by card needs.
+--   bit-le                                a test counts at most 1
+--   at-same, at-eq, at-ne                 whether two numbers are equal, counted
+--   and-le, and-on, and-off               a test of two parts, counted
+--   lt-step, le-step, here-le             days before, reached and met, as a card goes on to a later day
+--   sum-zero, sum-add, sum-same, sum-le   sums of zeros, of sums, of the same terms, of bounded terms
+--   term-le, sum-at, sum-one              one term of a sum: its bound, its change, and where it stands alone
 use Prim.Native.Nat.{ℕ, zero, suc, _+_, _*_, _≤_, _<_}
 use native.Mathlib.Nat.{not-suc-le-zero}
 use native.Mathlib.Omega.{arith}

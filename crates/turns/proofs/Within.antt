@@ -1,6 +1,10 @@
 -- When a turn is within the limits, after the turns before it, and what follows for the whole list. Only lists of turns
 -- are spoken of: no state.
 -- A putting off and a retiring need no reason here, so that a further reason to put off changes nothing.
+--   First t before                               nothing was learned before a review on its day
+--   Allowed b l kind d ts, Within b l t before   what a turn needs of the turns before it
+--   DayOK b l d ts, days-ok                      a day keeps its limits
+--   each-paid                                    at no event was the cost of its day so far above the maximum
 use Prim.Native.Nat.{ℕ, _+_, _≤_, _<_}
 use native.Mathlib.Omega.{arith}
 use native.Mathlib.Decide.{ℕ-discrete}

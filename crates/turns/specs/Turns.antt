@@ -2,6 +2,16 @@
 -- A list of turns is kept LATEST FIRST: behind a turn stand the turns before it.
 -- Nothing here names a model version, a way to draw or a number format: `E` is whatever an event records besides its
 -- kind, such as its ratings, and `C` is whatever costs are, with their own sum.
+--   Kind E, Turn E                                    what a turn is: a card, a day, and one of four kinds
+--   Each P ts, All P ts, count p ts                   a claim of each turn, with or without those before it; a count
+--   isLearn, isReview, isEvent, isCorrect, isLapse    tests of a kind; an event is a learning or a review
+--   onDay p d ts                                      how many turns of a day are of such a kind
+--   learnedOn d ts, reviewedOn d ts, correctOn d ts   a day's learnings, reviews and recalled reviews
+--   handledOn c d ts                                  the events of a card on a day
+--   CostRule E C, costOn b d ts                       how costs are added, and the cost of a day
+--   Limits C                                          the limits in force on each day
+--   Demand cards span b l ts                          what is claimed of the turns
+--   Rows span introduced₀ lapses₀ lapses b .. ts      what is claimed of the rows that a run writes
 use Prim.Native.Nat.{ℕ, suc, _+_, _*_, _≤_, _<_}
 use mathlib.Core.Bool.{Bool, true, false, not, _&&_, cond}
 use mathlib.Core.List.{List, [], _∷_}

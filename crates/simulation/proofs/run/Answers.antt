@@ -1,4 +1,8 @@
 -- WHAT AN ANSWER TELLS of the run: how it stopped and what it came to; and where it is Ok, demand 3.
+--   ok-passed, passed-is   a call that ends Ok has passed its entry, and one that has passed has the run's result
+--   told-all, told-stop    an answer tells the stop and the progress, and the stop alone
+--   stop-told              a run that has stopped so answers so
+--   ok-demand              demand 3 of a run that ends Ok
 use mathlib.Core.Path.{_≡_, refl, sym, ap, _∙_}
 use mathlib.Core.Option.{Option, none, some}
 use lib.ListN.{length}

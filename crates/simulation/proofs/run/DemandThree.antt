@@ -1,4 +1,8 @@
 -- The daily rules of the whole list of turns of an accepted call, its rows, its end within the bound, and how it stops.
+--   run-bounds, start-good   the run's sizes, and its state as set up, are what the laws of a turn ask
+--   has-stopped, few-turns   the run has stopped, after at most cards × (span + 1) turns
+--   stops-so                 how it stops is told by the state that it comes to
+--   daily-rules, rows-are    the daily rules, and what is claimed of the rows
 use mathlib.Core.Path.{_≡_, subst}
 use mathlib.Core.List.{[]}
 use mathlib.Core.Option.{some}

@@ -1,5 +1,9 @@
 -- The loop over turns follows the definition: after k turns the lists are the state of `run k`, and what is left of the
 -- run stops as the whole.
+--   Going R s₀ bound s k    the state after k turns, of at most bound
+--   going-on, going-stops   one more turn, or a stop
+--   going-spent             as many turns as the bound
+--   going-start             no turn yet
 use mathlib.Core.Path.{_≡_, refl, sym, ap, _∙_}
 use mathlib.Core.List.{[], _∷_}
 use mathlib.Core.Option.{none, some}

@@ -1,4 +1,11 @@
 -- Set-up: the cards join the run one by one; then the state is as the theory of turns starts from, and good.
+--   filled-long, filled-at                        a list with its first places filled: its length, and those places
+--   Joining rows cards-len counts-len dated n s   the deck after n cards have joined, so many of them with a last date
+--   join                                          one more card joins
+--   Came b i s ok dated most s′                   a deck of so many cards at most, with its counts of due cards
+--   set-up-few                                    a run has no more cards than its deck size
+--   set-up-start                                  its rows are as set up
+--   set-up-good                                   its state is good
 use mathlib.Core.Path.{_≡_, refl, sym, ap, _∙_, subst}
 use mathlib.Core.Bool.{Bool, true, false, not, _&&_, cond, true≢false}
 use mathlib.Core.List.{List, []}

@@ -1,4 +1,9 @@
 -- The loops of set-up follow its definitions, turn by turn, over plain lists.
+--   filled-next                one more place filled
+--   joined-is                  one card joins
+--   retained-is, dropped-is    an existing card is kept, or is not
+--   retain-next, create-next   one more existing card, and one more new card
+--   known-next, known-le       the count of cards with a last date, one card on, and its bound
 use mathlib.Core.Path.{_≡_, sym, ap, _∙_}
 use mathlib.Core.Bool.{Bool, true, false, not, _&&_}
 use mathlib.Core.List.{List}

@@ -1,4 +1,10 @@
 -- What each step's calls leave, put together over plain lists.
+--   not-happened                       an event that has not happened is refusal 7
+--   put-off-refused, put-off-done      a putting off, refused and done
+--   event-full, event-taken            an event where the table is full, and where it is not
+--   chance-is, full-is, handled-is     what an event leaves: at refusal 7, at refusal 8, and else
+--   ended-is                           a turn of an empty queue
+--   retired-is, put-off-is, event-is   a turn of each choice
 use mathlib.Core.Path.{_≡_, refl, sym, ap, _∙_}
 use mathlib.Core.Bool.{Bool, true, false, true≢false, false≢true}
 use mathlib.Core.List.{List, [], _∷_}

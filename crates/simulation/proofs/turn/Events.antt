@@ -1,4 +1,8 @@
 -- Learnings and reviews are steps of the theory, and keep what the run's state keeps.
+--   new-int                                a card with a day for its last date is not new
+--   counts-long, own-lapses, else-lapses   the lapses after a card is written: the list's length, its own, the others'
+--   step-learn, good-learn                 a learning is a step, and leaves a good state
+--   step-review, good-review               a review is a step, and leaves a good state
 use mathlib.Core.Path.{_≡_, refl, sym, ap, _∙_, subst}
 use mathlib.Core.Bool.{Bool, true, false, not, _&&_, cond}
 use mathlib.Core.List.{List, []}

@@ -1,4 +1,11 @@
 -- What the run's state keeps, and that putting off and retiring are steps of the theory and keep it.
+--   write-long, write-own, write-else   the rows after a card is written: their number, its own, the others
+--   else-key, else-day, else-new        the others' keys, days and newness stay
+--   own-day, own-new, own-key           its own are those of the card written
+--   is-card, has-row, first-is          the first card is one of the cards, has a row, and comes first by its day
+--   in-span                             a card that is not retired has its day in the span
+--   step-put, good-put                  a putting off is a step, and leaves a good state
+--   step-retire, good-retire            a retiring is a step, and leaves a good state
 use mathlib.Core.Path.{_≡_, refl, sym, ap, _∙_}
 use mathlib.Core.Bool.{Bool, true, false}
 use mathlib.Core.List.{List}

@@ -1,6 +1,10 @@
 -- Every turn of `next` is a step of the theory and keeps the state good; so demand 3 holds of the whole list of turns
 -- of a run, and the run comes to its end or to a refusal within cards × (span + 1) turns. Of the model one law is
 -- asked: an interval is 1 to 36,500.
+--   law                        a turn is a step, and keeps the state good
+--   keeps                      so the state is good after any number of turns
+--   turns-demand, turns-rows   demand 3 of the turns, and what is claimed of the rows
+--   ends                       the run stops within the bound
 use mathlib.Core.Path.{_≡_, refl}
 use mathlib.Core.Bool.{Bool, true, false, _&&_}
 use mathlib.Core.List.{List, []}
