@@ -2,10 +2,11 @@
 --   good, tests, many          the records that pass from the first on, what the tests say, and how many are copied
 --   rowsIn, countsIn           the room after the copy
 --   tests-are                  the tests are the core's, with the room in refusal 6
+--   room-enough                where there is room they are the core's own
 --   many-fits, rows-fit        what is copied is there, and has room
 --   records-is                 the contract
 use mathlib.Core.Path.{_≡_, refl, sym, ap, _∙_, subst}
-use mathlib.Core.Bool.{Bool, true, _&&_}
+use mathlib.Core.Bool.{Bool, true, false, _&&_}
 use mathlib.Core.List.{List, [], _∷_, _++_, map, append-assoc}
 use mathlib.Core.Option.{some}
 use Prim.Native.Nat.{ℕ, zero, suc, _+_, _<_, _≤_}
@@ -73,6 +74,16 @@ module _ {A : Type 0} (f : Card → A) (cs : List Card) where
 row-is : (cs : List Card) (j : ℕ) → cardAt (floatRows cs) (countRows cs) j ≡ getD cs j blank
 unfolding cardAt blank
 row-is cs j = rw (List·getD-map floatsOf cs j blank, List·getD-map countsOf cs j blank)
+
+and-true : (b : Bool) → (b && true) ≡ b
+and-true true = refl
+and-true false = refl
+
+-- where there is room, each call is refused as the core refuses it: the same test, number and second number
+pub room-enough : (i : Inputs) (s : State Float) (floats counts : ℕ)
+    → hasRoom (length (i .existing)) floats counts ≡ true → checkedRecords i s floats counts ≡ checked i s
+unfolding checkedRecords
+room-enough i s floats counts e = rw (e, and-true (listsOk i s))
 
 not-finished : (x : Refusal) (p q : Progress) → answer.Refused x p ≡ answer.Finished q → ⊥
 not-finished x p q e = not-one cc

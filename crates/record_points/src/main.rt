@@ -1,6 +1,6 @@
-// Runs one forecast from three card records and from the same cards as rows: the first two lines are the same. Then
-// what the room for the rows holds, and calls that are refused: 5 with the third record, and 6 where the room is too
-// short, each with a room that is as it was.
+// Runs one forecast from the rows of three cards and from their records: the first two lines are the same. Then what
+// the room for the rows holds, and calls that are refused: 5 with the third record, and 6 where the room is too short,
+// each with a room that is as it was.
 use cards::Card;
 use cards::SimulatorConfig;
 use simulation::Answer;
