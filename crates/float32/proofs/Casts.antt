@@ -4,7 +4,7 @@
 --   below                              the whole part of a fraction below P is below P
 --   above-zero, not-zero               2 ^ w is not 0
 --   top-signed, top-unsigned           from 2 ^ w up it is the largest number
---   Middle x, middle                   from -2 ^ 31 up and below 2 ^ 31: what the function asks, and that it gives the cast
+--   Middle x, middle                   from -2 ^ 31, below 2 ^ 31: what the function asks, and that it gives the cast
 --   bottom-signed, nan-signed          below -2 ^ 31, and a NaN
 --   zero-unsigned                      -1 and below, and a NaN
 --   Middle-unsigned, middle-unsigned   above -1 and below 2 ^ 32, as Middle
