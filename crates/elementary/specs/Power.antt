@@ -1,6 +1,6 @@
 -- x^y for a finite x above 0 and a finite y, by whole numbers: x^y = 2^(y log2 x). `/` cuts down.
 --   normalized b                        the bit pattern of x, leading zeros shifted out: p
---   log2At i t, log2Of p                log2 x within an interval of the table, and log2 x + 159, in units of 2^-32
+--   log2At i t, log2Of p                log2 of a significand less i / 512, and log2 x + 159, in units of 2^-32
 --   absDiff l n                         |l - n|
 --   signedArg n l c u                   the exponent of 2, y log2 x + 2^16 + 126 in units of 2^-39, from |y log2 x|: z
 --   product g a, argOf l c              |y log2 x| in units of 2^-39, and the exponent of 2 from log2 x

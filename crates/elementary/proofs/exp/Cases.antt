@@ -1,4 +1,4 @@
--- The cases of the definitions, and the ranges of their values.
+-- The cases of exp's definitions, and the ranges of their values.
 --   packed-zero, packed-some, packed-suc   packed at e = 0, at any other e, and at i + 1
 --   packed-le                              its pattern is at most the infinity's
 --   abs-one, abs-mid                       expAbs below 2^-25, and from there below the limit

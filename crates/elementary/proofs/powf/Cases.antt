@@ -7,7 +7,7 @@
 --   to-inf-low, to-inf-high                  toInfBits for x below 1, and from 1 up
 --   num-zero, num-inf, num-to-inf, num-pow   numBits: x is 0, x is +infinity, y is infinite, and else
 --   at-zero, at-one, at-below, at-num        powAt: y is 0, x is 1, x is below 0, x is from 0 up
---   at-regular                               the same where both are finite and x is above 0
+--   at-regular                               and where both are finite and x is above 0
 --   nan-not-one                              NaN is not 1
 --   of-nan-y, of-nan-y-one                   y is NaN
 --   of-nan-x, of-nan-x-zero                  x is NaN
