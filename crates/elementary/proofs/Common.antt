@@ -1,4 +1,10 @@
 -- What the proofs of more than one function use: NaN and its patterns, and the fraction of a float.
+--   is-nan, is-number                         what passes the test x != x is NaN, and what fails it is a number
+--   equals-itself, unequal                    what passes the test x == x is a number, and what fails it is NaN
+--   number-of-bits, bits-of-number            numbers are the patterns up to the infinity's, but for the sign
+--   no-nan-bits, below-nan                    such a pattern is no NaN's
+--   infinity-is, minus-infinity-is, zero-is   the patterns of the infinities and of 0
+--   sign-is, fraction-is                      the sign and the fraction of a float that is ± u / c
 use mathlib.Core.Path.{_≡_, refl, sym, ap, subst, _∙_}
 use mathlib.Core.Bool.{Bool, true, false, not}
 use Prim.Native.Nat.{ℕ, _*_, _%_, _^_, _≤_, _<_}

@@ -1,5 +1,12 @@
 -- Results at single arguments, as theorems on the definitions; and what IsPow alone says of powf where x^y is an end of
 -- its range.
+--   exp-first-infinity, exp-first-zero   the first arguments from which e^x is +infinity, and 0
+--   nan-to-zero, nan-to-minus-zero       NaN^0 and NaN^-0 are 1
+--   exp-zero, exp-minus-zero, ln-one     e^0 and e^-0 are 1, and ln 1 is 0
+--   lower-end, smallest-normal           2^-126, and (2^-126)^1, are within two steps
+--   upper-end, infinite-end              (2^127)^1 is within two steps, 8^43 is +infinity
+--   zero-end, minus-zero                 2^-128 is 0, and (-0)^-3 is -infinity
+--   lower-is                             by the definition 2^-126 is itself
 use mathlib.Core.Path.{_≡_, refl, _∙_}
 use mathlib.Core.Bool.{true, false}
 use Prim.Native.Nat.{ℕ, _*_, _^_, _≤_, _<_}

@@ -1,6 +1,17 @@
 -- How near exp, ln and powf are to the exact values, and their results at the ends of their ranges. The exact values of
 -- exp and ln are those of the series (Rattle.series.specs.Exp), that of x^y is by whole-number powers; a finite float
 -- is num / den, with a sign.
+--   signOf x                         the sign of a float; a NaN's is clear
+--   ExpAtLeast, ExpAtMost x a b      a / b ≤ e^x, and e^x ≤ a / b
+--   IsExp x r                        r is right for e^x: within a step, and exact at 0 and past both ends
+--   LnGe, LnLe s x a b               a / b ≤ ln x, and ln x ≤ a / b; with s set, of - ln x
+--   WithinLn x r                     r is within a step of ln x or within 2^-40, whichever is more
+--   IsLn x r                         r is right for ln x
+--   RatioGe, RatioLe s a b n m c d   c / d ≤ (a / b)^(n / m), and the other way round; with s set, of - n / m
+--   PowGe, PowLe x y c d             c / d ≤ x^y, and x^y ≤ c / d
+--   Finite x y                       x is finite and above 0, and y is finite
+--   IsZero, IsOne, IsPlus, IsMinus, IsOdd   kinds of arguments
+--   IsPow x y r                      r is right for x^y: within two steps, and the special cases
 use mathlib.Core.Path.{_≡_}
 use mathlib.Core.Logic.{_⊎_}
 use mathlib.Core.Bool.{Bool, true, false, not}

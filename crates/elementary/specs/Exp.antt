@@ -1,5 +1,13 @@
 -- exp: the value at each f32, by whole numbers. x + 127 ln 2 is divided by ln 2 into n and a rest r, and e^x = 2^(n -
 -- 127) e^r. "Cut down" is the largest whole number that is not above.
+--   coarse, fine               the tables of e^(i / 16) and e^(i / 512)
+--   power i, small p, mant r   e^(i / 512), e^(p / 2^48) for p below 2^39, and e^(r / 2^48), in units of 2^-31
+--   fixed a                    |x| in units of 2^-48, from the bit pattern a of |x|
+--   packed e r                 the bit pattern of 2^(e - 127) e^(r / 2^48), rounded
+--   shifted s X                x + 127 ln 2 in units of 2^-48, less 128; s says that x is not negative
+--   limit s                    the pattern of |x| from which on e^x is +infinity, or 0
+--   expAbs s a, expBits b      the bit pattern of e^x from that of |x|, and from that of x
+--   expOf x                    e^x as an f32
 use mathlib.Core.List.{List, [], _∷_}
 use mathlib.Core.Bool.{Bool, cond}
 use Prim.Native.Nat.{ℕ, _+_, _-_, _*_, _/_, _%_, _^_}

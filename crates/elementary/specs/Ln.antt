@@ -1,6 +1,16 @@
 -- ln: the value at each f32, by whole numbers. x = m / 2^23 * 2^(n - 159), and m is multiplied by the reciprocals of
 -- two tables until it is just above a power of two. "Cut down" is the largest whole number that is not above, "cut up"
 -- the smallest that is not below.
+--   first, second               the tables: reciprocals, each with its logarithm
+--   lnSmall d                   ln (1 + d / 2^45) for a small d
+--   lnRest t j                  what is left of ln (m / 2^23) after the first table
+--   lnMant m                    ln (m / 2^23) in units of 2^-52, from below
+--   exponent b, significand b   x taken apart, from its bit pattern
+--   lnWide n m, lnFixed b       ln x + 159 ln 2 in units of 2^-52, from the parts of x, and from its bit pattern
+--   lnSize w, lnSign w          |ln x| from there, and the sign's bit
+--   rounded w                   the bit pattern of w / 2^52, rounded
+--   lnRounded w                 the bit pattern of ln x
+--   lnAt b, lnOf x              ln of the number with the bit pattern b, and ln x as an f32
 use mathlib.Core.List.{List, [], _∷_}
 use mathlib.Core.Bool.{cond, true, false}
 use Prim.Native.Nat.{ℕ, _+_, _-_, _*_, _/_, _%_, _^_}

@@ -1,6 +1,12 @@
 -- powf: the value at each pair of f32. For a finite x above 0 and a finite y it is powBits (specs/Power); here are the
 -- special cases. b and c are the bit patterns of x and y, 0x3F800000 is that of 1, 0x7F800000 that of +infinity, and
 -- the sign's bit is 2^31.
+--   isOdd a                    the pattern a of |y| is that of an odd whole number
+--   zeroSize c, zeroBits b c   a zero to the y: the size, and with the sign
+--   infBits c, toInfBits b c   +infinity to the y, and x to an infinity
+--   numBits b c                x from 0 up, where y is not 0 and x is not 1
+--   powAt b c                  x^y where neither is a NaN
+--   powOf x y                  x^y as an f32
 use mathlib.Core.Bool.{Bool, false, cond}
 use Prim.Native.Nat.{ℕ, _+_, _-_, _*_, _/_, _%_, _^_}
 use lib.Dec.{ltb, eqb}

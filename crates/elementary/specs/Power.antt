@@ -1,4 +1,17 @@
 -- x^y for a finite x above 0 and a finite y, by whole numbers: x^y = 2^(y log2 x). `/` cuts down.
+--   normalized b                        the bit pattern of x, leading zeros shifted out: p
+--   log2At i t, log2Of p                log2 of a significand less i / 512, and log2 x + 159, in units of 2^-32
+--   absDiff l n                         |l - n|
+--   signedArg n l c u                   the exponent of 2, y log2 x + 2^16 + 126 in units of 2^-39, from |y log2 x|: z
+--   product g a, argOf l c              |y log2 x| in units of 2^-39, and the exponent of 2 from log2 x
+--   exp2m1 r, exp2Of f, exp2Bits z      2^(r / 2^39) - 1 for a small r, 2^(f / 2^39), and the bit pattern of x^y
+--   nearBits b c                        x^y for |y| up to 128
+--   fineLog2At i t                      for |y| above 128: as log2At, in units of 2^-35
+--   squares k x                         x squared k times, as long as it is from 1/4 to 4
+--   fineLog2 x, fineArg l c             log2 x + 159 of such a square, and the exponent of 2 from it
+--   squared p c, largeArg x c           x^(2^k), where |y| / 2^k is from 64 to 128, and the exponent of 2 from it
+--   largeBits b c                       x^y for |y| above 128
+--   powBits b c                         x^y for any finite y
 use mathlib.Core.Bool.{not, cond}
 use Prim.Native.Nat.{ℕ, zero, suc, _+_, _-_, _*_, _/_, _%_, _^_}
 use lib.Dec.{ltb, eqb}

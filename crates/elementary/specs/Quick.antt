@@ -1,4 +1,11 @@
--- What the code's arms ask and promise.
+-- What the arms of powf's code ask and promise, by the bit patterns b of x and c of y.
+--   Near b c               x finite and above 0, |y| up to 128
+--   Quick b c              x from 1 to 2^32, y from -2 to -2^-31
+--   ArgAsked l c quick     what the exponent of 2 asks of log2 x and of y
+--   ArgIs l c quick r      r is that exponent
+--   Special b c            neither is a NaN, and x^y is a special case
+--   IsBase x, IsDecay c    the x and the y of a block of powers, in the range of Quick
+--   quickArg b c           y log2 x + 126 in units of 2^-39, for these
 use mathlib.Core.Path.{_≡_}
 use mathlib.Core.Bool.{Bool, true, false, not, cond}
 use Prim.Native.Nat.{ℕ, _+_, _-_, _*_, _/_, _%_, _^_, _≤_, _<_}

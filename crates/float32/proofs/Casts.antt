@@ -1,5 +1,13 @@
 -- A float `as` an integer, by ranges: above the type's largest number, below its smallest, and between, where std's
 -- `truncating_` functions go. Assumes nothing.
+--   two-to w, minus-two-to w           2 ^ w and -2 ^ w
+--   below                              the whole part of a fraction below P is below P
+--   above-zero, not-zero               2 ^ w is not 0
+--   top-signed, top-unsigned           from 2 ^ w up it is the largest number
+--   Middle x, middle                   from -2 ^ 31, below 2 ^ 31: what the function asks, and that it gives the cast
+--   bottom-signed, nan-signed          below -2 ^ 31, and a NaN
+--   zero-unsigned                      -1 and below, and a NaN
+--   Middle-unsigned, middle-unsigned   above -1 and below 2 ^ 32, as Middle
 use mathlib.Core.Path.{_≡_, refl, sym, ap}
 use mathlib.Core.Bool.{Bool, true, false, not, _&&_, _||_}
 use Prim.Native.Nat.{ℕ, _+_, _-_, _*_, _/_, _^_, _≤_, _<_, min}

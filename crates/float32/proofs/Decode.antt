@@ -1,4 +1,8 @@
 -- The value of a finite float from the fields of its bit pattern, in either format. Assumes nothing.
+--   finite-no-nan          a finite float is no NaN
+--   significand-lt         a significand has no more digits than the format
+--   normal                 above the lowest exponent it has all of them
+--   Decoded f b x, decode  x is the float of the fields of b; a finite float is that of its own pattern
 use mathlib.Core.Path.{_≡_, refl, sym, ap, _∙_, subst}
 use mathlib.Core.Bool.{Bool, true, false, not, cond, true≢false}
 use Prim.Native.Nat.{ℕ, zero, suc, _+_, _-_, _*_, _/_, _%_, _^_, _≤_, _<_}

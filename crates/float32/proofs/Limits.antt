@@ -1,5 +1,11 @@
 -- Laws of `clamp`, `max` and `min`: a number that is clamped lies between the ends, and which maxima and minima are
 -- numbers. Assumes nothing.
+--   Between lo hi x                        lo ≤ x ≤ hi
+--   not-below, le-refl                     of numbers: what is not below is at or above, and x ≤ x
+--   le-left, le-right, lt-left, lt-right   what has an order is a number
+--   clamp-between                          a number that is clamped
+--   max-ge, min-le                         a maximum is at least its second number, a minimum at most
+--   max-first, min-first                   they are numbers where the first is
 use mathlib.Core.Path.{_≡_, refl, sym}
 use mathlib.Core.Bool.{Bool, true, false, _&&_, _||_, cond, true≢false}
 use Prim.Native.Nat.{ℕ, _+_, _*_, _≤_}

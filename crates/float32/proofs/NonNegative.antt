@@ -1,5 +1,10 @@
 -- Floats with a clear sign, +infinity too: sums and products of them are such floats again, and none is below 0.
 -- Assumes nothing.
+--   nonNegative x, number             the sign is clear; such a float is no NaN
+--   round-clear, whole-clear          what is rounded with a clear sign; a whole number
+--   add-clear, mul-clear, div-clear   a sum; a product with a finite number above 0, and a quotient by one
+--   not-below-zero                    such a float is not below 0
+--   max-clear, min-clear              a maximum with a finite number above 0; a minimum of two such floats
 use mathlib.Core.Path.{_≡_, refl, sym, _∙_, subst}
 use mathlib.Core.Bool.{Bool, true, false, not, cond, true≢false}
 use Prim.Native.Nat.{ℕ, zero, suc, _+_, _*_, _^_, _<_}

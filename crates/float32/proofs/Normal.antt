@@ -1,5 +1,10 @@
--- A word shifted up until its highest digit is at exponent binary32 61, and the sums of which one term is 0. Assumes
--- nothing.
+-- A word shifted up until its highest digit is at place 61, and the sums of which one term is 0. Assumes nothing.
+--   pow-lt-back                        powers of two in order have exponents in order
+--   z-le, n-over, n-under              the word has at most 60 digits; shifted up it is from 2 ^ 61 below 2 ^ 62
+--   n-fours, n-value                   it is then a multiple of 4, and the same value with a lower exponent
+--   ordered                            two such words are as the shift of specs/Sticky asks
+--   back                               x - (x - y) is y
+--   zero-left, zero-right, zero-both   a sum whose first term is 0, its second, or both
 use mathlib.Core.Path.{_≡_, refl, sym, ap, _∙_, subst}
 use mathlib.Core.Bool.{Bool, true, false, _&&_, true≢false}
 use Prim.Native.Nat.{ℕ, _+_, _-_, _*_, _%_, _^_, _≤_, _<_}

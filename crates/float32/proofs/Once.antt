@@ -1,4 +1,8 @@
 -- `mulAdd` of three finite `f32` from the `f64` sum, where its pattern is `RoundsOnce`. Assumes nothing.
+--   narrow-room                the exponent of the `f64` is at least the lowest of an `f32`
+--   narrow-is, narrow-no-nan   the `f32` made of its pattern, and that it is no NaN
+--   sum-no-nan                 the `f64` sum is no NaN
+--   quick-is                   narrowed so, it is `mulAdd`
 use mathlib.Core.Path.{_≡_, sym, ap, _∙_, subst}
 use mathlib.Core.Bool.{Bool, true, false, not, cond}
 use Prim.Native.Nat.{ℕ, _+_, _-_, _*_, _/_, _%_, _^_, _≤_, _<_}

@@ -1,5 +1,8 @@
 -- A float from its parts: the pattern with the sign s, and below it k * 2 ^ 23 + q, is q * 2 ^ k units of the smallest
 -- value. Assumes nothing.
+--   odd-more                     below 2 ^ d `odd` finds no more trailing zeros after d digits
+--   pack-units, pack-no-nan      the pattern's value, and that it is no NaN
+--   infinity-no-nan, pack-over   an overflow: the infinity's pattern
 use mathlib.Core.Path.{_≡_, refl, sym, ap, _∙_, subst}
 use mathlib.Core.Logic.{_⊎_, inl, inr}
 use mathlib.Core.Bool.{Bool, true, false, not, cond}

@@ -1,4 +1,8 @@
 -- `mulAdd` of three finite floats from the fields of their bit patterns. Assumes nothing.
+--   product-lt            a product of two significands has at most 48 digits
+--   left, right           the two terms of the sum, over 2 ^ 1074
+--   fma-is                of finite floats: `mulAdd` is the sum of these
+--   fma-x, fma-y, fma-z   where x, y or z is not finite
 use mathlib.Core.Path.{_≡_, refl, sym, ap, _∙_}
 use mathlib.Core.Bool.{Bool, true, false, true≢false}
 use Prim.Native.Nat.{ℕ, _+_, _*_, _^_, _<_}

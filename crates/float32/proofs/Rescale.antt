@@ -1,4 +1,9 @@
 -- A machine word times a power of two, rounded to an `f32`: how many digits go, and what is kept. Assumes nothing.
+--   pow-split                  2 ^ i * 2 ^ j is 2 ^ (i + j)
+--   shift-room                 a shift up that keeps 24 digits is by less than 64
+--   shifted-up, shifted-down   m * 2 ^ e / 2 ^ g to the nearest whole number, by a shift up or down
+--   x-under, q-le, q-ge        k digits go from the number x, and q, from 2 ^ 23 to 2 ^ 24, is kept (less where k is 0)
+--   packed, packed-zero        q and k are the `f32`; that of 0
 use mathlib.Core.Path.{_≡_, refl, sym, ap, _∙_}
 use mathlib.Core.Bool.{Bool}
 use Prim.Native.Nat.{ℕ, _+_, _-_, _*_, _/_, _%_, _^_, _≤_, _<_, compare}

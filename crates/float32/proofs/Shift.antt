@@ -1,5 +1,10 @@
 -- A shift that rounds: m / 2 ^ sh to the nearest, a tie to the even one, from h = m / 2 ^ (sh - 1), whose last digit is
 -- the one that is rounded off. Assumes nothing.
+--   two-pow                           2 ^ k is twice 2 ^ (k - 1)
+--   shift-even, shift-tie, shift-up   that digit is 0; it is 1 with nothing below it; it is 1 with more below it
+--   back-up                           the shift back up loses nothing
+--   shift-out, shift-none             all digits go, and more; none goes
+--   size-leading                      how many digits a word has, from its leading zeros
 use mathlib.Core.Path.{_≡_, sym, ap, _∙_}
 use Prim.Native.Nat.{ℕ, zero, suc, _+_, _-_, _*_, _/_, _%_, _^_, _≤_, _<_, Ordering}
 use native.Mathlib.Nat.{lt-of-lt-of-le, lt-of-le-of-lt, le-of-eq, le-trans, mul-assoc, add-mul, mod-lt, mod-eq-of-lt}

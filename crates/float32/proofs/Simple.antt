@@ -1,5 +1,8 @@
 -- Facts on single floats: which differ from themselves, which are finite, and what `abs` is by cases on the sign.
 -- Assumes nothing.
+--   nan-test                           only a NaN differs from itself
+--   finite-under, finite-over          finite is between the infinities
+--   abs-negative, abs-zero, abs-rest   `abs` below 0, at a zero, and elsewhere
 use mathlib.Core.Path.{_≡_, refl, sym, ap}
 use mathlib.Core.Bool.{Bool, true, false, not, _&&_, true≢false, false≢true}
 use Prim.Native.Nat.{ℕ, zero, suc, _+_, _*_, _^_, _≤_, _<_}

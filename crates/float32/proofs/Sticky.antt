@@ -1,6 +1,14 @@
 -- Rounding sees of a fraction only where it lies between two neighbours of a fine enough grid. So where a fraction is
 -- not on the grid, any other point strictly between the same two neighbours stands for it: the odd one of a grid twice
 -- as fine. `round-odd` says so of `Ieee.round`. Assumes nothing.
+--   Cmp, cmp                             what the outcome of `compare` says
+--   compare-lt, compare-gt, compare-eq   its outcome, from the order
+--   closest-of                           `closest` from a quotient and a remainder
+--   closest-odd                          a number between two neighbours goes where the odd one goes
+--   size-gt, drop-is                     how many digits are dropped, from where the fraction lies
+--   drop-under, drop-over                where the fraction lies, from how many digits are dropped
+--   round-at                             `round` by `closest`, with k digits dropped
+--   round-odd                            the rule above
 use mathlib.Core.Path.{_≡_, refl, sym, ap, _∙_, subst}
 use mathlib.Core.Logic.{_⊎_, inl, inr}
 use mathlib.Core.Bool.{Bool, true, false, not}

@@ -1,5 +1,14 @@
 -- `Ieee.sum` by the signs and the order of its two terms, at another denominator, and of two terms of which one is
 -- shifted and jammed. Assumes nothing.
+--   sum-like                         two terms of one sign
+--   sum-over, sum-under, sum-level   of unlike signs, the first the larger, the smaller, or as large
+--   Order, order                     two numbers are less, the same or more
+--   like-same, test                  signs that are not unlike are the same; a test is true or false
+--   sum-swap, sum-same               the terms exchanged, and at another denominator
+--   like-round                       a term h and a jammed term j add up, rounded, as the exact terms do
+--   is-less, over-round              j below h: so are the exact terms, and the difference rounds as theirs
+--   is-more, under-round, is-level   the same with j above h, and the order with j at h
+--   j-small                          the jammed term has at most 62 digits
 use mathlib.Core.Path.{_≡_, refl, sym, ap, _∙_}
 use mathlib.Core.Logic.{inl, inr}
 use mathlib.Core.Bool.{Bool, true, false, not, _&&_, cond, true≢false, false≢true}

@@ -1,5 +1,10 @@
 -- Where rounding twice, first to an `f64` and then to an `f32`, is rounding once: the `f64` is normal, no power of two,
 -- and not half way between two `f32`. Assumes nothing.
+--   away q        q / 2 ^ 29 to the nearest whole number, a half up
+--   as-q          a number within a half of q goes there too
+--   one-value     a float has one sign and one size
+--   sign-is       the `f64` has the sign of the fraction
+--   rounds-once   that `f64`, rounded to an `f32`, is the fraction rounded to an `f32`
 use mathlib.Core.Path.{_≡_, refl, sym, ap, _∙_, subst}
 use mathlib.Core.Bool.{Bool, true, false, cond}
 use Prim.Native.Nat.{ℕ, suc, _+_, _-_, _*_, _/_, _%_, _^_, _≤_, _<_, compare, Ordering, Ordering·lt, Ordering·eq}

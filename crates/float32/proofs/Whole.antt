@@ -1,4 +1,12 @@
 -- `Float32.round` of a finite `f32` from the fields of its bit pattern. Assumes nothing.
+--   not-finite-round             a float that is not finite stays as it is
+--   cross, half                  a fraction n / d as q * 2 ^ k / 2 ^ 149, and its whole part with a half added
+--   w-scaled, n-is, half-none    the same where it is a whole number
+--   round-small, round-big       the law, of a float with a fraction, and of a whole number
+--   neg-round                    a negative result
+--   half-le, half-none'          the whole part is at most 2 ^ 24, and 0 where more than 25 digits go
+--   one-shifted, one-small       1 shifted up by at most 25 digits
+--   round-number                 a number rounds to a number
 use mathlib.Core.Path.{_≡_, refl, sym, ap, _∙_}
 use mathlib.Core.Bool.{Bool, true, false, cond, true≢false}
 use Prim.Native.Nat.{ℕ, zero, suc, _+_, _-_, _*_, _/_, _%_, _^_, _≤_, _<_}

@@ -1,5 +1,12 @@
 -- x * y + z of three `f32`, in `f64`: the product is exact, so the sum is the exact value rounded once, to an `f64`.
 -- Assumes nothing.
+--   widens                      a finite `f32` is an `f64`
+--   fraction                    a sum is one fraction, rounded, whatever the format
+--   add-at, mul-at              `add` and `mul` from the values of their operands
+--   mul-exact                   the product is exact
+--   wider                       a value in units of 2 ^ -149, in units of 2 ^ -1074
+--   sum-64                      the sum is the exact value, rounded once
+--   round-no-nan, bits-finite   a rounded fraction is no NaN; a pattern whose field is not all ones is finite
 use mathlib.Core.Path.{_≡_, refl, sym, ap, _∙_, subst}
 use mathlib.Core.Bool.{Bool, true, false, not, cond, _&&_}
 use Prim.Native.Nat.{ℕ, zero, suc, _+_, _-_, _*_, _/_, _%_, _^_, _≤_, _<_}

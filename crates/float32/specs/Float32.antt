@@ -1,5 +1,10 @@
 -- What Rust's functions on `f32` return, for every value. A float is `lib.Ieee`'s: `nan`, `inf s`, or `fin s m e`,
 -- which is m * 2 ^ e, negative where s is true. Definitions only. Assumes nothing.
+--   isFinite x, abs x     neither a NaN nor an infinity; x with a clear sign
+--   max x y, min x y      the larger and the smaller; a NaN loses against a number
+--   clamp x lo hi         x, or the end that it lies beyond
+--   round x               the nearest whole number, a half away from zero
+--   mulAdd x y z          x * y + z, rounded once
 use Prim.Native.Nat.{_+_, _*_, _/_}
 use mathlib.Core.Bool.{Bool, true, false, cond}
 use lib.Ieee as Ieee

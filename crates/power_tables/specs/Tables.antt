@@ -1,4 +1,8 @@
 -- The two tables of powf, as lists. Their rules are proved in proofs/Rules.antt.
+--   heights, powers           the tables: log2 (1 + i / 512) - i / 512, and 2^(i / 128)
+--   height i, power i         their entries
+--   slope i, curvature i      of log2 within the interval i: the factors of t and of t^2
+--   lineWord i, powerWord i   what the code holds in one word: a number for a sum, and a factor
 use mathlib.Core.List.{List, [], _∷_}
 use Prim.Native.Nat.{ℕ, _+_, _-_, _*_, _/_, _^_}
 use lib.ListN.{getD}

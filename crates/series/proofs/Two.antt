@@ -1,5 +1,17 @@
 -- 2^(p / q) against fractions, by whole numbers alone: 2^(p / q) ≤ a / b is 2^p b^q ≤ a^q. Shut, so that no power is
 -- computed.
+--   pow-pow, one-pow, root             powers: of a power, of 1, and the k-th root keeps the order
+--   TwoLe, TwoGe p q a b               2^(p / q) ≤ a / b, and a / b ≤ 2^(p / q)
+--   two-le-mono, two-ge-mono           2^x grows with x
+--   two-le-weaken, two-ge-weaken       a weaker bound
+--   two-le-mul, two-ge-mul             2^(x + y) = 2^x 2^y
+--   two-ge-quot, two-le-quot           2^x = 2^(x + y) / 2^y
+--   two-le-one, two-ge-one             2^0 = 1
+--   two-cut                            bounds from below and from above are in order
+--   two-le-up, two-ge-up, two-le-down, two-ge-down   p / q = (k p) / (k q)
+--   two-le-whole, two-ge-whole         2^k itself
+--   ln2-le, ln2-ge                     the two bounds of ln 2
+--   two-le-exp, two-ge-exp             from a bound of e^(x ln 2) to one of 2^x
 use mathlib.Core.Path.{_≡_, subst}
 use mathlib.Core.Logic.{_⊎_, inl, inr}
 use Prim.Native.Nat.{ℕ, zero, suc, _+_, _*_, _^_, _≤_, _<_}

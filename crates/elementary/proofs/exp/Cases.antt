@@ -1,4 +1,12 @@
--- The cases of the definitions, and the ranges of their values.
+-- The cases of exp's definitions, and the ranges of their values.
+--   packed-zero, packed-some, packed-suc   packed at e = 0, at any other e, and at i + 1
+--   packed-le                              its pattern is at most the infinity's
+--   abs-one, abs-mid                       expAbs below 2^-25, and from there below the limit
+--   limit-ge, limit-le                     the limit, from both sides
+--   abs-end                                expAbs from the limit on
+--   bits-is, bits-pos, bits-neg            expBits as expAbs, with a clear sign, and with the sign set
+--   fixed-le, fixed-pos, fixed-neg         fixed from above: by a pattern, and below the limits
+--   fixed-low                              and from below
 use mathlib.Core.Path.{_≡_, refl, ap, _∙_}
 use mathlib.Core.Bool.{Bool, true, false, cond}
 use mathlib.Core.Logic.{inl, inr}

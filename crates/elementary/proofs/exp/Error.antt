@@ -1,4 +1,9 @@
 -- The recipe's bounds: mant r ≤ 2^31 e^(r / 2^48) ≤ mant r + 25.
+--   coarse-high, fine-high         the entries of the two tables from above
+--   table-low, table-high          the range of power i
+--   table-ge, table-le             power i is at most 5 below 2^31 e^(i / 512), and not above
+--   small-ge, small-lt, small-le   small p is at most 8 below 2^31 e^(p / 2^48), and not above; its range
+--   mant-ge, mant-le, mant-low     the bounds above, and that mant r is at least 2^31
 use mathlib.Core.Path.{_≡_, subst}
 use mathlib.Core.Bool.{Bool}
 use Prim.Native.Nat.{ℕ, _+_, _*_, _/_, _%_, _^_, _≤_, _<_}

@@ -1,4 +1,9 @@
 -- expOf meets IsExp.
+--   packed-value             the value of a packed pattern, from 2^-126 up
+--   of-x, of-nan             expOf at a number, and at NaN
+--   shifted-le, shifted-ge   below the limit the quotient n is from 1 to 254
+--   fixed-fits               and fixed is a number that the code's words hold
+--   exp-law                  the law
 use mathlib.Core.Path.{_≡_, refl, sym, ap, _∙_, subst}
 use mathlib.Core.Logic.{_⊎_, inl, inr}
 use mathlib.Core.Bool.{Bool, true, false, not}

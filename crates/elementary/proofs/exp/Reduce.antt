@@ -1,4 +1,7 @@
 -- e^x for a fixed point x = ± X / 2^48, cut into 2^n and e^r.
+--   mant-high                 for a rest r, mant r is at most 2^32
+--   pos-ge, pos-ge′, pos-le   the bounds of e^x for x from 0 up, near k ln 2 + r / 2^48: at most 90 units off
+--   neg-ge, neg-ge′, neg-le   the same for x below 0
 use Prim.Native.Nat.{ℕ, _+_, _-_, _*_, _^_, _≤_, _<_}
 use native.Mathlib.Nat.{le-refl, mul-le-mul-left}
 use native.Mathlib.Omega.{arith}

@@ -1,5 +1,12 @@
 -- The law of 2^(f / 2^39) for f below 2^39, and of its two roundings: to 24 digits within 5/8 of the last, to 23 within
 -- 9/16.
+--   fraction-high                     exp2Of f from above
+--   digits, digits-low, digits-high   the 24 digits, and their range
+--   digits-ge, digits-le              their bounds
+--   lesser, lesser-low, lesser-high   the 23 digits, for the subnormals, and their range
+--   lesser-ge, lesser-le              their bounds
+--   width                             2^((2^15 + 1) / 2^39) from above: the error of the exponent
+--   digits-one                        next above a power of two the digits are those of the power
 use mathlib.Core.Path.{_≡_, subst}
 use Prim.Native.Nat.{ℕ, _+_, _-_, _*_, _/_, _%_, _^_, _≤_, _<_}
 use native.Mathlib.Nat.{mul-le-mul-left, mul-le-mul-right}

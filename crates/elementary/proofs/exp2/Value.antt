@@ -1,5 +1,10 @@
 -- From bounds of a number by 2^(z / 2^39 - 2^16 - 126), at most 2^15 + 1 units of the exponent off, to the float with
 -- the pattern exp2Bits z.
+--   value-zero, value-sub, value-normal, value-inf   the cases of exp2Bits
+--   not-under, is-under                              the number is at least 2^-127, or at most 3 / 2^128, by where z is
+--   is-over, not-over                                it is at least 3 * 2^126, or at most 3 * 2^127
+--   sub-near                                         the float is within two steps, next below 2^-126
+--   normal-near                                      and from there on, or the number is at least 3 * 2^126
 use mathlib.Core.Path.{_≡_, refl, sym, _∙_, subst}
 use mathlib.Core.Logic.{_⊎_, inl, inr}
 use mathlib.Core.Bool.{false}

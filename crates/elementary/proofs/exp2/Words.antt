@@ -1,4 +1,11 @@
 -- What the code of 2^z asks: that its words hold the numbers of the definition, and that nothing passes 64 bits.
+--   small-fits, small-lt               the small power: its product, and its size
+--   DigitsFit w z s, digits-fit        the digits from a word of the table and a small power, within 64 bits
+--   Digits z d                         d is the digits, less the straight line
+--   normal-is, sub-is                  the bit pattern from them, of a normal number and of a subnormal
+--   sub-le, normal-le                  its size
+--   quick-digits, quick-is, quick-le   the same with z counted from 2^55
+--   exp2-le                            no pattern is a NaN's
 use mathlib.Core.Path.{_≡_, refl, sym, ap, ap₂, _∙_}
 use mathlib.Core.Logic.{_⊎_, inl, inr}
 use Prim.Native.Nat.{ℕ, _+_, _-_, _*_, _/_, _%_, _^_, _≤_, _<_}

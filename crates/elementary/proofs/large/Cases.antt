@@ -1,4 +1,8 @@
 -- The cases of the definitions for |y| above 128.
+--   squared-1, squared-2         squared for x below 1/4, and for x from 1/4 to 4, where it goes by squares
+--   squared-3, squared-4         from 1/4 to 4 with a y too large for that: x below 1, and x from 1 up
+--   squared-5                    x of 4 or more
+--   arg-low, arg-mid, arg-high   largeArg, by whether the square is below 1/4, between, or 4 or more
 use mathlib.Core.Path.{_≡_}
 use mathlib.Core.Bool.{cond}
 use Prim.Native.Nat.{ℕ, _+_, _-_, _*_, _/_, _%_, _^_, _≤_, _<_}

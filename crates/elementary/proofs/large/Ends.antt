@@ -1,4 +1,9 @@
 -- |y| above 128: an exponent that is taken from x to its squares, and results that are past both ends.
+--   ge-of-squares, le-of-squares   a bound of (x^k)^y is one of x^(k y)
+--   past                           where x^k is at least p / r, and y at least 64 k, x^y is at least (p / r)^64
+--   above-ge, above-le             a square of 4 or more: the result is past one end or the other, by the sign of y
+--   below-ge, below-le             the same of a square of 1/4 or hardly more
+--   four-times                     Bernoulli: what is 1 + 2^-j or more, is 4 or more after j + 1 squares
 use mathlib.Core.Path.{_≡_, sym, ap, ap₂, _∙_, subst}
 use mathlib.Core.Bool.{Bool, true, false}
 use Prim.Native.Nat.{ℕ, zero, suc, _+_, _-_, _*_, _^_, _≤_, _<_}

@@ -1,4 +1,10 @@
 -- The finer logarithm of a fixed point number from 1/4 to 4, and of the power 2^k of x that it stands for.
+--   Top x z, top            z leading zeros taken off x, and that leadingZeros is such a z
+--   fine-is                 what fineLog2 is
+--   z, y, w                 the leading zeros, the significand of 36 digits, and its logarithm
+--   w-lt, fine-range        the ranges of that and of fineLog2
+--   fine-low, fine-high     fineLog2 x against log2 x, from below and from above
+--   power-low, power-high   the bounds for a / b after n squares
 use mathlib.Core.Path.{_≡_, refl, sym, ap, _∙_, subst}
 use mathlib.Core.Logic.{_⊎_, inl, inr}
 use Prim.Native.Nat.{ℕ, suc, _+_, _-_, _*_, _/_, _%_, _^_, _≤_, _<_}

@@ -1,5 +1,12 @@
 -- x = a / b squared again and again, in units of 2^-60, cut down: after i squares it is at most 2^i 2^-57 of itself too
 -- low.
+--   State a b i X                             X is x after i squares, and how far off
+--   Result a b n X                            what n squares come to: one from 1/4 to 4, or one past these on the way
+--   squares-zero, squares-low, squares-high   squares, where nothing is done
+--   squares-mid                               and where x is squared
+--   run                                       from a State to the Result after k more squares
+--   SquareFits h l x, square-is               a square from the halves of x, in 64 bits
+--   one-more                                  one square at a time
 use mathlib.Core.Path.{_≡_, refl, sym, ap, _∙_, subst}
 use mathlib.Core.Logic.{_⊎_, inl, inr}
 use Prim.Native.Nat.{ℕ, zero, suc, _+_, _-_, _*_, _/_, _%_, _^_, _≤_, _<_}

@@ -1,4 +1,9 @@
 -- What the code for |y| above 128 asks.
+--   zeros                    the leading zeros of a number from 1/4 to 4
+--   fine-tight, product-le   the range of its logarithm, and of the product with y
+--   fine-from                fineLog2 from the code's steps
+--   plus, minus              a choice by the sign of y
+--   large-from               largeBits from the code's steps
 use mathlib.Core.Path.{_≡_, sym, ap, _∙_}
 use mathlib.Core.Logic.{_⊎_, inl, inr}
 use mathlib.Core.Bool.{cond}

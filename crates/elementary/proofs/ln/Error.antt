@@ -1,4 +1,12 @@
 -- The recipe's bounds: e^(lnMant m / 2^52) ≤ m / 2^23 ≤ e^((lnMant m + 1320) / 2^52).
+--   c-of, l-of, c2-of, l2-of          the reciprocal and the logarithm of an entry, in the first table and the second
+--   log-entry, log2-entry             what an entry's logarithm is
+--   square, square-le, square-lt      the square in lnSmall, rounded up, and its size
+--   small-lt                          the size of lnSmall
+--   D-of, product, D-le, rest-lt      the second table: what is left after it, the product with its reciprocal, sizes
+--   i-of, t-of, j-of                  the first table: its index, the product with its reciprocal, the second's index
+--   i-lt, t-range, j-lt, j-lo, j-hi   their ranges
+--   lnMant-le, lnMant-ge              the two bounds above
 use mathlib.Core.Path.{_≡_, refl, ap}
 use mathlib.Core.Bool.{Bool}
 use Prim.Native.Nat.{ℕ, zero, suc, _+_, _-_, _*_, _/_, _%_, _^_, _≤_, _<_}

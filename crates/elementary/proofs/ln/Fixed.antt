@@ -1,4 +1,7 @@
 -- |ln x| in fixed point, from below, within 1500 units of 2^-52.
+--   up-le, up-ge       the bounds for x = m / 2^23 * 2^k
+--   down-le, down-ge   the bounds for x = m / 2^23 / 2^k, which are those of - ln x
+--   lnMant-lt          ln (m / 2^23) is below ln 2, with room for the error
 use mathlib.Core.Path.{_≡_, sym, subst}
 use mathlib.Core.Logic.{_⊎_, inl, inr}
 use Prim.Native.Nat.{ℕ, _+_, _*_, _/_, _^_, _≤_, _<_}

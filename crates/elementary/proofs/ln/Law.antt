@@ -1,4 +1,10 @@
 -- lnOf meets IsLn; the cases of its definition, and what the code's proofs ask of them.
+--   range-of, fixed-of                       the ranges of x's parts, and lnFixed from them
+--   fixed-lt, fixed-gap                      lnFixed from above, and that it is not just below 159 ln 2
+--   rounded-mod                              no pattern is a NaN's
+--   at-near, at-zero, at-infinity, at-rest   lnAt of a finite x above 0, of a zero, of +infinity, and else
+--   of-x, of-nan                             lnOf at a number, and at NaN
+--   ln-law                                   the law
 use mathlib.Core.Path.{_≡_, refl, sym, ap, ap₂, _∙_, subst}
 use mathlib.Core.Bool.{true, false, not}
 use Prim.Native.Nat.{ℕ, _+_, _*_, _%_, _^_, _≤_, _<_}

@@ -1,4 +1,8 @@
 -- The exponent and the significand of a finite x above 0, from its bit pattern.
+--   exponent-sub, exponent-normal, significand-sub, significand-normal   of a subnormal pattern, and of a normal one
+--   Sub b z, sub32     the leading zeros of a subnormal pattern
+--   Range n m, range   the ranges of the exponent and of the significand
+--   at-parts           what holds wherever x = m / 2^23 * 2^(n - 159), holds of these
 use mathlib.Core.Path.{_≡_, sym, ap, _∙_, subst}
 use mathlib.Core.Logic.{_⊎_, inl, inr}
 use mathlib.Core.Bool.{false}

@@ -1,4 +1,12 @@
 -- The rounding of |ln x| to an f32 within the tolerance.
+--   Ge, Le s u v a b                a / b ≤ ln (u / v), and ln (u / v) ≤ a / b; with s set, of - ln (u / v)
+--   ge-float, le-float              the same of a float that is u / v
+--   m-of W                          the 24 digits of W, rounded
+--   rounded-zero, rounded-is        rounded at 0, and by these digits
+--   m-high                          they are at most 2^24
+--   near-up, near-down              the result is right for x from 1 up, and below
+--   top64                           the leading zeros of a word, and the word with them shifted out
+--   rounded-lt, size-lt, sign-mod   patterns and sizes that the code's words hold
 use mathlib.Core.Path.{_≡_, refl, sym, ap, _∙_, subst}
 use mathlib.Core.Logic.{_⊎_, inl, inr}
 use mathlib.Core.Bool.{Bool, true, false, cond}

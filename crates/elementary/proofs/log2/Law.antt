@@ -1,5 +1,11 @@
 -- The law of the logarithm: for the significand m = (512 + i) 2^14 + t, log2 (m / 2^23) is between log2At i t + i 2^23
 -- - 1 and log2At i t + i 2^23 + 2 in units of 2^-32.
+--   floor                                  a division and what it leaves
+--   B-is, C-is                             the slope and the curvature as such divisions
+--   B-lt, B-gt, C-lt, curvature-le         their sizes, and that the curvature's part is the smaller
+--   log-below, log-above                   the two bounds
+--   significand-below, significand-above   the same by the digits of a significand
+--   log-zero                               exact at a power of two
 use mathlib.Core.Path.{_≡_, refl, sym, ap, subst}
 use Prim.Native.Nat.{ℕ, _+_, _-_, _*_, _/_, _%_, _^_, _≤_, _<_}
 use native.Mathlib.Nat.{mul-pos, mul-le-mul, mul-le-mul-left, mul-le-mul-right, mod-lt, div-add-mod'}

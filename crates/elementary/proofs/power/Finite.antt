@@ -1,4 +1,8 @@
 -- For every finite y: within two steps from 2^-126 to 2^127, 0 below 2^-127, +infinity from 2^129.
+--   is-near, is-large   powBits for |y| up to 128, and above
+--   finite-law          the law
+--   from-one, to-zero   1^y and x^0
+--   bits-le             no pattern is a NaN's
 use mathlib.Core.Path.{_≡_, refl, sym, ap, _∙_, subst}
 use mathlib.Core.Logic.{_⊎_, inl, inr}
 use mathlib.Core.Bool.{Bool, true, false}

@@ -1,5 +1,10 @@
 -- From bounds of log2 x to bounds of x^y, by the signs of y and of log2 x. log2 x + 159 is l in units of 2^-35, at most
 -- 8 too high and 16 too low, and z is y log2 x + 2^16 + 126 in units of 2^-39.
+--   Sized n m g u              u is |y| g in units of 2^-39, rounded down
+--   Side n s l g, side         l is g above n, or with s set below; absDiff gives that g
+--   diff-le                    absDiff from above
+--   Around s z u, arg-around   z is 2^16 + 126 and u, or with s set less u; signedArg gives that z
+--   low-at, high-at            the bounds of x^y
 use mathlib.Core.Path.{_≡_, refl, sym, ap, _∙_}
 use mathlib.Core.Bool.{Bool, true, false, not, cond}
 use Prim.Native.Nat.{ℕ, _+_, _-_, _*_, _^_, _≤_, _<_}

@@ -1,5 +1,12 @@
 -- The law of the logarithm for a float: x 2^159 is between 2^((l - 1) / 2^32) and 2^((l + 2) / 2^32), l = log2Of
 -- (normalized b).
+--   normalized-sub, normalized-normal    of a subnormal pattern, and of a normal one
+--   Parts b p, parts                     a normalized pattern holds the exponent and the significand
+--   m, w, is                             its digits, their logarithm, and log2Of by it
+--   log-low, log-high, w-le, log-range   the bounds and the ranges of log2Of and of w
+--   log-exact                            at a power of two
+--   scaled                               x from its normalized pattern
+--   float-low, float-high, float-range   the law, and the range
 use mathlib.Core.Path.{_≡_, refl, sym, ap, _∙_}
 use mathlib.Core.Logic.{_⊎_, inl, inr}
 use mathlib.Core.Bool.{false}

@@ -1,4 +1,10 @@
 -- What is shown of a result for x^y, from bounds of the exponent of 2 or from a bound beyond an end.
+--   Sign y c, sign    the sign and the size of a finite y, from its pattern
+--   ratio-order       a bound from below is at most one from above
+--   num-pos           a finite x above 0 has a numerator above 0
+--   Shown x y r       what IsPow asks for a finite x above 0 and a finite y
+--   is-inf, is-zero   it is shown of +infinity past the upper end, and of 0 past the lower one
+--   shown             and of exp2Bits z, where x^y is about that power of 2
 use mathlib.Core.Path.{_≡_, sym, ap, _∙_, subst}
 use mathlib.Core.Logic.{_⊎_, inl, inr}
 use mathlib.Core.Bool.{Bool, true, false, not}

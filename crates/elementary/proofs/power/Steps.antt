@@ -1,4 +1,14 @@
 -- What the code of powf asks: the normalized pattern, the product with y, and the quick arm, which counts from 1.
+--   product-le                   the product with y fits a word
+--   product-near, product-none   product by a shift, and where it is 0
+--   product-small                its size
+--   quick-size                   the sizes in the quick arm
+--   arg-quick, arg-other         the exponent of 2 is as promised, in the quick arm and elsewhere
+--   log-most                     log2 x counted from 1
+--   pattern-asked, arg-asked     what the two steps ask
+--   pow-from                     nearBits from the code's steps
+--   quick-from                   the quick arm's test
+--   near-to-zero, near-one       x^0 and 1^y
 use mathlib.Core.Path.{_≡_, refl, sym, ap, ap₂, _∙_, subst}
 use mathlib.Core.Bool.{Bool, true, false, not, cond, true≢false}
 use Prim.Native.Nat.{ℕ, _+_, _-_, _*_, _/_, _%_, _^_, _≤_, _<_}

@@ -1,4 +1,18 @@
 -- The cases of powf's definition, and what the code's proofs ask of them.
+--   odd-below, odd-mid, odd-above            isOdd below 1, up to 2^24, and from there
+--   power-fits                               its power of two
+--   zero-odd, zero-even                      zeroBits by whether y is odd
+--   size-plus, size-minus, size-le           zeroSize by the sign of y, and its range
+--   inf-plus, inf-minus, inf-le              infBits by the sign of y, and its range
+--   to-inf-low, to-inf-high                  toInfBits for x below 1, and from 1 up
+--   num-zero, num-inf, num-to-inf, num-pow   numBits: x is 0, x is +infinity, y is infinite, and else
+--   at-zero, at-one, at-below, at-num        powAt: y is 0, x is 1, x is below 0, x is from 0 up
+--   at-regular                               and where both are finite and x is above 0
+--   nan-not-one                              NaN is not 1
+--   of-nan-y, of-nan-y-one                   y is NaN
+--   of-nan-x, of-nan-x-zero                  x is NaN
+--   of-numbers                               neither is
+--   num-mod                                  no pattern is a NaN's
 use mathlib.Core.Path.{_≡_, refl, sym, ap, _∙_, subst}
 use mathlib.Core.Logic.{_⊎_, inl, inr}
 use mathlib.Core.Bool.{Bool, true, false, not, cond}
