@@ -1,5 +1,6 @@
 -- BRENT'S METHOD as simulation.rs has it, one step in its parts, in f32, operation by operation and in its order
 -- (docs/RULES.md, O4). Definitions only.
+--   rMin, rMax, half, two, tol, minTol, cg   the numbers of the method
 --   tol1, tol2, middle, converged   a state's measures
 --   golden, parabola, useful, fitted, moved   the ways of a step
 --   trial s                         the next retention to try
@@ -7,8 +8,8 @@
 --   afterWorse, afterBetter, stepOf s mean   the state after a trial
 --   within x                        whether a retention may be given out
 use Prim.Native.Nat.{ℕ, _+_}
-use mathlib.Core.Bool.{Bool, cond, _&&_, _||_}
-use lib.Ieee.{Float, binary32, ofBits, neg, lt, le, eq}
+use mathlib.Core.Bool.{Bool, false, cond, _&&_, _||_}
+use lib.Ieee.{Float, binary32, round, neg, lt, le, eq}
 use Rattle.float32.specs.Float32 as Float32
 use Rattle.float32.specs.Numbers.{0ᶠ, 1ᶠ}
 use Rattle.float32.specs.Ops.{_+ᶠ_, _-ᶠ_, _*ᶠ_, _/ᶠ_}
@@ -17,30 +18,32 @@ use Rattle.brent.specs.declared.Parabola.{Parabola}
 use Rattle.brent.specs.declared.Move.{Move}
 use Rattle.brent.specs.declared.Trial.{Trial}
 
--- ---- numbers
+-- ---- numbers, each the f32 nearest to its decimal
 
 -- R_MIN 0.70 and R_MAX 0.95
 abbrev pub rMin : Float
-rMin = ofBits binary32 0x3F333333
+rMin = round binary32 false 70 100
 
 abbrev pub rMax : Float
-rMax = ofBits binary32 0x3F733333
+rMax = round binary32 false 95 100
 
 abbrev pub half : Float
-half = ofBits binary32 0x3F000000
+half = round binary32 false 1 2
 
 abbrev pub two : Float
-two = ofBits binary32 0x40000000
+two = round binary32 false 2 1
 
--- 0.01, 1e-10 and 0.381966
+-- 0.01
 abbrev pub tol : Float
-tol = ofBits binary32 0x3C23D70A
+tol = round binary32 false 1 100
 
+-- 1e-10
 abbrev pub minTol : Float
-minTol = ofBits binary32 0x2EDBE6FF
+minTol = round binary32 false 1 10000000000
 
+-- 0.381966, the golden section's share
 abbrev pub cg : Float
-cg = ofBits binary32 0x3EC3910C
+cg = round binary32 false 381966 1000000
 
 -- ---- a state's measures
 

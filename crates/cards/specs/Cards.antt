@@ -4,14 +4,15 @@
 --   cardAt cards counts c                           the card at a place of the lists
 --   floatsOf k, countsOf k                          the two rows of a card
 --   writeFloats cards c k, writeCounts counts c k   the lists with a card at a place
---   isKept k                                        whether an existing card is kept at set-up
+--   keptAbove, isKept k                             whether an existing card is kept at set-up
+--   farthest, mostLapses                            the farthest date and the most lapses of a kept card
 --   dateOk x, historyOk k, cardOk k                 the tests of refusal 5: a date, a last date, the card
 use Prim.Native.Nat.{ℕ}
-use mathlib.Core.Bool.{Bool, _&&_, _||_}
+use mathlib.Core.Bool.{Bool, false, _&&_, _||_}
 use mathlib.Core.List.{List, [], _∷_}
 use lib.Dec.{leb}
 use lib.ListN.{getD, set}
-use lib.Ieee.{Float, nan, ofBits, binary32, neg, lt, le}
+use lib.Ieee.{Float, nan, binary32, round, neg, lt, le}
 use Rattle.float32.specs.Float32.{isFinite}
 use Rattle.cards.specs.declared.Card.{Card}
 use Rattle.cards.specs.Day.{isNew}
@@ -53,13 +54,24 @@ writeFloats cards c k = set cards c (floatsOf k)
 unfoldable pub writeCounts : List (List ℕ) → ℕ → Card → List (List ℕ)
 writeCounts counts c k = set counts c (countsOf k)
 
+-- 1e-9
+abbrev pub keptAbove : Float
+keptAbove = round binary32 false 1 1000000000
+
 -- an existing card is kept only if its stability is above 1e-9; a NaN is not
 unfoldable pub isKept : Card → Bool
-isKept k = lt (ofBits binary32 0x3089_705F) (k .stability)
+isKept k = lt keptAbove (k .stability)
+
+-- 16,777,216, up to which an f32 holds every whole number of days
+abbrev pub farthest : Float
+farthest = round binary32 false 16777216 1
+
+abbrev pub mostLapses : ℕ
+mostLapses = 4000000000
 
 -- a date within ±16,777,216; a NaN is not
 abbrev pub dateOk : Float → Bool
-dateOk x = le (neg (ofBits binary32 0x4B80_0000)) x && le x (ofBits binary32 0x4B80_0000)
+dateOk x = le (neg farthest) x && le x farthest
 
 -- a last date is minus infinity, or a date with a difficulty
 abbrev pub historyOk : Card → Bool
@@ -68,4 +80,4 @@ historyOk k = isNew (k .«last_date») || (dateOk (k .«last_date») && isFinite
 -- refusal 5 turns away a kept card that is not so
 unfoldable pub cardOk : Card → Bool
 cardOk k = isFinite (k .stability) &&
-    (isFinite (k .«desired_retention») && (dateOk (k .due) && (historyOk k && leb (k .lapses) 4000000000)))
+    (isFinite (k .«desired_retention») && (dateOk (k .due) && (historyOk k && leb (k .lapses) mostLapses)))

@@ -9,11 +9,12 @@ use Prim.Native.Nat.{ℕ, _+_, _*_}
 use mathlib.Core.Bool.{Bool, true, not, _&&_}
 use mathlib.Core.List.{List, [], _∷_}
 use lib.ListN.{getD}
-use lib.Ieee.{Float, nan, ofBits, binary32, lt, le, eq, isNan}
+use lib.Ieee.{Float, nan, lt, le, eq, isNan}
 use Rattle.float32.specs.Numbers.{0ᶠ, 1ᶠ}
 use Rattle.float32.specs.Float32.{isFinite}
 use Rattle.draws.specs.Draws.{sumFrom}
 use Rattle.cards.specs.declared.SimulatorConfig.{SimulatorConfig}
+use Rattle.cards.specs.Day.{longestInterval}
 
 -- row i of a table whose rows of four stand one after the other
 abbrev pub rowOf : List Float → ℕ → List Float
@@ -46,7 +47,7 @@ costsOk table = amountsOk (rowOf table 0) && (amountsOk (rowOf table 1) && amoun
 
 -- 1 to 36,500
 unfoldable pub intervalOk : Float → Bool
-intervalOk x = le 1ᶠ x && le x (ofBits binary32 0x470E_9400)
+intervalOk x = le 1ᶠ x && le x longestInterval
 
 unfoldable pub configOk : SimulatorConfig → Bool
 configOk g =

@@ -1,5 +1,8 @@
--- A card's day (its due date in whole days, 0 where that is past), when it is new, and the range of its intervals.
--- Definitions only.
+-- A card's dates. Definitions only.
+--   dayOf due          its day: its due date in whole days, 0 where that is past
+--   nextDue d          its due date when it is put off on day d
+--   isNew lastDate     whether it is new
+--   longestInterval, IntervalInRange v   the range of its intervals
 use Prim.Native.Nat.{ℕ}
 use mathlib.Core.Bool.{Bool, true}
 use lib.Dec.{T}
@@ -19,7 +22,10 @@ nextDue d = add binary32 (ofInt binary32 (pos d)) 1ᶠ
 unfoldable pub isNew : Float → Bool
 isNew lastDate = eq lastDate (inf true)
 
+abbrev pub longestInterval : Float
+longestInterval = ofInt binary32 (pos 36500)
+
 -- an interval is 1 to 36,500
 pub record IntervalInRange (v : Float) : Type 0 where
   pub least : T (le (ofInt binary32 (pos 1)) v)
-  pub most : T (le v (ofInt binary32 (pos 36500)))
+  pub most : T (le v longestInterval)

@@ -1,6 +1,5 @@
 // Reads a text from standard input and prints the cheapest retention for it. An input that fails counts as ended, and
-// an
-// output that fails ends the program.
+// an output that fails ends the program.
 use report::Placed;
 
 fn main() {

@@ -1,6 +1,5 @@
 // Reads a text from standard input and prints what it forecasts. An input that fails counts as ended, and an output
-// that
-// fails ends the program.
+// that fails ends the program.
 use report::Placed;
 
 fn main() {

@@ -5,13 +5,13 @@
 --   cardPriority day new difficulty   the order key of a card
 --   NoLater d n p d′ n′ p′            the order that a key stands for, by its parts
 use mathlib.Core.Path.{_≡_}
-use mathlib.Core.Bool.{Bool}
+use mathlib.Core.Bool.{Bool, false}
 use mathlib.Core.Logic.{_⊎_}
 use Prim.Native.Nat.{ℕ, suc, _+_, _-_, _*_, _^_, _<_, min}
 use lib.IntN.{ℤ, pos, negsuc}
 use lib.Dec.{T}
 use lib.Signed.{leZ}
-use lib.Ieee.{Float, binary32, ofBits, toSigned}
+use lib.Ieee.{Float, binary32, round, toSigned}
 use Rattle.float32.specs.Ops.{_*ᶠ_}
 use Rattle.turns.specs.Sums.{bit}
 
@@ -22,7 +22,7 @@ shifted (negsuc n) = 2 ^ 31 - suc n
 
 -- `ReviewPriorityFn::default`: the difficulty times 100 as an i32
 unfoldable pub priorityOf : Float → ℤ
-priorityOf difficulty = toSigned 31 (difficulty *ᶠ ofBits binary32 0x42c8_0000)
+priorityOf difficulty = toSigned 31 (difficulty *ᶠ round binary32 false 100 1)
 
 unfoldable pub packed : ℕ → Bool → ℤ → ℕ
 packed day new priority = day * 2 ^ 33 + bit new * 2 ^ 32 + shifted priority

@@ -13,7 +13,7 @@ use lib.ListN.{length, getD}
 use lib.Ieee.{Float, nan}
 use Rattle.turns.specs.Sums.{bit, sumTo}
 use Rattle.cards.specs.Day.{dayOf, isNew, IntervalInRange}
-use Rattle.cards.specs.Cards.{noFloats}
+use Rattle.cards.specs.Cards.{noFloats, mostLapses}
 use Rattle.days.specs.Counts.{learnedAt, reviewedAt, correctAt, introducedAt}
 use Rattle.days.specs.Due.{dueDays}
 use Rattle.queue.specs.Key.{cardPriority}
@@ -80,7 +80,7 @@ pub record Counts {C : Type 0} (cards span : ℕ) (s : State C) : Type 0 where
   pub introduced : (d : ℕ) → d < span → introducedAt (s .days) d + sumTo cards (λ c. bit (newIn (s .cards) c)) ≤ cards
   pub events : (d : ℕ) → d < span
       → learnedAt (s .days) d + reviewedAt (s .days) d ≤ sumTo cards (λ c. bit (ltb d (dayIn (s .cards) c)))
-  pub lapses : (c : ℕ) → c < cards → lapsesIn (s .counts) c ≤ 4000000000 + min (dayIn (s .cards) c) span
+  pub lapses : (c : ℕ) → c < cards → lapsesIn (s .counts) c ≤ mostLapses + min (dayIn (s .cards) c) span
 
 -- on each day that is counted, the due count has every queued card with a last date whose day it is, and at most the
 -- cards that are due then or later

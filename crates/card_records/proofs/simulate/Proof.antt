@@ -1,9 +1,7 @@
 -- `card_records::simulate` meets its contract: a walk of its MIR, by hand, with five calls and no branch. What is
--- decided is
--- decided in the functions that it calls: how many records pass refusal 5, what the tests say, and how many records are
--- copied, all or none. For `copy` the room for the rows is lent again, each list for a lifetime of the call. To
--- `run_rows`
--- all written lists are given for good (`gave-slice`).
+-- decided is decided in the functions that it calls: how many records pass refusal 5, what the tests say, and how many
+-- records are copied, all or none. For `copy` the room for the rows is lent again, each list for a lifetime of the
+-- call. To `run_rows` all written lists are given for good (`gave-slice`).
 use mathlib.Core.Path.{_≡_, refl, sym, _∙_, ap, subst}
 use Prim.Native.Nat.{ℕ, _<_, _^_}
 use mathlib.Core.List.{[], _∷_, List}

@@ -1,8 +1,6 @@
 -- `card_records::simulate_three` meets its contract: a walk of its MIR, by hand. The array is copied to a local of its
--- own,
--- which is lent as a slice for a lifetime that is made for the call of `simulate`, and given back. The written lists
--- are given
--- to `simulate` for good. Of the number of records it uses only that it is 3.
+-- own, which is lent as a slice for a lifetime that is made for the call of `simulate`, and given back. The written
+-- lists are given to `simulate` for good. Of the number of records it uses only that it is 3.
 use mathlib.Core.Path.{_≡_, refl, sym, subst}
 use Prim.Native.Nat.{ℕ}
 use mathlib.Core.List.{[], _∷_, List}

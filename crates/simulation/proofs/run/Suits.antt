@@ -1,11 +1,11 @@
 -- What demand 3 asks of a run's rules (`Suits`), and that the rules of an accepted call have it, whatever is drawn
 -- (`suits`): a scheduled interval is 1 to 36,500.
-use mathlib.Core.Path.{_≡_, refl, subst}
+use mathlib.Core.Path.{_≡_, subst}
 use mathlib.Core.Bool.{Bool, true, not, _&&_}
 use lib.Dec.{T}
-use lib.IntN.{pos}
-use lib.Ieee.{Float, ofBits, ofFields, binary32, ofInt, round, le, isNan}
+use lib.Ieee.{Float, ofBits, ofFields, ofInt, round, le, isNan}
 use lib.Ieee.Positive.{positive, between, le-trans-positive}
+use Rattle.float32.specs.Numbers.{1ᶠ}
 use Rattle.float32.proofs.Cmp as cmp
 use Rattle.draws.specs.Draws.{DrawRule}
 use Rattle.model.specs.Model.{Curves, curveOf, scheduled}
@@ -14,7 +14,7 @@ use Rattle.cards.specs.declared.SimulatorConfig.{SimulatorConfig}
 use Rattle.cards.specs.Config.{rowOf, threeOf, weightsOk, transitionsOk, costsOk, intervalOk, configOk}
 use Rattle.cards.proofs.Later.{one-is}
 use Rattle.events.specs.Scalars.{plain}
-use Rattle.cards.specs.Day.{IntervalInRange}
+use Rattle.cards.specs.Day.{longestInterval, IntervalInRange}
 use Rattle.simulation.specs.State.{State}
 use Rattle.simulation.specs.Rules.{Rules, rulesWith}
 use Rattle.simulation.specs.Entry.{Inputs}
@@ -23,37 +23,29 @@ use Rattle.simulation.proofs.entry.Accepted.{Accepted}
 use Rattle.turns.proofs.Logic.{both}
 
 -- ---- a scheduled interval is 1 to 36,500
-most-is : ofBits binary32 0x470E_9400 ≡ ofInt binary32 (pos 36500)
-unfolding ofBits ofFields ofInt round
-most-is = refl
-
-one-positive : T (positive (ofBits binary32 0x3F80_0000))
+one-positive : T (positive 1ᶠ)
 unfolding ofBits ofFields
 one-positive = tt
 
-most-positive : T (positive (ofBits binary32 0x470E_9400))
-unfolding ofBits ofFields
-most-positive = tt
+longest-positive : T (positive longestInterval)
+unfolding ofInt round
+longest-positive = tt
 
 pub scheduled-fair : (w : Curves) (s r longest : Float) → intervalOk longest ≡ true
     → IntervalInRange (scheduled w s r longest)
 unfolding intervalOk
 scheduled-fair w s r longest e =
-    let one : Float = ofBits binary32 0x3F80_0000 in
-    let most : Float = ofBits binary32 0x470E_9400 in
-    let p = both (le one longest) (le longest most) e in
-    let low : T (le (ofBits binary32 0x3F80_0000) longest) = cmp.yes (p .0) in
-    let high : T (le longest (ofBits binary32 0x470E_9400)) = cmp.yes (p .1) in
+    let p = both (le 1ᶠ longest) (le longest longestInterval) e in
+    let low : T (le 1ᶠ longest) = cmp.yes (p .0) in
+    let high : T (le longest longestInterval) = cmp.yes (p .1) in
     let b = scheduled-between w s r longest low in
-    let ph : T (positive longest) = between (ofBits binary32 0x3F80_0000) longest
-    (ofBits binary32 0x470E_9400) one-positive most-positive low high in
-    let px : T (positive (scheduled w s r longest)) = between (ofBits binary32 0x3F80_0000)
+    let ph : T (positive longest) = between 1ᶠ longest longestInterval
+    one-positive longest-positive low high in
+    let px : T (positive (scheduled w s r longest)) = between 1ᶠ
     (scheduled w s r longest) longest one-positive ph (b .least) (b .most) in
     record {
       least = subst (λ (z : Float). T (le z (scheduled w s r longest))) one-is (b .least);
-      most = subst (λ (z : Float). T (le (scheduled w s r longest) z)) most-is
-          (le-trans-positive (scheduled w s r longest) longest (ofBits binary32 0x470E_9400) px ph most-positive
-          (b .most) high);
+      most = le-trans-positive (scheduled w s r longest) longest longestInterval px ph longest-positive (b .most) high;
     }
 
 interval-ok : (g : SimulatorConfig) → configOk g ≡ true → intervalOk (g .«max_ivl») ≡ true

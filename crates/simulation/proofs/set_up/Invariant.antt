@@ -31,7 +31,7 @@ use Rattle.turns.specs.Turns.{CostRule}
 use Rattle.turns.proofs.Columns.{SetUp}
 use Rattle.cards.specs.declared.Card.{Card}
 use Rattle.cards.specs.Day.{dayOf, isNew}
-use Rattle.cards.specs.Cards.{cardAt, writeFloats, writeCounts, isKept, dateOk, historyOk, cardOk}
+use Rattle.cards.specs.Cards.{cardAt, writeFloats, writeCounts, isKept, farthest, mostLapses, dateOk, historyOk, cardOk}
 use Rattle.cards.proofs.Later.{day-cut, whole-le}
 use Rattle.days.specs.Due.{dueDays}
 use Rattle.queue.specs.Queue.{queue, pushed}
@@ -82,30 +82,29 @@ day-int n h =
     (number (round binary32 false n 1) n v) in
     rw (day-cut (round binary32 false n 1)) (whole-le 32 n (round binary32 false n 1) (round binary32 false n 1) v t)
 
-latest-value : HasValue (ofBits binary32 0x4B80_0000) false 16777216 1
-unfolding ofBits ofFields
-latest-value = (refl, refl)
+farthest-value : HasValue farthest false 16777216 1
+unfolding round
+farthest-value = (refl, refl)
 
 day-kept : (k : Card) → cardOk k ≡ true → dayOf (k .due) < 2147483648
 unfolding cardOk
 day-kept k e =
-    let rest : Bool = historyOk k && leb (k .lapses) 4000000000 in
+    let rest : Bool = historyOk k && leb (k .lapses) mostLapses in
     let a = both (isFinite (k .stability)) (isFinite (k .«desired_retention») && (dateOk (k .due) && rest)) e in
     let b = both (isFinite (k .«desired_retention»)) (dateOk (k .due) && rest) (a .1) in
     let c = both (dateOk (k .due)) rest (b .1) in
-    let d = both (le (neg (ofBits binary32 0x4B80_0000)) (k .due)) (le (k .due) (ofBits binary32 0x4B80_0000)) (c .0) in
-    let u : toUnsigned 32 (k .due) ≤ 16777216 = whole-le 32 16777216 (ofBits binary32 0x4B80_0000)
-    (k .due) latest-value (cmp.yes (d .1)) in
+    let d = both (le (neg farthest) (k .due)) (le (k .due) farthest) (c .0) in
+    let u : toUnsigned 32 (k .due) ≤ 16777216 = whole-le 32 16777216 farthest (k .due) farthest-value (cmp.yes (d .1)) in
     rw (day-cut (k .due)) (omega (arith, u))
 
-lapses-kept : (k : Card) → cardOk k ≡ true → k .lapses ≤ 4000000000
+lapses-kept : (k : Card) → cardOk k ≡ true → k .lapses ≤ mostLapses
 unfolding cardOk
 lapses-kept k e =
-    let rest : Bool = historyOk k && leb (k .lapses) 4000000000 in
+    let rest : Bool = historyOk k && leb (k .lapses) mostLapses in
     let a = both (isFinite (k .stability)) (isFinite (k .«desired_retention») && (dateOk (k .due) && rest)) e in
     let b = both (isFinite (k .«desired_retention»)) (dateOk (k .due) && rest) (a .1) in
     let c = both (dateOk (k .due)) rest (b .1) in
-    leb-true (k .lapses) 4000000000 (both (historyOk k) (leb (k .lapses) 4000000000) (c .1) .1)
+    leb-true (k .lapses) mostLapses (both (historyOk k) (leb (k .lapses) mostLapses) (c .1) .1)
 
 -- ---- n cards have joined, `dated` of them with a last date; the lists are as long as they were
 pub record Joining (rows : List (List ℕ)) (cards-len counts-len dated n : ℕ) (s : Deck) : Type 0 where
@@ -114,7 +113,7 @@ pub record Joining (rows : List (List ℕ)) (cards-len counts-len dated n : ℕ)
   pub fill : Filled (keyIn (s .cards)) rows n (s .queue)
   pub near : (c : ℕ) → c < n → dayIn (s .cards) c < 2147483648
   pub news : dated + sumTo n (λ c. bit (newIn (s .cards) c)) ≡ n
-  pub lapses : (c : ℕ) → c < n → lapsesIn (s .counts) c ≤ 4000000000
+  pub lapses : (c : ℕ) → c < n → lapsesIn (s .counts) c ≤ mostLapses
 
 either : (b : Bool) → bit (not b) + bit b ≡ 1
 either true = refl
@@ -127,7 +126,7 @@ module _ (rows : List (List ℕ)) (lc ln : ℕ) where
 
   join-here : (dated : ℕ) (s : Deck) (k : Card) → Joining rows lc ln dated (s .queue .len) s → s .queue .len < lc
       → s .queue .len < ln → s .queue .len < length rows → s .queue .len < 65536 → dayOf (k .due) < 2147483648
-      → k .lapses ≤ 4000000000
+      → k .lapses ≤ mostLapses
       → Joining rows lc ln (dated + bit (not (isNew (k .«last_date»)))) (suc (s .queue .len)) (addCard s k)
   unfolding addCard
   join-here dated s k j h hn r few near most = record {
@@ -162,12 +161,12 @@ module _ (rows : List (List ℕ)) (lc ln : ℕ) where
       at c l (yes e) = rw (e, own-day (s .cards) n k row) near
       at c l (no e) = omega (arith, else-day (s .cards) n k c e, j .near c (omega arith))
 
-      lapsed : (c : ℕ) → c < suc n → Dec (c ≡ n) → lapsesIn (writeCounts (s .counts) n k) c ≤ 4000000000
+      lapsed : (c : ℕ) → c < suc n → Dec (c ≡ n) → lapsesIn (writeCounts (s .counts) n k) c ≤ mostLapses
       lapsed c l (yes e) = rw (e, own-lapses (s .counts) n k (omega (arith, j .counts-are))) most
       lapsed c l (no e) = omega (arith, else-lapses (s .counts) n k c e, j .lapses c (omega arith))
 
   pub join : (dated n : ℕ) (s : Deck) (k : Card) → Joining rows lc ln dated n s → n < lc → n < ln → n < length rows
-      → n < 65536 → dayOf (k .due) < 2147483648 → k .lapses ≤ 4000000000
+      → n < 65536 → dayOf (k .due) < 2147483648 → k .lapses ≤ mostLapses
       → Joining rows lc ln (dated + bit (not (isNew (k .«last_date»)))) (suc n) (addCard s k)
   join dated n s k j h hn r few near most =
       let e : s .queue .len ≡ n = j .fill .count in
@@ -284,7 +283,7 @@ module _ {C : Type 0} (b : CostRule Drawn C) (i : Inputs) (s : State C) (ok : Ac
   new-day n h = let l = div-le-self n (i .config .«learn_limit») in omega
       (arith, l, day-int (n / i .config .«learn_limit») (omega (arith, l)))
 
-  new-lapses : (n : ℕ) → newCard (i .retention) (i .config .«learn_limit») n .lapses ≤ 4000000000
+  new-lapses : (n : ℕ) → newCard (i .retention) (i .config .«learn_limit») n .lapses ≤ mostLapses
   unfolding newCard
   new-lapses n = omega arith
 

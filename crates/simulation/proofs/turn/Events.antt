@@ -23,7 +23,7 @@ use Rattle.turns.proofs.Sums.{sum-same, sum-at, sum-le, lt-step, and-le, bit-le
 use Rattle.turns.proofs.Demand.{Step}
 use Rattle.cards.specs.declared.Card.{Card}
 use Rattle.cards.specs.Day.{IntervalInRange, dayOf, isNew}
-use Rattle.cards.specs.Cards.{cardAt, noCounts, writeFloats, writeCounts, countsOf}
+use Rattle.cards.specs.Cards.{cardAt, noCounts, writeFloats, writeCounts, countsOf, mostLapses}
 use Rattle.turns.proofs.Logic.{getD-any}
 use Rattle.cards.proofs.Later.{day-later, day-bound}
 use Rattle.days.specs.Counts.{saturatingSuc, learnedAt, reviewedAt, correctAt, introducedAt, addLearn, addReview}
@@ -202,16 +202,16 @@ module _ {C : Type 0} (R : Rules C) (cards : ℕ) (fine : RunBounds (R .span) ca
   due-long′ = omega (arith, good .lengths .due-long, add-long (R .span) (s .due) (dayOf (k′ .due)))
 
   -- a lapse a day at most
-  lapses-then-few : k .lapses ≤ 4000000000 + d
+  lapses-then-few : k .lapses ≤ mostLapses + d
   unfolding cardAt
   lapses-then-few = omega (arith, good .counts .lapses c mine, lapses-then)
 
   lapses-few : (n : ℕ) → n ≤ 1 → lapsesIn (writeCounts (s .counts) c k′) c ≡ lapsesIn (s .counts) c + n
-      → (i : ℕ) → i < cards → lapsesIn (writeCounts (s .counts) c k′) i ≤ 4000000000 + min (dayIn fs′ i) (R .span)
+      → (i : ℕ) → i < cards → lapsesIn (writeCounts (s .counts) c k′) i ≤ mostLapses + min (dayIn fs′ i) (R .span)
   unfolding cardAt
   lapses-few n few e i l = at (ℕ-discrete i c)
     where
-      at : Dec (i ≡ c) → lapsesIn (writeCounts (s .counts) c k′) i ≤ 4000000000 + min (dayIn fs′ i) (R .span)
+      at : Dec (i ≡ c) → lapsesIn (writeCounts (s .counts) c k′) i ≤ mostLapses + min (dayIn fs′ i) (R .span)
       at (yes q) = rw q (omega (arith, e, few, good .counts .lapses c mine, onward, h))
       at (no q) = omega (arith, good .counts .lapses i l, else-lapses (s .counts) c k′ i q, else-day fs c k′ i q)
 

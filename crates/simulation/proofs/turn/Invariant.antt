@@ -24,7 +24,7 @@ use Rattle.turns.proofs.Sums.{sum-same, sum-at, lt-step}
 use Rattle.turns.proofs.Demand.{Step}
 use Rattle.cards.specs.declared.Card.{Card}
 use Rattle.cards.specs.Day.{dayOf, isNew, nextDue}
-use Rattle.cards.specs.Cards.{noFloats, cardAt, floatsOf, writeFloats}
+use Rattle.cards.specs.Cards.{noFloats, cardAt, floatsOf, writeFloats, mostLapses}
 use Rattle.cards.specs.Choices.{retires}
 use Rattle.cards.proofs.Later.{day-later, day-next, day-in-span, day-bound, one-in-range}
 use Rattle.days.proofs.Due.{move-long}
@@ -227,7 +227,7 @@ module _ {C : Type 0} (R : Rules C) (cards : ℕ) (fine : RunBounds (R .span) ca
           (day-later d (ofBits binary32 0x3F80_0000) (omega (arith, in-span e, fine .most)) (one-in-range .least))
 
       few : (x : ℕ) → x < cards → Dec (x ≡ c)
-          → columns (R .costs .none) .lapses s x ≤ 4000000000 + min (dayIn fs′ x) (R .span)
+          → columns (R .costs .none) .lapses s x ≤ mostLapses + min (dayIn fs′ x) (R .span)
       few x l (yes q) = omega (arith, good .counts .lapses x l, later, ap (dayIn fs) q, ap (dayIn fs′) q)
       few x l (no q) = omega (arith, good .counts .lapses x l, else-day fs c k′ x q)
 

@@ -1,6 +1,5 @@
 -- `card_records::records::first_not_ok` meets its contract: a walk of its MIR, by hand, with a loop. The invariant:
--- `good` is how
--- many of the first i records pass from the first on.
+-- `good` is how many of the first i records pass from the first on.
 use mathlib.Core.Path.{_≡_, refl, sym, _∙_, ap, subst}
 use mathlib.Core.Logic.{_⊎_, inl, inr}
 use Prim.Native.Nat.{ℕ, _<_, _≤_, _+_, _-_, _^_}

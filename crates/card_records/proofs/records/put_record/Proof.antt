@@ -1,6 +1,5 @@
 -- `put_record` meets its contract: a walk of its MIR, by hand. The place of `records[i]` is 32 * i past the slice's
--- pointer: the
--- borrow is opened, the element is taken out of the row and written over, and the borrow is closed.
+-- pointer: the borrow is opened, the element is taken out of the row and written over, and the borrow is closed.
 use mathlib.Core.Path.{refl, sym, ap, subst}
 use Prim.Native.Nat.{ℕ, _<_, _-_, _*_, _^_}
 use native.Mathlib.Omega.{arith}

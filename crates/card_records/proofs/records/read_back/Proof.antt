@@ -1,6 +1,5 @@
 -- `read_back` meets its contract: a walk of its MIR, by hand, with a loop. In a turn `row_at` is called at the rows'
--- own lifetimes,
--- and the records are lent again for the call of `put_record`, for a lifetime of its own, and come back.
+-- own lifetimes, and the records are lent again for the call of `put_record`, for a lifetime of its own, and come back.
 use mathlib.Core.Path.{_≡_, refl, sym, _∙_, ap, subst}
 use mathlib.Core.Logic.{_⊎_, inl, inr}
 use Prim.Native.Nat.{ℕ, _<_, _+_, _-_, _^_}
