@@ -33,19 +33,19 @@ abbrev pub kMax : ℕ
 kMax = 15938355
 
 tol-is : HasValue tol false 5368709 (2 ^ 29)
-unfolding ofBits ofFields
+unfolding ofBits ofFields round
 tol-is = (refl, refl)
 
 minTol-is : HasValue minTol false 14411519 (2 ^ 57)
-unfolding ofBits ofFields
+unfolding ofBits ofFields round
 minTol-is = (refl, refl)
 
 two-is : HasValue two false 2 1
-unfolding ofBits ofFields
+unfolding ofBits ofFields round
 two-is = (refl, refl)
 
 half-is : HasValue half false 1 2
-unfolding ofBits ofFields
+unfolding ofBits ofFields round
 half-is = (refl, refl)
 
 -- ---- the least step

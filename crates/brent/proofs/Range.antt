@@ -58,7 +58,7 @@ pub record Ranged (s : Brent) : Type 0 where
   pub high : j ≤ kMax
 
 cg-is : HasValue cg false 12816652 (2 ^ 25)
-unfolding ofBits ofFields
+unfolding ofBits ofFields round
 cg-is = (refl, refl)
 
 positive-num : (d n lo : ℕ) → 0 < d → 0 < lo → lo * d ≤ n * N → 0 < n
@@ -492,11 +492,11 @@ module _ (s : Brent) (r : Ranged s) (going : converged s ≡ false) (mean : Floa
 
 -- ---- from the first state on
 pub rMin-at : At rMin kMin
-unfolding ofBits ofFields
+unfolding ofBits ofFields round
 rMin-at = (refl, refl)
 
 rMax-at : At rMax kMax
-unfolding ofBits ofFields
+unfolding ofBits ofFields round
 rMax-at = (refl, refl)
 
 pub begun-ranged : (mean : Float) → Ranged (begun mean)
@@ -661,7 +661,7 @@ module _ {W R : Type 0} (run : W → Float → Sampled W R) where
 
 -- ---- finite
 pub within-finite : (x : Float) → T (within x) → Float32.isFinite x ≡ true
-unfolding within le lt eq Float32.isFinite ofBits ofFields
+unfolding within le lt eq Float32.isFinite ofBits ofFields round
 within-finite nan h = absurd h
 within-finite (inf true) h = absurd h
 within-finite (inf false) h = absurd h

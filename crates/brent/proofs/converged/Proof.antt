@@ -1,4 +1,5 @@
 -- `brent::converged` meets its contract.
+use lib.Ieee.{ofBits, ofFields, round}
 use borrow.Author.Needs.{needs}
 use Rattle.brent.specs.Step.{converged}
 use Rattle.brent.proofs.converged.Statement.{statement}
@@ -17,7 +18,7 @@ mul-add-requires : tie.Need-mul-add-requires
 mul-add-requires c κs = search needs
 
 returns : tie.Need-returns
-unfolding converged
+unfolding converged ofBits ofFields round
 returns c =
     rw (
       c .before .before .before .abs .ensures,

@@ -1,4 +1,5 @@
 -- `brent::fit` meets its contract.
+use lib.Ieee.{ofBits, ofFields, round}
 use borrow.Author.Needs.{needs}
 use Rattle.brent.specs.Step.{parabola}
 use Rattle.brent.proofs.fit.Statement.{statement}
@@ -14,7 +15,7 @@ abs-requires : tie.Need-abs-requires
 abs-requires c κs = search needs
 
 returns : tie.Need-returns
-unfolding parabola
+unfolding parabola ofBits ofFields round
 returns c = rw (c .before .choose .ensures, c .abs .ensures, c .before .before .mul-add .ensures)
 
 pub fit-spec : {M : Type 1} → statement M

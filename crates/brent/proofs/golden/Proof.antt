@@ -1,4 +1,5 @@
 -- `brent::golden` meets its contract.
+use lib.Ieee.{ofBits, ofFields, round}
 use borrow.Author.Needs.{needs}
 use Rattle.brent.specs.Step.{golden}
 use Rattle.brent.proofs.golden.Statement.{statement}
@@ -8,7 +9,7 @@ to-end-requires : tie.Need-to-end-requires
 to-end-requires c κs = search needs
 
 returns : tie.Need-returns
-unfolding golden
+unfolding golden ofBits ofFields round
 returns c = rw (c .to-end .ensures)
 
 pub golden-spec : {M : Type 1} → statement M

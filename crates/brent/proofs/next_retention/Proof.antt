@@ -1,4 +1,5 @@
 -- `brent::next_retention` meets its contract.
+use lib.Ieee.{ofBits, ofFields, round}
 use borrow.Author.Needs.{needs}
 use Rattle.brent.specs.Stepping.{nextRetention}
 use Rattle.brent.proofs.next_retention.Statement.{statement}
@@ -25,7 +26,7 @@ unfolding nextRetention
 returns-2 c = rw (c .before .before .before .if1 .taken, ← c .before .goes-on .ensures, c .if2 .left)
 
 returns-3 : tie.Need-returns-3
-unfolding nextRetention
+unfolding nextRetention ofBits ofFields round
 returns-3 c = rw (c .if1 .left)
 
 pub next-retention-spec : {M : Type 1} → statement M

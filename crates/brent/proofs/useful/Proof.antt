@@ -1,4 +1,5 @@
 -- `brent::useful` meets its contract.
+use lib.Ieee.{ofBits, ofFields, round}
 use borrow.Author.Needs.{needs}
 use Rattle.brent.specs.Step.{useful}
 use Rattle.brent.proofs.useful.Statement.{statement}
@@ -17,7 +18,7 @@ both-requires-2 : tie.Need-both-requires-2
 both-requires-2 c κs = search needs
 
 returns : tie.Need-returns
-unfolding useful
+unfolding useful ofBits ofFields round
 returns c =
     rw (
       c .both2 .ensures,

@@ -1,3 +1,4 @@
+use lib.Ieee.{ofBits, ofFields, round}
 use mir.Syntax.{w32}
 use mir.ValLaws.{toZ-ofZ}
 use Rattle.queue.proofs.Keys.{priority-in}
@@ -31,7 +32,7 @@ add-result-2 : tie.Need-add-result-2
 add-result-2 c = search needs
 
 returns : tie.Need-returns
-unfolding cardPriority packed priorityOf
+unfolding cardPriority packed priorityOf ofBits ofFields round
 returns c = rw (
   c .before .before .shifted .ensures .0,
   c .before .capped .ensures,
