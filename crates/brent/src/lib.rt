@@ -7,6 +7,19 @@ ghost use Prim.Native.Nat.{_<_};
 ghost use Rattle.brent.specs.Step as Step;
 ghost use Rattle.brent.specs.Stepping as Stepping;
 
+// The range of the retentions that are tried.
+const R_MIN: f32 = 0.70;
+
+const R_MAX: f32 = 0.95;
+
+// A step is at least TOL times the retention, and MIN_TOL more.
+const TOL: f32 = 0.01;
+
+const MIN_TOL: f32 = 1e-10;
+
+// The golden section's share, the Rust's `cg`.
+const CG: f32 = 0.381966;
+
 // The ends a and b, the best retention x, the two before it, w and v, their means, the last two moves, and the rounds
 // done.
 #[repr(C)]
@@ -69,7 +82,7 @@ pub enum Verdict {
 fn tol1(x: f32) -> f32
     ensures { λ r. ⌜ r ≡ Step.tol1 x ⌝ }
 {
-    mul_add(0.01, abs(x), 1e-10)
+    mul_add(TOL, abs(x), MIN_TOL)
 }
 
 fn tol2(x: f32) -> f32
@@ -116,7 +129,7 @@ fn golden(s: Brent) -> Move
     let deltax = to_end(s);
     Move {
         deltax,
-        rat: 0.381966 * deltax,
+        rat: CG * deltax,
     }
 }
 
@@ -219,11 +232,11 @@ pub fn begun(mean: f32) -> Brent
     ensures { λ r. ⌜ r ≡ Step.begun mean ⌝ }
 {
     Brent {
-        a: 0.70,
-        b: 0.95,
-        x: 0.70,
-        v: 0.70,
-        w: 0.70,
+        a: R_MIN,
+        b: R_MAX,
+        x: R_MIN,
+        v: R_MIN,
+        w: R_MIN,
         fx: mean,
         fv: mean,
         fw: mean,
@@ -289,7 +302,7 @@ fn after_trial(s: Brent, t: Trial, fu: f32) -> Brent
 fn within(x: f32) -> bool
     ensures { λ r. ⌜ r ≡ Step.within x ⌝ }
 {
-    both(x >= 0.70, x <= 0.95)
+    both(x >= R_MIN, x <= R_MAX)
 }
 
 // ---- the stepper
@@ -301,7 +314,7 @@ pub fn start(rounds: u32) -> Stepper
     Stepper {
         begun: false,
         rounds,
-        state: begun(0.70),
+        state: begun(R_MIN),
     }
 }
 
@@ -327,7 +340,7 @@ pub fn next_retention(t: Stepper) -> Next
             Next::Nothing
         }
     } else {
-        Next::Retention(0.70)
+        Next::Retention(R_MIN)
     }
 }
 

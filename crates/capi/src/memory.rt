@@ -78,7 +78,8 @@ pub extern "C" fn drill_forgetting_curve_for_state(
     difficulty: f32,
     fast: f32,
 ) -> f32
-    ensures { λ r. ⌜ r ≡ Model.retention (Model.curveOf (now (w .entry)) (stateOf stability difficulty fast)) t ⌝ }
+    ensures { λ r. ⌜ r ≡ Model.retention (Model.curveOf (now (w .entry))
+        (stateOf stability difficulty fast)) t ⌝ }
 {
     Fsrs7Runtime::new(w).forgetting_curve_for_state(t, state_of(stability, difficulty, fast))
 }

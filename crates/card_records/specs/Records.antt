@@ -2,7 +2,7 @@
 --   blank                    what stands past a list's end
 --   floatsAt, countsAt cs i  record i's row of floats and its row of counts
 --   floatRows, countRows cs  the records as the rows of the core's two lists
---   isBad k, recordBad cs i  refusal 5 turns a card away, and record i
+--   recordBad cs i           refusal 5 turns record i away
 --   hasRoom, checkedRecords  the entry's tests: the core's, with the room for the rows in refusal 6
 --   copied c n               how many of n records are copied
 --   laid c new old           a list that is written over from its first place on where the tests pass
@@ -10,14 +10,14 @@
 --   RecordsContract          WHAT A CALL PROMISES
 use Prim.Native.Nat.{ℕ}
 use mathlib.Core.Path.{_≡_}
-use mathlib.Core.Bool.{Bool, not, _&&_}
+use mathlib.Core.Bool.{Bool, _&&_}
 use mathlib.Core.List.{List, _++_, map}
 use lib.Dec.{leb}
 use lib.Ieee.{Float}
 use lib.ListN.{length, getD, drop}
 use Rattle.float32.specs.Float32.{isFinite}
 use Rattle.cards.specs.declared.Card.{Card}
-use Rattle.cards.specs.Cards.{cardOf, noFloats, noCounts, floatsOf, countsOf, isKept, cardOk}
+use Rattle.cards.specs.Cards.{cardOf, noFloats, noCounts, floatsOf, countsOf}
 use Rattle.simulation.specs.declared.Refusal.{Refusal}
 use Rattle.simulation.specs.declared.Check.{Check}
 use Rattle.simulation.specs.declared.Check.the-variants as check
@@ -25,7 +25,7 @@ use Rattle.simulation.specs.declared.Progress.{Progress}
 use Rattle.simulation.specs.declared.Answer.{Answer}
 use Rattle.simulation.specs.declared.Answer.the-variants as answer
 use Rattle.simulation.specs.State.{State, Lent, listsOf}
-use Rattle.simulation.specs.Entry.{Inputs, listsOk, checkFirst, checkSettings}
+use Rattle.simulation.specs.Entry.{Inputs, isBad, listsOk, checkFirst, checkSettings}
 use Rattle.simulation.specs.Simulate.{IsResult, progress, rulesFor, afterCheck}
 use Rattle.simulation.specs.Demands.{DemandThree, RunContract}
 
@@ -46,10 +46,7 @@ floatRows cs = map floatsOf cs
 abbrev pub countRows : List Card → List (List ℕ)
 countRows cs = map countsOf cs
 
--- a card is kept and not as refusal 5 asks
-abbrev pub isBad : Card → Bool
-isBad k = isKept k && not (cardOk k)
-
+-- record i is kept and not as refusal 5 asks
 abbrev pub recordBad : List Card → ℕ → Bool
 recordBad cs i = isBad (getD cs i blank)
 

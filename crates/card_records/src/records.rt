@@ -9,8 +9,8 @@ ghost use lib.Dec.{leb, ltb};
 ghost use lib.ListN.{length, getD, set};
 ghost use Rattle.elementary.specs.Filled.{filled};
 ghost use Rattle.cards.specs.Cards.{cardAt, floatsOf, countsOf};
-ghost use Rattle.simulation.specs.Entry.{firstWhere};
-ghost use Rattle.card_records.specs.Records.{blank, isBad, recordBad, floatsAt, countsAt};
+ghost use Rattle.simulation.specs.Entry.{firstWhere, isBad};
+ghost use Rattle.card_records.specs.Records.{blank, recordBad, floatsAt, countsAt};
 
 fn card_at(records: &[Card], i: usize) -> Card
     requires { ⌜ i < length (now records) ⌝ }

@@ -13,6 +13,16 @@ ghost use Rattle.cards.specs.Config.{rowOf, threeOf, amountOk, amountsOk
 ghost use Rattle.cards.specs.Config.{intervalOk, configOk};
 ghost use Rattle.cards.specs.Choices.{limits, retires, blocked, choiceOf};
 
+// An existing card is kept only above this stability.
+const KEPT_ABOVE: f32 = 0.000000001;
+
+// Dates lie within ± this: f32 has every whole number up to it.
+const FARTHEST: f32 = 16777216.0;
+
+const MOST_LAPSES: u32 = 4000000000;
+
+const LONGEST_INTERVAL: f32 = 36500.0;
+
 // `SimulatorConfig` of the Rust without its callbacks. A limit of 4294967295 is none; rows of four stand one after the
 // other.
 #[repr(C)]
@@ -141,17 +151,13 @@ pub fn write_counts(counts: &mut [[u32; 2]], c: u32, card: Card)
 pub fn is_kept(card: Card) -> bool
     ensures { λ r. ⌜ r ≡ isKept card ⌝ }
 {
-    card.stability > 0.000000001
+    card.stability > KEPT_ABOVE
 }
 
 fn date_ok(x: f32) -> bool
     ensures { λ r. ⌜ r ≡ dateOk x ⌝ }
 {
-    if x >= -16777216.0 {
-        x <= 16777216.0
-    } else {
-        false
-    }
+    if x >= -FARTHEST { x <= FARTHEST } else { false }
 }
 
 // A new card's difficulty is not looked at.
@@ -182,7 +188,7 @@ pub fn card_ok(card: Card) -> bool
     if !history_ok(card) {
         return false;
     }
-    card.lapses <= 4000000000
+    card.lapses <= MOST_LAPSES
 }
 
 pub fn is_retired(config: SimulatorConfig, card: Card) -> bool
@@ -337,7 +343,11 @@ fn costs_ok(table: [f32; 12]) -> bool
 fn interval_ok(x: f32) -> bool
     ensures { λ r. ⌜ r ≡ intervalOk x ⌝ }
 {
-    if x >= 1.0 { x <= 36500.0 } else { false }
+    if x >= 1.0 {
+        x <= LONGEST_INTERVAL
+    } else {
+        false
+    }
 }
 
 pub fn config_ok(config: SimulatorConfig) -> bool

@@ -23,7 +23,8 @@ fn add_memorized(memorized: &mut [f32], d: u32, chance: f32)
 // The times since `last` of n days from day d on.
 fn times(a: &mut [f32; 64], d: u32, last: f32, n: usize)
     requires { ⌜ (n ≤ 64) × (d + n ≤ 2 ^ 24) ⌝ }
-    ensures { λ _. ⌜ now (a .exit) ≡ filled (λ i. sub binary32 (ofInt binary32 (pos (d + i))) last) n (now (a .entry)) ⌝ }
+    ensures { λ _. ⌜ now (a .exit) ≡ filled (λ i. sub binary32 (ofInt binary32 (pos (d + i))) last) n
+        (now (a .entry)) ⌝ }
 {
     let mut i: usize = 0;
     while i < n {

@@ -1,6 +1,8 @@
 -- x^y once more, as e^(y ln x) by the series. What these bounds say, the whole-number powers of specs/Accuracy say too
 -- (proofs/powf/Series). At a c / d that is x^y itself no series shows either bound, which is why they are not the
 -- definition.
+--   LogGe s t x a b, LogLe s t x a b         a / b below or above |ln x|, by the signs of y ln x and of ln x
+--   SeriesGe x y c d, SeriesLe x y c d       c / d below or above e^(y ln x)
 use mathlib.Core.Bool.{Bool, true, false}
 use Prim.Native.Nat.{ℕ, _*_, _<_}
 use lib.Ieee.{Float, unlike}

@@ -122,8 +122,8 @@ module _ (t : Table) (s r : ℕ) (certified : Float → Bool) (fresh : Float) wh
       pub interval-all : isFull (slotIn certified fresh t s r) ≡ false → P (intervalOf (slotIn certified fresh t s r))
       interval-all f = interval-by (slotIn certified fresh t s r) origin f
 
-      enter-all : (p : ℕ) → p < places t → (q : ℕ) → q < places (enterIn t p s r fresh) → freeAt (enterIn t p s r fresh) q
-          ≡ false → P (valueAt (enterIn t p s r fresh) q)
+      enter-all : (p : ℕ) → p < places t → (q : ℕ) → q < places (enterIn t p s r fresh)
+          → freeAt (enterIn t p s r fresh) q ≡ false → P (valueAt (enterIn t p s r fresh) q)
       enter-all p h q l f =
           elim (ℕ-discrete q p) [
             | yes e ↦ rw e (rw (value-same t p s r fresh h) own)

@@ -1,4 +1,7 @@
 -- Parts of a line by their places, as the reader finds them. Serves the code's contracts; `Text` has the grammar.
+--   tokenAt s j, partAt s i     the part at a place that is no blank, and the first from a place on
+--   partOf s a e                the bytes of a part
+--   partsFrom s t               the parts of which the first was found
 use Prim.Native.Nat.{ℕ, _+_, _-_}
 use mathlib.Core.Bool.{cond}
 use mathlib.Core.List.{List, [], _∷_}

@@ -121,7 +121,8 @@ impl Fsrs7Runtime {
     }
 
     pub fn next_difficulty(self, d: f32, rating: u32, retention: f32) -> f32
-        ensures { λ r. ⌜ r ≡ Model.nextDifficultyBy (self .difficulty .easy) (self .difficulty .w6) d rating retention ⌝ }
+        ensures { λ r. ⌜ r ≡ Model.nextDifficultyBy (self .difficulty .easy) (self .difficulty .w6) d rating
+            retention ⌝ }
     {
         let delta = delta_d(self.difficulty.w6, to_rating(rating), retention);
         clamp(

@@ -1,5 +1,5 @@
 -- THE SEARCH for the cheapest retention, from its inputs and the lent lists to its answer and the lists that it leaves
--- (docs/RULES.md, O1 to O9). Definitions only.
+-- (docs/RULES.md, O5 to O7). Definitions only.
 --   roundsOk rounds               refusal 4 asks for 1 to 64
 --   checkedSearch rounds i l      the entry's tests
 --   optimalRetention i rounds l   a call: its trials, the lists that it leaves, its answer

@@ -1,4 +1,4 @@
--- A TRIAL of the search (docs/RULES.md, O1 to O4): runs at one retention, each with its own seed, one after the other
+-- A TRIAL of the search (docs/RULES.md, O1 to O3): runs at one retention, each with its own seed, one after the other
 -- in the same lists, and the mean of what they cost. Definitions only.
 --   searchInputs         what a search is given besides the lists that it writes
 --   runInputs i u n      the inputs of run n of a trial at u

@@ -1,6 +1,7 @@
 -- The entry's tests, in their order (docs/RULES.md, E1 to E9). Definitions only.
 --   Inputs, inputs, withParameters   what a run is given besides the lists that it writes
 --   firstWhere p n i                 the first number that passes a test
+--   isBad k                          whether refusal 5 turns a card away
 --   checkParameters, lengthsOk, listsOk, checkFirst   refusals 1, 6 and 5
 --   shortList g n m x                which list refusal 6 is about
 --   checkSettings ok lists w g n next   all tests before 5, with ok among those of refusal 4
@@ -14,6 +15,7 @@ use lib.ListN.{length, getD}
 use lib.Ieee.{Float, nan}
 use Rattle.float32.specs.Float32.{isFinite}
 use Rattle.cards.specs.declared.SimulatorConfig.{SimulatorConfig}
+use Rattle.cards.specs.declared.Card.{Card}
 use Rattle.cards.specs.Cards.{cardAt, isKept, cardOk}
 use Rattle.cards.specs.Config.{configOk}
 use Rattle.days.specs.Due.{dueDays}
@@ -56,9 +58,12 @@ firstWhere p (suc n) i = let rest = firstWhere p n (i + 1) in cond (p i) i rest
 abbrev pub notFinite : List Float → ℕ → Bool
 notFinite w i = not (isFinite (getD w i nan))
 
--- existing card i is kept and not as refusal 5 asks
+-- a card is kept and not as refusal 5 asks; so is existing card i
+abbrev pub isBad : Card → Bool
+isBad k = isKept k && not (cardOk k)
+
 abbrev pub notOk : List (List Float) → List (List ℕ) → ℕ → Bool
-notOk cards counts i = isKept (cardAt cards counts i) && not (cardOk (cardAt cards counts i))
+notOk cards counts i = isBad (cardAt cards counts i)
 
 abbrev pub failIf : Bool → Refusal → Check → Check
 failIf true r next = check.Failed r

@@ -11,11 +11,18 @@ ghost use mathlib.Core.List.{List};
 ghost use lib.ListN.{getD};
 ghost use lib.Ieee.{Float, nan};
 ghost use Rattle.float32.specs.Numbers.{0ᶠ};
-ghost use Rattle.cards.specs.Cards.{isKept, cardOk};
 ghost use Rattle.simulation.specs.State.{lent, state};
 ghost use Rattle.simulation.specs.declared.Check.the-variants as check;
-ghost use Rattle.simulation.specs.Entry.{inputs, firstWhere, notFinite, notOk, failIf, checkParameters};
-ghost use Rattle.simulation.specs.Entry.{lengthsOk, shortList, checkFirst, checkSettings, checkEntry};
+ghost use Rattle.simulation.specs.Entry.{inputs, firstWhere, notFinite, isBad, notOk, failIf};
+ghost use Rattle.simulation.specs.Entry.{checkParameters, lengthsOk, shortList, checkFirst};
+ghost use Rattle.simulation.specs.Entry.{checkSettings, checkEntry};
+
+// The largest deck, the longest span, and how many parameters FSRS-7 has.
+const MOST_CARDS: u32 = 65536;
+
+const MOST_DAYS: u32 = 36500;
+
+const PARAMETERS: u32 = 34;
 
 fn parameter(w: &[f32], i: u32) -> f32
     ensures { λ r. ⌜ r ≡ getD (now (w .entry)) i nan ⌝ }
@@ -47,14 +54,18 @@ fn fail_if(test: bool, refusal: Refusal, next: Check) -> Check
 fn check_parameters(w: &[f32], next: Check) -> Check
     ensures { λ r. ⌜ r ≡ checkParameters (now (w .entry)) next ⌝ }
 {
-    let i = first_not_finite(w, 34);
-    let finite = fail_if(i < 34, Refusal::Parameters(i), next);
-    fail_if(w.len() < 34, Refusal::Parameters(34), finite)
+    let i = first_not_finite(w, PARAMETERS);
+    let finite = fail_if(i < PARAMETERS, Refusal::Parameters(i), next);
+    fail_if(
+        w.len() < PARAMETERS as usize,
+        Refusal::Parameters(PARAMETERS),
+        finite,
+    )
 }
 
 // Whether refusal 5 turns a card away: it is kept and not as it must be.
 pub fn is_bad(card: Card) -> bool
-    ensures { λ r. ⌜ r ≡ isKept card && not (cardOk card) ⌝ }
+    ensures { λ r. ⌜ r ≡ isBad card ⌝ }
 {
     if cards::is_kept(card) {
         !cards::card_ok(card)
@@ -152,8 +163,12 @@ pub fn check_settings(
     let few = fail_if((deck as usize) < n, Refusal::TooManyCards, Check::Passed);
     let lists = fail_if(!lists_ok, Refusal::Lists, few);
     let settings = fail_if(!config_ok, Refusal::Config, lists);
-    let days = fail_if((span == 0) | (36500 < span), Refusal::LearnSpan, settings);
-    let cards = fail_if((deck == 0) | (65536 < deck), Refusal::DeckSize, days);
+    let days = fail_if(
+        (span == 0) | (MOST_DAYS < span),
+        Refusal::LearnSpan,
+        settings,
+    );
+    let cards = fail_if((deck == 0) | (MOST_CARDS < deck), Refusal::DeckSize, days);
     check_parameters(parameters, cards)
 }
 

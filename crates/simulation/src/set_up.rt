@@ -217,7 +217,8 @@ fn add_new_cards(
     from: u32,
 ) -> u32
     ensures { λ r. ⌜ deck (now (cards .exit)) (now (counts .exit)) (now (rows .exit)) [] r
-        ≡ addNewCards retention limit n (deck (now (cards .entry)) (now (counts .entry)) (now (rows .entry)) [] from) ⌝ }
+        ≡ addNewCards retention limit n
+        (deck (now (cards .entry)) (now (counts .entry)) (now (rows .entry)) [] from) ⌝ }
 {
     let mut len = from;
     let mut i: u32 = 0;

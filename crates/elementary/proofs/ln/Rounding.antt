@@ -232,7 +232,8 @@ module _ (x : Float) (u n m : ℕ) (up : 0 < u) (h : HasValue x false u (2 ^ 149
         let w = n * 3121657384082679 + lnMant m in
         let E : w - 496343524069145961 ≡ k * 3121657384082679 + lnMant m = omega arith in
         rw (up-is w (omega arith), E)
-        (near-any x false u (2 ^ 149) (k * 3121657384082679 + lnMant m) up (pow-pos 149) h (up-le m lo hi k u (2 ^ 149) e)
+        (near-any x false u (2 ^ 149) (k * 3121657384082679 + lnMant m) up (pow-pos 149) h
+        (up-le m lo hi k u (2 ^ 149) e)
         (up-ge m lo hi k u (2 ^ 149) (omega arith) e) (omega (arith, lnMant-lt m lo hi)))
 
     pub near-down : n < 159 → u * (2 ^ (159 - n) * 2 ^ 23) ≡ m * 2 ^ 149

@@ -94,7 +94,8 @@ day-kept k e =
     let b = both (isFinite (k .«desired_retention»)) (dateOk (k .due) && rest) (a .1) in
     let c = both (dateOk (k .due)) rest (b .1) in
     let d = both (le (neg farthest) (k .due)) (le (k .due) farthest) (c .0) in
-    let u : toUnsigned 32 (k .due) ≤ 16777216 = whole-le 32 16777216 farthest (k .due) farthest-value (cmp.yes (d .1)) in
+    let u : toUnsigned 32 (k .due) ≤ 16777216 =
+    whole-le 32 16777216 farthest (k .due) farthest-value (cmp.yes (d .1)) in
     rw (day-cut (k .due)) (omega (arith, u))
 
 lapses-kept : (k : Card) → cardOk k ≡ true → k .lapses ≤ mostLapses

@@ -50,8 +50,8 @@ use denote.Triple.Walked.{says, Stays, stay-none-slice, walkOf, goes-none-slice,
 use denote.Exit.{yes}
 use borrow.Author.Tests.{lt-ltb, le-ltb}
 use Rattle.cards.specs.declared.Card.{Card}
-use Rattle.card_records.specs.Records.{blank, isBad, recordBad}
-use Rattle.simulation.specs.Entry.{firstWhere}
+use Rattle.card_records.specs.Records.{blank, recordBad}
+use Rattle.simulation.specs.Entry.{firstWhere, isBad}
 use Rattle.card_records.proofs.Laws.{first-none, first-most, first-next}
 use Rattle.cards.proofs.Card as T
 use Rattle.cards.proofs.Card.Laws as T′

@@ -1,11 +1,9 @@
 -- `simulation::entry::first_not_ok` meets its contract.
-use mathlib.Core.Bool.{true, false, _&&_, not}
+use mathlib.Core.Bool.{true, false}
 use Prim.Native.Nat.{ℕ, _-_, _≤_}
 use native.Mathlib.Omega.{arith}
 use mathlib.Core.Path.{_≡_, sym, ap, _∙_}
-use Rattle.cards.specs.declared.Card.{Card}
-use Rattle.cards.specs.Cards.{isKept, cardOk}
-use Rattle.simulation.specs.Entry.{firstWhere, notOk}
+use Rattle.simulation.specs.Entry.{firstWhere, isBad, notOk}
 use Rattle.simulation.proofs.entry.FirstWhere.{first-here, first-on, first-end}
 use Rattle.simulation.proofs.entry.first_not_ok.Statement.{statement}
 use Rattle.simulation.proofs.entry.first_not_ok.Tie as tie
@@ -36,7 +34,7 @@ returns c =
     let at-loop = at-loop-test .before in
     let start = at-loop .before in
     let e : notOk (start .args .existing .now) (start .args .existing-counts .now) (at-loop .loop .i) ≡ true = sym
-    (c .before .is-bad .ensures ∙ ap (λ (k : Card). isKept k && not (cardOk k)) (c .before .before .card-at .ensures))
+    (c .before .is-bad .ensures ∙ ap isBad (c .before .before .card-at .ensures))
     ∙ c .if1 .taken in sym
     (first-here (notOk (start .args .existing .now) (start .args .existing-counts .now)) (start .args .n)
     (at-loop .loop .i) (at-loop-test .loop-test .taken) e)
@@ -54,7 +52,7 @@ loop-again c =
     let at-loop = at-loop-test .before in
     let start = at-loop .before in
     let e : notOk (start .args .existing .now) (start .args .existing-counts .now) (at-loop .loop .i) ≡ false = sym
-    (c .before .is-bad .ensures ∙ ap (λ (k : Card). isKept k && not (cardOk k)) (c .before .before .card-at .ensures))
+    (c .before .is-bad .ensures ∙ ap isBad (c .before .before .card-at .ensures))
     ∙ c .if1 .left in (
       first-on (notOk (start .args .existing .now) (start .args .existing-counts .now)) (start .args .n)
           (at-loop .loop .i) (at-loop-test .loop-test .taken) e ∙ at-loop .loop .inv .0,
