@@ -1,6 +1,6 @@
 -- A search asks for no retention outside 0.70 to 0.95, also not for one that is then refused.
 --   asks-within           what a run does at other retentions is of no account to the search
---   refused-by            what each trial keeps holds in the next one, and a search is refused only as its trials are
+--   left-as               what each trial keeps holds of what the search leaves, and it is refused only as its trials are
 --   stepper-asks-within   whatever means a stepper is handed, the next retention that it asks for lies within
 use mathlib.Core.Path.{_≡_, refl, sym, ap, _∙_}
 use mathlib.Core.Bool.{Bool, true, false, not, cond, _&&_, true≢false}
@@ -12,10 +12,9 @@ use lib.Dec.{T, ltb}
 use lib.Ieee.{Float}
 use Rattle.brent.specs.declared.Brent.{Brent}
 use Rattle.brent.specs.declared.Stepper.{Stepper}
-use Rattle.brent.specs.declared.Next.{Next}
 use Rattle.brent.specs.declared.Next.the-variants as next
 use Rattle.brent.specs.Step.{rMin, converged, trial, begun, stepOf, within}
-use Rattle.brent.specs.Search.{Sampled, gives, refuses, Answer, found, notFound, Searched, ended, noted, tried}
+use Rattle.brent.specs.Search.{Sampled, gives, refuses, found, notFound, Searched, ended, noted, tried}
 use Rattle.brent.specs.Search.{settled}
 use Rattle.brent.specs.Search.{searchOn, search, Lawful, RefusedBy}
 use Rattle.brent.specs.Stepping.{started, goesOn, nextRetention, takenIn, takeMean, fed, AskedWithin}
@@ -66,7 +65,7 @@ module _ {W R : Type 0} (run run' : W → Float → Sampled W R)
 module _ {W R : Type 0} (run : W → Float → Sampled W R) (P : W → Type 0) (Q : R → Type 0)
     (lawful : (w : W) (u : Float) → P w → T (within u) → Lawful P Q (run w u)) where
   abbrev Ends : Searched W R → Type 0
-  Ends x = RefusedBy Q (x .answer)
+  Ends x = P (x .left) × RefusedBy Q (x .answer)
 
   trial-ends : (u : Float) (x : Sampled W R) (rest : W → Float → Searched W R) → Lawful P Q x
       → ((w : W) (mean : Float) → P w → Ends (rest w mean)) → Ends (tried u x rest)
@@ -78,7 +77,7 @@ module _ {W R : Type 0} (run : W → Float → Sampled W R) (P : W → Type 0) (
       → ((after : W) (mean : Float) → P after → Ranged (stepOf s mean) → Ends (searchOn run n after (stepOf s mean)))
       → (b : Bool) → converged s ≡ b → Ends (searchOn run (suc n) w s)
   unfolding searchOn ended settled
-  ends-turn n w s r p h true e = rw e (go (within (s .x)))
+  ends-turn n w s r p h true e = rw e (p, go (within (s .x)))
     where
       go : (b : Bool) → RefusedBy Q (cond b (found (s .x) (s .fx) (s .done)) (notFound (s .done)))
       go true = tt
@@ -90,14 +89,14 @@ module _ {W R : Type 0} (run : W → Float → Sampled W R) (P : W → Type 0) (
 
   ends-on : (n : ℕ) (w : W) (s : Brent) → Ranged s → P w → Ends (searchOn run n w s)
   unfolding searchOn ended
-  ends-on zero w s r p = tt
+  ends-on zero w s r p = (p, tt)
   ends-on (suc n) w s r p =
       ends-turn n w s r p (λ after mean q g. ends-on n after (stepOf s mean) g q) (converged s) refl
 
-  -- a search is refused only as its trials are
-  pub refused-by : (rounds : ℕ) (world : W) → P world → Ends (search run rounds world)
+  -- what is left, and a search is refused only as its trials are
+  pub left-as : (rounds : ℕ) (world : W) → P world → Ends (search run rounds world)
   unfolding search
-  refused-by rounds world p =
+  left-as rounds world p =
       trial-ends rMin (run world rMin) (λ after mean. searchOn run rounds after (begun mean))
       (lawful world rMin p first-within) (λ after mean q. ends-on rounds after (begun mean) (begun-ranged mean) q)
 

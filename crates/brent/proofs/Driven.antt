@@ -1,7 +1,7 @@
 -- `driven-is`: a stepper that a host drives gives the whole search: its trials, what they leave, its answer. `closed`:
 -- a stepper that asks for no retention has an answer.
-use mathlib.Core.Path.{_≡_, refl, sym, ap, _∙_}
-use mathlib.Core.Bool.{Bool, true, false, not, cond, _&&_, true≢false}
+use mathlib.Core.Path.{_≡_, refl, ap, _∙_}
+use mathlib.Core.Bool.{Bool, true, false, not, cond, _&&_}
 use Prim.Native.Nat.{ℕ, zero, suc, _+_, _≤_, _<_}
 use native.Mathlib.Omega.{arith}
 use borrow.Author.Tests.{lt-ltb, le-ltb}
@@ -9,12 +9,10 @@ use lib.Dec.{ltb}
 use lib.Ieee.{Float, lt}
 use Rattle.brent.specs.declared.Brent.{Brent}
 use Rattle.brent.specs.declared.Stepper.{Stepper}
-use Rattle.brent.specs.declared.Next.{Next}
 use Rattle.brent.specs.declared.Next.the-variants as next
-use Rattle.brent.specs.declared.Verdict.{Verdict}
 use Rattle.brent.specs.declared.Verdict.the-variants as verdict
 use Rattle.brent.specs.Step.{rMin, converged, trial, begun, stepOf, afterTrial, afterWorse, afterBetter, within}
-use Rattle.brent.specs.Search.{Sampled, gives, refuses, Answer, Searched, found, notFound, ended, noted, tried}
+use Rattle.brent.specs.Search.{Sampled, gives, refuses, Searched, found, notFound, ended, noted, tried}
 use Rattle.brent.specs.Search.{settled, searchOn, search}
 use Rattle.brent.specs.Stepping.{started, goesOn, nextRetention, takenIn, takeMean, judged, answer, told, closing}
 use Rattle.brent.specs.Stepping.{asked, driven}

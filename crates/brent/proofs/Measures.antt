@@ -7,14 +7,14 @@
 --   passes               the test of convergence passes near the middle of a small span
 --   Room i k j c, room   a state that has not converged leaves 233,000 on the side of x where the middle is
 use mathlib.Core.Path.{_≡_, refl, sym, ap, _∙_, subst}
-use mathlib.Core.Bool.{Bool, true, false, not, true≢false}
-use Prim.Native.Nat.{ℕ, zero, suc, _+_, _-_, _*_, _/_, _^_, _≤_, _<_}
-use native.Mathlib.Nat.{le-trans, le-of-eq, mul-comm, mul-assoc, mul-left-comm, mul-pos, mul-le-mul-right, add-mul}
-use native.Mathlib.Nat.{mul-one, one-mul}
+use mathlib.Core.Bool.{Bool, true, false, true≢false}
+use Prim.Native.Nat.{ℕ, _+_, _-_, _*_, _/_, _^_, _≤_, _<_}
+use native.Mathlib.Nat.{le-trans, le-of-eq, mul-assoc, mul-left-comm, mul-pos, mul-le-mul-right, add-mul}
+use native.Mathlib.Nat.{one-mul}
 use native.Mathlib.Omega.{arith}
 use borrow.Author.Tests.{leb-true, leb-false}
 use lib.Dec.{leb}
-use lib.Ieee.{Float, fin, binary32, ofBits, ofFields, round, sum, add, sub, mul, neg, lt}
+use lib.Ieee.{Float, binary32, ofBits, ofFields, round, neg, lt}
 use lib.Ieee.Fits.{mul-fits}
 use lib.Ieee.Exact.{HasValue}
 use lib.Ieee.Positive.{num, den, den-pos}

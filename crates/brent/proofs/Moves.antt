@@ -8,17 +8,17 @@
 use mathlib.Core.Path.{_≡_, refl, sym, ap, _∙_, subst}
 use mathlib.Core.Bool.{Bool, true, false, not, Bool·beq, cond, _&&_, _||_, true≢false}
 use Prim.Native.Nat.{ℕ, zero, suc, _+_, _-_, _*_, _^_, _≤_, _<_}
-use native.Mathlib.Nat.{le-trans, le-of-eq, le-of-lt, mul-comm, mul-assoc, mul-left-comm, mul-right-comm, mul-pos}
-use native.Mathlib.Nat.{zero-mul, mul-one, mul-le-mul-right, lt-of-lt-of-le, lt-of-le-of-lt, lt-of-mul-lt-mul-right}
+use native.Mathlib.Nat.{le-trans, le-of-eq, le-of-lt, mul-comm, mul-assoc, mul-right-comm, mul-pos}
+use native.Mathlib.Nat.{zero-mul, mul-le-mul-right, lt-of-lt-of-le, lt-of-le-of-lt, lt-of-mul-lt-mul-right}
 use native.Mathlib.Nat.{mul-lt-mul-of-pos-right}
 use native.Mathlib.Omega.{arith}
 use borrow.Author.Tests.{ltb-true, ltb-false, leb-true, leb-false, ne-eqb, eq-eqb}
 use lib.Dec.{T, ltb, leb, eqb}
-use lib.IntN.{ℤ, pos}
-use lib.Ieee.{Float, nan, inf, fin, Format, binary32, up, down, ofBits, ofFields, round, sum, add, mul, div, neg, lt}
+use lib.IntN.{ℤ}
+use lib.Ieee.{Float, nan, inf, fin, binary32, up, down, ofBits, ofFields, round, sum, mul, div, neg, lt}
 use lib.Ieee.{le, eq, below, fits, unlike}
 use lib.Ieee.Bits.{is-true}
-use lib.Ieee.Fits.{up-pos, down-pos, round-fits, cond-fits, add-fits, neg-fits, inf-fits, nan-fits}
+use lib.Ieee.Fits.{down-pos, round-fits, cond-fits, add-fits, inf-fits, nan-fits}
 use lib.Ieee.Exact.{HasValue}
 use lib.Ieee.Order.{le-of-values, round-mono}
 use lib.Ieee.Positive.{num, den, den-pos, first-pos}
@@ -28,7 +28,7 @@ use Rattle.float32.proofs.NonNegative.{nonNegative, round-clear}
 use Rattle.float32.proofs.Sums.{Order, less, same, more, order}
 use Rattle.float32.specs.Numbers.{0ᶠ, 1ᶠ}
 use Rattle.brent.specs.Step.{tol1, stepped}
-use Rattle.brent.proofs.Values.{N, At, In, InOf, rounded-in, own-round, le-vals, below-no, below-yes, round-flip}
+use Rattle.brent.proofs.Values.{N, At, In, rounded-in, own-round, le-vals, below-no, below-yes, round-flip}
 use Rattle.brent.proofs.Values.{neg-value, abs-value, mul-at, minus-over, minus-under, step-up, step-down}
 use Rattle.brent.proofs.Values.{narrow}
 

@@ -3,15 +3,13 @@
 --   not-below-trans   x is not below y, nor y below z: then x is not below z, if y is no NaN
 --   self              no float is below itself
 use mathlib.Core.Path.{_≡_, refl, sym, _∙_}
-use mathlib.Core.Bool.{Bool, true, false, not, _&&_, true≢false}
+use mathlib.Core.Bool.{Bool, true, false, true≢false}
 use Prim.Native.Nat.{ℕ, zero, suc, _+_, _*_, _≤_, _<_}
 use native.Mathlib.Nat.{zero-mul, mul-pos}
 use native.Mathlib.Omega.{arith}
-use borrow.Author.Tests.{ltb-true, ltb-false, lt-ltb, le-ltb}
-use lib.Dec.{ltb}
-use lib.IntN.{ℤ}
+use borrow.Author.Tests.{ltb-true, ltb-false, le-ltb}
 use lib.Ieee.{Float, nan, inf, fin, up, down, below, lt, isNan}
-use lib.Ieee.Fits.{up-pos, down-pos}
+use lib.Ieee.Fits.{down-pos}
 use lib.Ieee.Positive.{through}
 
 below-asym : (s : Bool) (a : ℕ) (t : Bool) (b : ℕ) → below s a t b ≡ true → below t b s a ≡ false

@@ -9,15 +9,15 @@
 --   never-ten                      with 57 rounds or more there is no refusal 10
 --   within-finite, trials-finite   what is in range is finite, and so are the retentions tried
 use mathlib.Core.Path.{_≡_, refl, sym, ap, _∙_, subst}
-use mathlib.Core.Bool.{Bool, true, false, not, cond, _&&_, _||_, true≢false}
+use mathlib.Core.Bool.{Bool, true, false, cond, _&&_, _||_, true≢false}
 use mathlib.Core.List.{List, [], _∷_}
 use Prim.Native.Nat.{ℕ, zero, suc, _+_, _-_, _*_, _/_, _^_, _≤_, _<_}
-use native.Mathlib.Nat.{le-trans, le-of-eq, mul-comm, mul-assoc, mul-pos, mul-le-mul-right, mul-lt-mul-of-pos-right}
+use native.Mathlib.Nat.{le-trans, le-of-eq, mul-pos, mul-le-mul-right, mul-lt-mul-of-pos-right}
 use native.Mathlib.Nat.{le-of-mul-le-mul-right, zero-mul}
 use native.Mathlib.Omega.{arith}
 use borrow.Author.Tests.{leb-true, leb-false}
 use lib.Dec.{T, leb}
-use lib.Ieee.{Float, nan, inf, fin, binary32, ofBits, ofFields, round, add, sub, mul, div, neg, lt, le, eq, fits}
+use lib.Ieee.{Float, nan, inf, fin, binary32, ofBits, ofFields, round, neg, lt, le, eq, fits}
 use lib.Ieee.Bits.{is-true}
 use lib.Ieee.Fits.{add-fits, neg-fits, cond-fits}
 use lib.Ieee.Exact.{HasValue}
@@ -25,17 +25,15 @@ use lib.Ieee.Order.{le-of-values}
 use lib.Ieee.Positive.{num, den, den-pos}
 use Rattle.float32.specs.Float32 as Float32
 use Rattle.float32.specs.Ops.{_+ᶠ_, _-ᶠ_, _*ᶠ_, _/ᶠ_}
-use Rattle.float32.proofs.Sums.{Order, less, same, more, order}
 use Rattle.brent.specs.declared.Brent.{Brent}
-use Rattle.brent.specs.declared.Move.{Move}
 use Rattle.brent.specs.declared.Parabola.{Parabola}
 use Rattle.float32.specs.Numbers.{0ᶠ}
 use Rattle.brent.specs.Step.{rMin, rMax, cg, two, tol1, tol2, middle, converged, toEnd, golden, parabola, useful}
 use Rattle.brent.specs.Step.{nearEnd, inward, fitted, parabolic, moved, stepped, trialOf, trial, begun}
 use Rattle.brent.specs.Step.{afterWorse, afterBetter, afterTrial, stepOf, within}
-use Rattle.brent.specs.Search.{Sampled, gives, refuses, Tried, Answer, Searched, found, notFound, refused, ended}
+use Rattle.brent.specs.Search.{Sampled, gives, refuses, Tried, Searched, notFound, ended}
 use Rattle.brent.specs.Search.{noted, tried, settled, searchOn, search, Each, OnlySpent, NeverTen}
-use Rattle.brent.proofs.Values.{N, At, In, InOf, Place, placed, rounded-in, le-vals, below-no, below-yes}
+use Rattle.brent.proofs.Values.{N, At, In, Place, placed, rounded-in, le-vals, below-no, below-yes}
 use Rattle.brent.proofs.Values.{round-flip, neg-value, mul-at, minus-over, minus-under, step-up, step-down}
 use Rattle.brent.proofs.Values.{widen, at-least, at-most, at-in}
 use Rattle.brent.proofs.Measures.{kMin, kMax, tol1-in, tol2-in, middle-at, Room, room}

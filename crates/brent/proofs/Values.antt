@@ -18,25 +18,24 @@ use mathlib.Core.Path.{_≡_, refl, sym, ap, _∙_, subst}
 use mathlib.Core.Bool.{Bool, true, false, not, cond, _&&_, _||_, true≢false}
 use Prim.Native.Nat.{ℕ, zero, suc, _+_, _-_, _*_, _%_, _^_, _≤_, _<_}
 use native.Mathlib.Nat.{le-trans, le-of-eq, le-of-lt, lt-of-lt-of-le, lt-of-le-of-lt, mul-comm, mul-assoc}
-use native.Mathlib.Nat.{mul-left-comm, mul-right-comm, mul-pos, add-mul, zero-mul, mul-one, one-mul, mul-le-mul-right}
-use native.Mathlib.Nat.{mul-le-mul-left, le-of-mul-le-mul-right, mul-mul-mul-comm, lt-of-mul-lt-mul-right}
+use native.Mathlib.Nat.{mul-left-comm, mul-right-comm, mul-pos, add-mul, zero-mul, mul-one, mul-le-mul-right}
+use native.Mathlib.Nat.{mul-le-mul-left, le-of-mul-le-mul-right, mul-mul-mul-comm}
 use native.Mathlib.Nat.{mul-lt-mul-of-pos-right, eq-of-mul-eq-mul-right}
 use native.Mathlib.Omega.{arith}
-use borrow.Author.Tests.{leb-true, leb-false, ltb-true, ltb-false, lt-ltb, le-ltb, ne-eqb}
+use borrow.Author.Tests.{leb-true, leb-false, ltb-true, ltb-false, le-ltb}
 use lib.Dec.{T, ltb, leb, eqb, eqb→eq, ltb→lt, leb→le}
 use lib.IntN.{ℤ, pos, negsuc}
 use lib.Pow.{pow-pos, pow-add, pow-mono}
-use lib.Ieee.{Float, nan, inf, fin, Format, binary32, up, down, odd, units, round, sum, add, sub, mul, div, neg, lt, le}
+use lib.Ieee.{Float, nan, inf, fin, Format, binary32, up, down, odd, units, round, sum, add, sub, mul, neg, lt, le}
 use lib.Ieee.{eq, prec, emax, low, fits, unlike}
-use lib.Ieee.Fits.{up-pos, down-pos, round-is, and-l, and-r}
+use lib.Ieee.Fits.{down-pos, round-is}
 use lib.Ieee.Exact.{HasValue, round-exact}
-use lib.Ieee.Order.{transfer, le-of-values, round-mono}
+use lib.Ieee.Order.{transfer, round-mono}
 use lib.Ieee.Scale.{round-same}
 use lib.Ieee.Positive.{num, den, den-pos, value→cross}
 use Rattle.float32.specs.Float32 as Float32
 use Rattle.float32.proofs.NonNegative.{nonNegative, round-clear}
 use Rattle.float32.proofs.Sums.{sum-same, sum-like, sum-over, sum-under, sum-level, Order, less, same, more, order}
-use Rattle.float32.proofs.Sums.{test}
 
 -- 2^24
 abbrev pub N : ℕ

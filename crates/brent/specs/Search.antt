@@ -8,7 +8,7 @@
 use mathlib.Core.Path.{_≡_}
 use mathlib.Core.Logic.{_⊎_}
 use Prim.Native.Nat.{ℕ, zero, suc, _+_, _<_}
-use mathlib.Core.Bool.{Bool, false, cond}
+use mathlib.Core.Bool.{false, cond}
 use mathlib.Core.List.{List, [], _∷_}
 use lib.Dec.{T}
 use lib.Ieee.{Float, lt}
@@ -109,10 +109,10 @@ NeverTen (found x mean done) = Unit {0}
 NeverTen (notFound done) = ⊥
 NeverTen (refused why) = Unit {0}
 
--- a trial keeps P of what it works in, or is refused as Q says
+-- a trial keeps P of what it works in, and is refused only as Q says
 abbrev pub Lawful : {W R : Type 0} → (W → Type 0) → (R → Type 0) → Sampled W R → Type 0
 Lawful P Q (gives w mean) = P w
-Lawful P Q (refuses w why) = Q why
+Lawful P Q (refuses w why) = P w × Q why
 
 -- a refusal is as Q says
 abbrev pub RefusedBy : {R : Type 0} → (R → Type 0) → Answer R → Type 0

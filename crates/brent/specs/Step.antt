@@ -7,7 +7,7 @@
 --   begun mean                      the state after the first trial
 --   afterWorse, afterBetter, stepOf s mean   the state after a trial
 --   within x                        whether a retention may be given out
-use Prim.Native.Nat.{ℕ, _+_}
+use Prim.Native.Nat.{_+_}
 use mathlib.Core.Bool.{Bool, false, cond, _&&_, _||_}
 use lib.Ieee.{Float, binary32, round, neg, lt, le, eq}
 use Rattle.float32.specs.Float32 as Float32

@@ -2,7 +2,7 @@
 use float32::abs;
 use float32::mul_add;
 ghost use mathlib.Core.Path.{_≡_};
-ghost use mathlib.Core.Bool.{Bool, cond, _&&_, _||_};
+ghost use mathlib.Core.Bool.{cond, _&&_, _||_};
 ghost use Prim.Native.Nat.{_<_};
 ghost use Rattle.brent.specs.Step as Step;
 ghost use Rattle.brent.specs.Stepping as Stepping;

@@ -35,7 +35,7 @@ use Rattle.simulation.specs.Entry.{Inputs, inputs, firstWhere, notOk, failIf, l
 use Rattle.simulation.specs.Entry.{listsOk, checkFirst, checkSettings, checked}
 use Rattle.simulation.specs.Simulate.{IsResult, progress, rulesFor, afterCheck, simulatedBy}
 use Rattle.simulation.specs.Demands.{RunContract}
-use Rattle.simulation.proofs.Contract.{settings-passed}
+use Rattle.simulation.proofs.Contract.{SettingsOk, settings-passed}
 use Rattle.card_records.specs.Records.{blank, floatsAt, countsAt, floatRows, countRows, recordBad, hasRoom}
 use Rattle.card_records.specs.Records.{checkedRecords, copied, laid, RowsContract, RecordsContract}
 use Rattle.card_records.proofs.Laws.{fill-none, first-alike}
@@ -127,14 +127,14 @@ module _ (g : SimulatorConfig) (w : List Float) (retention : Float) (seed : ℕ)
 
   -- what tests that pass say
   module _ (e : tests ≡ check.Passed) where
-    passed : (long && hasRoom (length cs) (length room) (length room-counts) ≡ true) × (length cs ≤ 65536)
-        × (failIf (ltb good (length cs)) (refusal.ExistingCard good) check.Passed ≡ check.Passed)
+    passed : SettingsOk (isFinite retention) (long && hasRoom (length cs) (length room) (length room-counts)) w g
+        (length cs) (failIf (ltb good (length cs)) (refusal.ExistingCard good) check.Passed)
     passed = settings-passed (isFinite retention) (long && hasRoom (length cs) (length room) (length room-counts)) w g
         (length cs) (failIf (ltb good (length cs)) (refusal.ExistingCard good) check.Passed) e
 
     has-room : (length cs ≤ length room) × (length cs ≤ length room-counts)
     has-room =
-        let h = both long (hasRoom (length cs) (length room) (length room-counts)) (passed .0) .1 in
+        let h = both long (hasRoom (length cs) (length room) (length room-counts)) (passed .lists-ok) .1 in
         let k = both (leb (length cs) (length room)) (leb (length cs) (length room-counts)) h in
         (leb-true _ _ (k .0), leb-true _ _ (k .1))
 
@@ -149,7 +149,7 @@ module _ (g : SimulatorConfig) (w : List Float) (retention : Float) (seed : ℕ)
         let lists = listsOk given start in
         let fits = hasRoom n (length room) (length room-counts) in
         let cards = checkFirst (floatRows cs) (countRows cs) n in
-        let t = settings-passed (isFinite retention) (lists && fits) w g n cards is-passed .0 in
+        let t = settings-passed (isFinite retention) (lists && fits) w g n cards is-passed .lists-ok in
         sym (ap (λ (b : Bool). checkSettings (isFinite retention) b w g n cards) (t ∙ sym (both lists fits t .0)))
         ∙ is-passed
 
@@ -157,7 +157,7 @@ module _ (g : SimulatorConfig) (w : List Float) (retention : Float) (seed : ℕ)
   many-fits = go tests refl
     where
       go : (c : Check) → tests ≡ c → (copied c (length cs) ≤ length cs) × (copied c (length cs) < 4294967296)
-      go check.Passed e = (omega arith, omega (arith, passed e .1))
+      go check.Passed e = (omega arith, omega (arith, passed e .deck-most, passed e .existing-few))
       go (check.Failed r) e = (omega arith, omega arith)
 
   pub rows-fit : (many ≤ length rowsIn) × (many ≤ length countsIn)

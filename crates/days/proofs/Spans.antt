@@ -4,7 +4,7 @@
 --   chance-at                       the chances of a block, by its days
 --   block-start, block-turn         the loop over a block's days
 --   blocks-turn                     a whole block
-use mathlib.Core.Path.{_≡_, refl, sym, ap, ap₂, _∙_}
+use mathlib.Core.Path.{_≡_, sym, ap, ap₂, _∙_}
 use mathlib.Core.List.{List}
 use Prim.Native.Nat.{ℕ, zero, suc, _+_, _-_, _≤_, _<_}
 use native.Mathlib.Nat.{le-trans, le-of-eq}

@@ -11,7 +11,7 @@ ghost use Rattle.float32.specs.Numbers.{0ᶠ};
 ghost use Rattle.days.specs.Counts.{saturatingSuc, learnedAt, reviewedAt, addLearn, addReview, addIntroduced};
 ghost use Rattle.days.specs.Counts.{addIntroducedFrom, addEvent};
 ghost use Rattle.days.specs.Sums.{costAt, addCost};
-ghost use Rattle.days.specs.Due.{addOneAt, addDue, moveDue, noneDue};
+ghost use Rattle.days.specs.Due.{addDue, moveDue, noneDue};
 
 pub fn saturating_suc(n: u32) -> u32
     ensures { λ r. ⌜ r ≡ saturatingSuc n ⌝ }

@@ -7,7 +7,7 @@ use Prim.Native.Nat.{_*_, _^_, _≤_}
 use lib.Dec.{lit≤}
 use lib.ListN.{replicate}
 use lib.Ieee.{Float, inf, ofBits, ofFields, toBits, round, sub, mul, div, neg, lt, isNan}
-use lib.Ieee.Positive.{num, den}
+use lib.Ieee.Positive.{den}
 use Rattle.float32.specs.Float32 as Float32
 use Rattle.elementary.specs.Exp.{expOf}
 use Rattle.elementary.specs.Ln.{lnOf}

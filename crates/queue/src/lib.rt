@@ -4,7 +4,7 @@
 ghost use mathlib.Core.Path.{_≡_};
 ghost use Prim.Native.Nat.{_+_, _-_, _*_, _^_, _<_, _≤_, min};
 ghost use lib.ListN.{set, length};
-ghost use Rattle.queue.specs.Queue.{keyAt, bubbleUp, sink, heapify, lesser, queue, front, pushed, popped};
+ghost use Rattle.queue.specs.Queue.{bubbleUp, sink, heapify, lesser, queue, front, pushed, popped};
 ghost use Rattle.queue.specs.Queue.{frontChanged};
 ghost use Rattle.turns.specs.Sums.{bit};
 ghost use Rattle.queue.specs.Key.{shifted, cardPriority};

@@ -2,34 +2,25 @@
 -- host may make the runs of a trial in lists of their own.
 --   target-first   a target reads the first places only
 --   run-apart      a run in other lists
-use mathlib.Core.Path.{_≡_, refl, sym, ap, _∙_, subst}
-use mathlib.Core.Bool.{Bool, true, false, not, _&&_, _||_}
+use mathlib.Core.Path.{_≡_, refl, sym, ap, _∙_}
 use mathlib.Core.List.{List}
 use mathlib.Core.Option.{Option, none, some}
 use Prim.Native.Nat.{ℕ, zero, suc, _+_, _-_, _≤_, _<_}
 use native.Mathlib.Omega.{arith}
-use borrow.Author.Tests.{eqb-false}
-use lib.Dec.{T, eqb, ltb}
-use lib.ListN.{length, getD, take}
+use lib.Dec.{T}
+use lib.ListN.{take}
 use lib.Seq.{getD-take}
 use lib.Ieee.{Float, nan}
-use Rattle.float32.specs.Float32.{isFinite}
-use Rattle.float32.specs.Ops.{_+ᶠ_, _/ᶠ_}
-use Rattle.turns.proofs.Logic.{not-one, neither, not-false}
 use Rattle.draws.specs.Draws.{splitMix}
-use Rattle.cards.specs.Config.{configOk}
 use Rattle.simulation.specs.declared.Refusal.{Refusal}
-use Rattle.simulation.specs.declared.Check.{Check}
 use Rattle.simulation.specs.declared.Check.the-variants as check
-use Rattle.simulation.specs.declared.Answer.{Answer}
-use Rattle.simulation.specs.State.{State, Lent, state, listsOf, mostCards, mostDays}
-use Rattle.simulation.specs.Entry.{Inputs, firstWhere, notFinite, failIf, checkParameters, checkSettings, listsOk}
-use Rattle.simulation.specs.Entry.{checkedWith, checked}
+use Rattle.simulation.specs.State.{State, Lent, state, listsOf}
+use Rattle.simulation.specs.Entry.{Inputs}
 use Rattle.simulation.specs.Frame.{SameLengths}
 use Rattle.simulation.specs.Simulate.{simulated}
+use Rattle.simulation.proofs.Contract.{lists-and-span}
 use Rattle.simulation.proofs.Demands.{demands}
 use Rattle.brent.specs.Step.{within}
-use Rattle.retention.specs.declared.Trial.{Trial}
 use Rattle.retention.specs.Trials.{firstSeed, runInputs, total, target, refusalIn, sampledAs, runOf, trialOf}
 use Rattle.retention.specs.Retention.{checkedSearch}
 use Rattle.retention.proofs.Entry.{passes-again}
@@ -53,27 +44,7 @@ same-target span a b c d h p q =
     sym (target-first span a c h) ∙ ap (λ (z : List Float). target span z (take span c)) p
     ∙ ap (λ (z : List Float). target span (take span b) z) q ∙ target-first span b d h
 
--- ---- of a call that passes the entry
-passes : (b : Bool) (r : Refusal) (next : Check) → failIf b r next ≡ check.Passed → (b ≡ false) × (next ≡ check.Passed)
-passes true r next e = absurd (not-one cc)
-passes false r next e = (refl, e)
-
-lists-and-span : (ok : Bool) (i : Inputs) (s : State Float) → checkedWith ok i s ≡ check.Passed
-    → (listsOk i s ≡ true) × (0 < i .config .«learn_span»)
-unfolding checkSettings checkParameters
-lists-and-span ok i s e =
-    let w = i .parameters in
-    let g = i .config in
-    let p₁ = passes (ltb (length w) 34) _ _ e in
-    let p₂ = passes (ltb (firstWhere (notFinite w) 34 0) 34) _ _ (p₁ .1) in
-    let p₃ = passes (eqb (g .«deck_size») 0 || ltb mostCards (g .«deck_size»)) _ _ (p₂ .1) in
-    let p₄ = passes (eqb (g .«learn_span») 0 || ltb mostDays (g .«learn_span»)) _ _ (p₃ .1) in
-    let p₅ = passes (not (configOk g && ok)) _ _ (p₄ .1) in
-    let p₆ = passes (not (listsOk i s)) _ _ (p₅ .1) in
-    let some-days = eqb-false (g .«learn_span») 0
-    (neither (eqb (g .«learn_span») 0) (ltb mostDays (g .«learn_span»)) (p₄ .0) .0) in
-    (not-false (listsOk i s) (p₆ .0), omega (arith, some-days))
-
+-- ---- a run in other lists
 -- what a run says hangs on its refusal and its target alone
 same-said : (r r′ : Option Refusal) (x x′ : Float) (l l′ : Lent Float) → r′ ≡ r → x′ ≡ x
     → trialOf (sampledAs r′ x′ l′) ≡ trialOf (sampledAs r x l)
@@ -96,7 +67,7 @@ run-apart rounds i l l′ u n e h same w =
     let d = demands splitMix j s in
     let d′ = demands splitMix j s′ in
     let span = i .config .«learn_span» in
-    let both = lists-and-span (isFinite u) j s′ pass′ in
+    let both = lists-and-span j s′ pass′ in
     let run = d .same-run s′ pass (both .0) (h .keys) in
     let places = run .places-are in
     same-said (refusalIn (simulated j s .answer)) (refusalIn (simulated j s′ .answer)) _ _ _ _

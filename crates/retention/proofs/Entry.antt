@@ -2,20 +2,16 @@
 --   entry-is, search-refused, search-passed   the contract of a call
 --   rounds-few                      the rounds of a call that passes
 --   passes-again                    the entry's tests look only at the lists' lengths
---   trials-lawful                   every trial keeps the lengths, and is refused by 7 or 8 or not at all
-use mathlib.Core.Path.{_≡_, refl, sym, ap, _∙_}
-use mathlib.Core.Bool.{Bool, true}
+--   Keeps, trials-lawful            what every trial keeps, and that it is refused by 7 or 8 or not at all
+use mathlib.Core.Path.{_≡_, refl, sym, ap, _∙_, subst}
+use mathlib.Core.Bool.{Bool}
 use mathlib.Core.Logic.{_⊎_}
-use mathlib.Core.List.{List}
 use mathlib.Core.Option.{Option, none, some}
 use Prim.Native.Nat.{ℕ, zero, suc, _+_, _≤_}
-use native.Mathlib.Omega.{arith}
 use borrow.Author.Tests.{leb-true}
 use lib.Dec.{T, leb}
-use lib.ListN.{length}
 use lib.Ieee.{Float, neg}
 use Rattle.float32.specs.Numbers.{0ᶠ}
-use Rattle.float32.specs.Float32.{isFinite}
 use Rattle.float32.specs.Ops.{_+ᶠ_}
 use Rattle.turns.proofs.Logic.{both}
 use Rattle.draws.specs.Draws.{splitMix}
@@ -25,23 +21,25 @@ use Rattle.simulation.specs.declared.Check.the-variants as check
 use Rattle.simulation.specs.declared.Answer.{Answer}
 use Rattle.simulation.specs.declared.Progress.{Progress}
 use Rattle.simulation.specs.declared.Answer.the-variants as answer
-use Rattle.simulation.specs.State.{State, Lent, state, listsOf}
-use Rattle.simulation.specs.Entry.{Inputs, inputs, lengthsOk, listsOk, checkSettings, checkedWith, checked}
+use Rattle.simulation.specs.State.{Lent, state, listsOf}
+use Rattle.simulation.specs.Entry.{Inputs, inputs, lengthsOk, checkSettings, checkedWith, checked}
 use Rattle.simulation.specs.Refusals.{numberOf}
-use Rattle.simulation.specs.Frame.{SameLengths}
-use Rattle.simulation.specs.Simulate.{Result, simulated}
+use Rattle.simulation.specs.Frame.{beyond, SameLengths}
+use Rattle.simulation.specs.Simulate.{rulesFor, simulated}
+use Rattle.simulation.specs.Demands.{endOf}
 use Rattle.simulation.proofs.Demands.{demands}
 use Rattle.simulation.proofs.Contract.{same-tests, setting-ok}
 use Rattle.brent.specs.Step.{within}
-use Rattle.brent.specs.Search.{Sampled, gives, refuses, refused, ended, search, Lawful}
+use Rattle.brent.specs.Search.{Sampled, gives, refuses, ended, search, Lawful}
 use Rattle.brent.proofs.Range.{within-finite}
 use Rattle.retention.specs.declared.SearchAnswer.{SearchAnswer}
 use Rattle.retention.specs.declared.SearchAnswer.the-variants as said
 use Rattle.retention.specs.SampleSize.{sampleSize}
-use Rattle.retention.specs.Trials.{firstSeed, runInputs, target, refusalIn, sampledAs, runOf, andThen, runsFrom}
+use Rattle.retention.specs.Trials.{firstSeed, runInputs, refusalIn, sampledAs, runOf, andThen, runsFrom}
 use Rattle.retention.specs.Trials.{meanOf}
 use Rattle.retention.specs.Trials.{sample}
 use Rattle.retention.specs.Retention.{mostRounds, roundsOk, checkedSearch, optimalRetention, IsSearched}
+use Rattle.retention.specs.Laws.{beyondRuns}
 
 -- ---- the contract of a call
 module _ (i : Inputs) (rounds : ℕ) (l : Lent Float) where
@@ -83,7 +81,7 @@ passes-again rounds i l l′ u n e h w =
     ap (λ (b : Bool). checkedWith b (runInputs i u n) (state l′ 0 (firstSeed + n))) (within-finite u w ∙ sym ok)
     ∙ same-lengths (roundsOk rounds) i (runInputs i u n) 0 0 (i .seed) (firstSeed + n) l l′ refl refl refl refl h ∙ e
 
--- ---- a trial keeps the lengths, and is refused by 7 or 8 or not at all
+-- ---- what a trial keeps, and that it is refused by 7 or 8 or not at all
 abbrev pub SevenOrEight : Refusal → Type 0
 SevenOrEight r = (numberOf r ≡ 7) ⊎ (numberOf r ≡ 8)
 
@@ -100,47 +98,57 @@ longer p q = record {
   intervals = q .intervals ∙ p .intervals;
 }
 
-module _ (rounds : ℕ) (i : Inputs) (l : Lent Float) (e : checkedSearch rounds i l ≡ check.Passed) where
-  abbrev Keeps : Sampled (Lent Float) Refusal → Type 0
-  Keeps = Lawful (SameLengths l) SevenOrEight
+-- the lists' lengths, and the places behind those that a run needs
+pub record Keeps (i : Inputs) (l l′ : Lent Float) : Type 0 where
+  pub lengths : SameLengths l l′
+  pub behind : beyondRuns i l′ ≡ beyondRuns i l
 
-  run-lawful : (u : Float) (n : ℕ) (l′ : Lent Float) → SameLengths l l′ → T (within u) → Keeps (runOf i u n l′)
+module _ (rounds : ℕ) (i : Inputs) (l : Lent Float) (e : checkedSearch rounds i l ≡ check.Passed) where
+  abbrev Lawfully : Sampled (Lent Float) Refusal → Type 0
+  Lawfully = Lawful (Keeps i l) SevenOrEight
+
+  run-lawful : (u : Float) (n : ℕ) (l′ : Lent Float) → Keeps i l l′ → T (within u) → Lawfully (runOf i u n l′)
   unfolding runOf
   run-lawful u n l′ h w =
       let j = runInputs i u n in
       let s = state l′ 0 (firstSeed + n) in
-      let pass = passes-again rounds i l l′ u n e h w in
+      let pass = passes-again rounds i l l′ u n e (h .lengths) w in
       let d = demands splitMix j s in
       let same : SameLengths l′ (listsOf (simulated j s .state)) = rw (d .run-leaves pass) (d .lengths-same pass) in
-      go (simulated j s .answer) _ (listsOf (simulated j s .state)) (λ r p q. d .run-refusal pass r p q) (longer h same)
+      let far : beyondRuns i (listsOf (simulated j s .state)) ≡ beyondRuns i l′ =
+      rw (d .run-leaves pass)
+      (subst (λ (c : ℕ). beyond c (i .config .«learn_span») (endOf (rulesFor j) j s)
+      ≡ beyond c (i .config .«learn_span») s) (d .cards-are pass) (d .beyond-same pass)) in
+      go (simulated j s .answer) _ (listsOf (simulated j s .state)) (λ r p q. d .run-refusal pass r p q)
+      (record { lengths = longer (h .lengths) same; behind = far ∙ h .behind })
     where
       go : (a : Option Answer) (x : Float) (after : Lent Float)
-          → ((r : Refusal) (p : Progress) → a ≡ some (answer.Refused r p) → SevenOrEight r) → SameLengths l after
-          → Keeps (sampledAs (refusalIn a) x after)
+          → ((r : Refusal) (p : Progress) → a ≡ some (answer.Refused r p) → SevenOrEight r) → Keeps i l after
+          → Lawfully (sampledAs (refusalIn a) x after)
       go none x after f k = k
       go (some (answer.Finished p)) x after f k = k
-      go (some (answer.Refused r p)) x after f k = f r p refl
+      go (some (answer.Refused r p)) x after f k = (k, f r p refl)
 
-  runs-lawful : (u : Float) (m n : ℕ) (sum : Float) (l′ : Lent Float) → SameLengths l l′ → T (within u)
-      → Keeps (runsFrom i u m n sum l′)
+  runs-lawful : (u : Float) (m n : ℕ) (sum : Float) (l′ : Lent Float) → Keeps i l l′ → T (within u)
+      → Lawfully (runsFrom i u m n sum l′)
   unfolding runsFrom
   runs-lawful u zero n sum l′ h w = h
   runs-lawful u (suc m) n sum l′ h w =
       go (runOf i u n l′) (run-lawful u n l′ h w) (λ after x k. runs-lawful u m (n + 1) (sum +ᶠ x) after k w)
     where
-      go : (y : Sampled (Lent Float) Refusal) → Keeps y
-          → ((after : Lent Float) (x : Float) → SameLengths l after → Keeps (runsFrom i u m (n + 1) (sum +ᶠ x) after))
-          → Keeps (andThen y (λ after x. runsFrom i u m (n + 1) (sum +ᶠ x) after))
+      go : (y : Sampled (Lent Float) Refusal) → Lawfully y
+          → ((after : Lent Float) (x : Float) → Keeps i l after → Lawfully (runsFrom i u m (n + 1) (sum +ᶠ x) after))
+          → Lawfully (andThen y (λ after x. runsFrom i u m (n + 1) (sum +ᶠ x) after))
       go (gives after x) k f = f after x k
       go (refuses after r) k f = k
 
-  pub trials-lawful : (l′ : Lent Float) (u : Float) → SameLengths l l′ → T (within u) → Keeps (sample i l′ u)
+  pub trials-lawful : (l′ : Lent Float) (u : Float) → Keeps i l l′ → T (within u) → Lawfully (sample i l′ u)
   unfolding sample
   trials-lawful l′ u h w =
       let n = sampleSize (i .config .«learn_span») in
       go n (runsFrom i u n 0 (neg 0ᶠ) l′) (runs-lawful u n 0 (neg 0ᶠ) l′ h w)
     where
-      go : (n : ℕ) (y : Sampled (Lent Float) Refusal) → Keeps y
-          → Keeps (andThen y (λ after sum. gives after (meanOf n sum)))
+      go : (n : ℕ) (y : Sampled (Lent Float) Refusal) → Lawfully y
+          → Lawfully (andThen y (λ after sum. gives after (meanOf n sum)))
       go n (gives after x) k = k
       go n (refuses after r) k = k

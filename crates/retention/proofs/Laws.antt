@@ -2,7 +2,7 @@
 -- entry.
 use Prim.Native.Nat.{ℕ, _≤_, _<_}
 use native.Mathlib.Omega.{arith}
-use mathlib.Core.Logic.{_⊎_, inl, inr}
+use mathlib.Core.Logic.{inl, inr}
 use mathlib.Core.Path.{_≡_, refl, sym, ap, _∙_}
 use mathlib.Core.Bool.{false}
 use lib.Dec.{T}
@@ -21,13 +21,13 @@ use Rattle.brent.specs.Step.{within}
 use Rattle.brent.proofs.Driven.{driven-is}
 use Rattle.brent.proofs.Laws as Method
 use Rattle.brent.proofs.Range as Range
-use Rattle.brent.proofs.Asked.{refused-by}
+use Rattle.brent.proofs.Asked.{left-as}
 use Rattle.retention.specs.declared.SearchAnswer.{SearchAnswer}
 use Rattle.retention.specs.Trials.{sample}
 use Rattle.retention.specs.Retention.{checkedSearch, optimalRetention, answerOf, numberOf, IsSearched}
 use Rattle.retention.specs.Retention.{SearchContract}
 use Rattle.retention.specs.Laws.{SearchLaws}
-use Rattle.retention.proofs.Entry.{SevenOrEight, trials-lawful}
+use Rattle.retention.proofs.Entry.{SevenOrEight, Keeps, trials-lawful}
 use Rattle.retention.proofs.Apart.{run-apart}
 
 all-alike : (l : Lent Float) → SameLengths l l
@@ -71,11 +71,13 @@ module _ (i : Inputs) (rounds : ℕ) (l : Lent Float) where
       go (check.Failed r) e = rw (refused-is r e) (f r)
       go check.Passed e = rw (passed-is e) p
 
-  run-refusal : checkedSearch rounds i l ≡ check.Passed → RefusedBy SevenOrEight (result .answer)
-  run-refusal e =
+  -- of an accepted search: what its trials keep holds in the end, and it is refused only as they are
+  passed-so : checkedSearch rounds i l ≡ check.Passed
+      → Keeps i l (result .left) × RefusedBy SevenOrEight (result .answer)
+  passed-so e =
       rw (passed-is e)
-      (refused-by (sample i) (SameLengths l) SevenOrEight (λ w u h t. trials-lawful rounds i l e w u h t) rounds l
-      (all-alike l))
+      (left-as (sample i) (Keeps i l) SevenOrEight (λ w u h t. trials-lawful rounds i l e w u h t) rounds l
+      (record { lengths = all-alike l; behind = refl }))
 
   untouched : 0 < numberOf (answerOf (result .answer)) → numberOf (answerOf (result .answer)) ≤ 6 → result .left ≡ l
   unfolding ended
@@ -83,15 +85,17 @@ module _ (i : Inputs) (rounds : ℕ) (l : Lent Float) where
     where
       go : (c : Check) → checkedSearch rounds i l ≡ c → result .left ≡ l
       go (check.Failed r) e = ap (λ (x : Searched (Lent Float) Refusal). x .left) (refused-is r e)
-      go check.Passed e = absurd (run-number (result .answer) (run-refusal e) p q)
+      go check.Passed e = absurd (run-number (result .answer) (passed-so e .1) p q)
 
   -- ALL OF THEM
   pub search-laws : SearchLaws i rounds l
   unfolding ended
   search-laws = record {
     entry-refusal = refused-is;
-    run-refusal = run-refusal;
+    run-refusal = λ e. passed-so e .1;
     untouched = untouched;
+    lengths-same = λ e. passed-so e .0 .lengths;
+    beyond-same = λ e. passed-so e .0 .behind;
     trials-within = by-entry (λ x. Each (λ t. T (within (t .retention))) (x .trials))
         (λ r. tt) (Range.trials-within (sample i) rounds l);
     found-within = by-entry (λ x. FoundWithin (x .answer))

@@ -3,7 +3,7 @@
 --   trying-start, trying-on            as the loop begins, and after a trial
 --   trying-ends, trying-stops, trying-spent   where it returns
 use mathlib.Core.Path.{_≡_, refl, sym, ap, _∙_}
-use mathlib.Core.List.{List, [], _∷_}
+use mathlib.Core.List.{[], _∷_}
 use Prim.Native.Nat.{ℕ, suc, _+_, _-_, _≤_, _<_}
 use native.Mathlib.Omega.{arith}
 use types.Run.{OneOf}

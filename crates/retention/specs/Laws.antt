@@ -1,5 +1,7 @@
--- WHAT IS CLAIMED OF EVERY SEARCH beside its contract, whatever the runs give: `SearchLaws`. Definitions only.
-use Prim.Native.Nat.{ℕ, _≤_, _<_}
+-- WHAT IS CLAIMED OF EVERY SEARCH beside its contract, whatever the runs give. Definitions only.
+--   runCards i, beyondRuns i l   the cards of each run, and the places behind those that the runs need
+--   SearchLaws                   the claims
+use Prim.Native.Nat.{ℕ, _+_, _≤_, _<_}
 use mathlib.Core.Bool.{false}
 use mathlib.Core.Logic.{_⊎_}
 use mathlib.Core.Path.{_≡_}
@@ -8,16 +10,24 @@ use lib.ListN.{length}
 use lib.Ieee.{Float, isNan}
 use Rattle.simulation.specs.declared.Refusal.{Refusal}
 use Rattle.simulation.specs.declared.Check.the-variants as check
-use Rattle.simulation.specs.State.{Lent}
+use Rattle.simulation.specs.State.{Lent, state}
 use Rattle.simulation.specs.Entry.{Inputs}
 use Rattle.simulation.specs.Refusals as Refusals
 use Rattle.brent.specs.Step.{within}
 use Rattle.brent.specs.Search.{refused, ended, Each, NotBelow, WasTried, FoundWithin, OneMore, OnlySpent, NeverTen}
 use Rattle.brent.specs.Search.{RefusedBy}
 use Rattle.brent.specs.Stepping.{started, driven}
-use Rattle.simulation.specs.Frame.{SameLengths}
+use Rattle.simulation.specs.SetUp.{keptCards, newCardCount}
+use Rattle.simulation.specs.Frame.{beyond, SameLengths}
 use Rattle.retention.specs.Trials.{runOf, trialOf, sample}
 use Rattle.retention.specs.Retention.{checkedSearch, optimalRetention, answerOf, numberOf}
+
+-- every run of a search has the same cards: the existing ones that are kept, and those created
+abbrev pub runCards : Inputs → ℕ
+runCards i = keptCards i + newCardCount (i .config) (keptCards i)
+
+abbrev pub beyondRuns : Inputs → Lent Float → Lent Float
+beyondRuns i l = beyond (runCards i) (i .config .«learn_span») (state l 0 0)
 
 pub record SearchLaws (i : Inputs) (rounds : ℕ) (l : Lent Float) : Type 0 where
   -- an entry refusal, exactly by the table, makes no trial and writes nothing
@@ -30,6 +40,10 @@ pub record SearchLaws (i : Inputs) (rounds : ℕ) (l : Lent Float) : Type 0 wher
   -- so a search that answers 1 to 6 left every list as it was
   pub untouched : (let number = numberOf (answerOf (optimalRetention i rounds l .answer)) in
       0 < number → number ≤ 6 → optimalRetention i rounds l .left ≡ l)
+  -- every list keeps its length, and the places behind those that the runs need are as they were lent
+  pub lengths-same : checkedSearch rounds i l ≡ check.Passed → SameLengths l (optimalRetention i rounds l .left)
+  pub beyond-same : checkedSearch rounds i l ≡ check.Passed
+      → beyondRuns i (optimalRetention i rounds l .left) ≡ beyondRuns i l
   -- every retention that was tried lies within 0.70 to 0.95, and so does the one found
   pub trials-within : Each (λ t. T (within (t .retention))) (optimalRetention i rounds l .trials)
   pub found-within : FoundWithin (optimalRetention i rounds l .answer)

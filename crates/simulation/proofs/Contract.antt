@@ -3,10 +3,11 @@
 --   same-tests, same-check    the entry's tests do not look at the retention's value, the seed or the draws
 --   refused-is, accepted-is   the contract of a call that is refused at its entry, and of one that is accepted
 --   setting-ok                a call that passes has passed the test of its own setting
+--   lists-and-span            and a run that passes has lists that are long enough, and a day or more
 use mathlib.Core.Path.{_≡_, refl, sym, ap, _∙_, subst}
 use mathlib.Core.Option.{some}
-use mathlib.Core.Bool.{Bool, true, not, _&&_, _||_}
-use lib.Dec.{eqb, ltb}
+use mathlib.Core.Bool.{Bool, true}
+use Prim.Native.Nat.{_<_}
 use lib.ListN.{length}
 use lib.Ieee.{Float}
 use Rattle.float32.specs.Numbers.{0ᶠ}
@@ -23,18 +24,16 @@ use Rattle.simulation.specs.declared.Answer.{Answer}
 use Rattle.simulation.specs.declared.Answer.the-variants as answer
 use Rattle.simulation.specs.State.{State, Lent, listsOf, withDraws}
 use Rattle.simulation.specs.Rules.{rulesOf}
-use Rattle.simulation.specs.Entry.{Inputs, inputs, firstWhere, notFinite, checkParameters}
-use Rattle.simulation.specs.Entry.{checkSettings, checkedWith, checked}
-use Rattle.cards.specs.Config.{configOk}
+use Rattle.simulation.specs.Entry.{Inputs, inputs, listsOk, checkedWith, checked}
 use Rattle.simulation.specs.Simulate.{progress, rulesFor, resultFrom, simulatedBy, simulated, IsResult}
 use Rattle.simulation.specs.Steps.{InnerContract}
 use Rattle.simulation.specs.Demands.{startOf, RunContract}
-use Rattle.simulation.proofs.entry.Accepted.{passes, accepted}
-pub use Rattle.simulation.proofs.entry.Settings.{settings-pass, settings-fail, settings-passed}
+use Rattle.simulation.proofs.entry.Accepted.{accepted}
+pub use Rattle.simulation.proofs.entry.Settings.{SettingsOk, settings-pass, settings-fail, settings-passed}
 use Rattle.simulation.proofs.run.Suits.{suits}
 use Rattle.simulation.proofs.run.DemandThree.{has-stopped, stops-so}
 use Rattle.simulation.proofs.run.Answers.{ok-demand}
-use Rattle.turns.proofs.Logic.{not-one, both, not-false}
+use Rattle.turns.proofs.Logic.{not-one}
 
 not-finished : (r : Refusal) (p q : Progress) → answer.Refused r p ≡ answer.Finished q → ⊥
 not-finished r p q e = not-one cc
@@ -84,13 +83,10 @@ module _ (i : Inputs) (s : State Float) where
 
 -- a call that passes has passed the test of its own setting
 pub setting-ok : {C : Type 0} (ok : Bool) (i : Inputs) (s : State C) → checkedWith ok i s ≡ check.Passed → ok ≡ true
-unfolding checkSettings checkParameters
 setting-ok ok i s e =
-    let w = i .parameters in
-    let g = i .config in
-    let p₁ = passes (ltb (length w) 34) _ _ e in
-    let p₂ = passes (ltb (firstWhere (notFinite w) 34 0) 34) _ _ (p₁ .1) in
-    let p₃ = passes (eqb (g .«deck_size») 0 || ltb 65536 (g .«deck_size»)) _ _ (p₂ .1) in
-    let p₄ = passes (eqb (g .«learn_span») 0 || ltb 36500 (g .«learn_span»)) _ _ (p₃ .1) in
-    let p₅ = passes (not (configOk g && ok)) _ _ (p₄ .1) in
-    both (configOk g) ok (not-false _ (p₅ .0)) .1
+    settings-passed ok (listsOk i s) (i .parameters) (i .config) (length (i .existing)) _ e .setting-ok
+
+-- a run that passes has lists that are long enough, and a day or more
+pub lists-and-span : {C : Type 0} (i : Inputs) (s : State C) → checked i s ≡ check.Passed
+    → (listsOk i s ≡ true) × (0 < i .config .«learn_span»)
+lists-and-span i s e = let ok = accepted i s e in (ok .lists-ok, ok .span-some)

@@ -5,7 +5,6 @@ use mathlib.Core.List.{List}
 use mathlib.Core.Option.{some}
 use mathlib.Core.Logic.{_↔_, _≢_, _⊎_, inl, inr}
 use Prim.Native.Nat.{ℕ}
-use lib.ListN.{length}
 use lib.Ieee.{Float}
 use Rattle.draws.specs.Draws.{DrawRule}
 use Rattle.model.specs.Runtime.{SameRead}
@@ -26,7 +25,7 @@ use Rattle.simulation.specs.Refusals.{numberOf}
 use Rattle.simulation.specs.SetUp.{emptyDeck, addAllCards, setUp}
 use Rattle.simulation.specs.RunRefusals.{StopCondition}
 use Rattle.simulation.specs.Simulate.{progress, answerOf, resultFrom, simulatedBy}
-use Rattle.simulation.specs.Demands.{Demands, UnreadParameters, startOf, cardsOf, endOf, turnsOf, progressOf}
+use Rattle.simulation.specs.Demands.{Demands, UnreadParameters, startOf, endOf, progressOf}
 use Rattle.simulation.proofs.entry.Accepted.{accepted}
 use Rattle.simulation.proofs.turn.Stops.{stops-iff}
 use Rattle.simulation.proofs.run.Suits.{suits}

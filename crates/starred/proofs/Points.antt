@@ -1,8 +1,7 @@
 -- THE STARRED POINTS hold.
-use mathlib.Core.Bool.{true, false}
 use mathlib.Core.Path.{_≡_, refl, ap}
 use Prim.Native.Nat.{ℕ, _+_}
-use lib.Ieee.{Float, nan, inf, fin, ofBits, ofFields, toBits, neg, binary32, ofInt, round, add, mul, sum, lt, isNan}
+use lib.Ieee.{ofBits, ofFields, neg, ofInt, round, mul, sum, lt, isNan}
 use lib.Ieee.{toSigned, toUnsigned}
 use Rattle.float32.specs.Float32 as Float32
 use Rattle.elementary.proofs.Points as elementary

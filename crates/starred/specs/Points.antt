@@ -1,10 +1,10 @@
 -- The starred points: what is computed, and what it must be. One row a point. Definitions only.
-use Prim.Native.Nat.{ℕ, _/_, _+_, _<_, _^_}
+use Prim.Native.Nat.{ℕ, _+_, _<_, _^_}
 use mathlib.Core.Bool.{true, false}
 use mathlib.Core.Path.{_≡_}
 use mathlib.Core.List.{List, [], _∷_}
-use lib.IntN.{ℤ, pos, negsuc}
-use lib.Ieee.{Float, nan, inf, ofBits, toBits, neg, binary32, ofInt}
+use lib.IntN.{pos, negsuc}
+use lib.Ieee.{Float, nan, inf, ofBits, binary32}
 use Rattle.float32.specs.Float32 as Float32
 use Rattle.elementary.specs.Exp.{expOf}
 use Rattle.elementary.specs.Pow.{powOf}

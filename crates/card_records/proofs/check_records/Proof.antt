@@ -35,9 +35,8 @@ cast-t14 : tie.Need-cast-t14
 cast-t14 c =
     let at-told = c .before in
     let at-settings = at-told .before .before in
-    let e = settings-passed _ _ _ _ _ _ (sym (at-settings .check-settings .ensures) ∙ at-told .enum-told .given .1) .1
-    in
-    omega (arith, e, c .if1 .taken)
+    let p = settings-passed _ _ _ _ _ _ (sym (at-settings .check-settings .ensures) ∙ at-told .enum-told .given .1) in
+    omega (arith, p .deck-most, p .existing-few, c .if1 .taken)
 
 returns-2 : tie.Need-returns-2
 returns-2 c =

@@ -5,7 +5,7 @@ use Prim.Native.Nat.{ℕ, _-_, _*_, _^_}
 use native.Mathlib.Nat.{zero-mul}
 use native.Mathlib.Omega.{arith}
 use borrow.Author.Needs.{needs}
-use lib.Ieee.{binary32, round, unlike}
+use lib.Ieee.{binary32, round}
 use Rattle.float32.proofs.Sums.{sum-like, sum-over, sum-under, sum-level, like-round, over-round, under-round}
 use Rattle.float32.proofs.Sums.{is-less, is-more, is-level, j-small}
 use Rattle.float32.proofs.add_ordered.Statement.{statement}

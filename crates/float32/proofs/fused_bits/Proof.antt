@@ -6,7 +6,6 @@ use native.Mathlib.Nat.{lt-of-lt-of-le}
 use lib.Dec.{lit≤}
 use borrow.Author.Needs.{needs}
 use lib.Ieee.{binary32}
-use Rattle.float32.specs.Encoding.{significand, exponent}
 use Rattle.float32.proofs.Decode.{significand-lt}
 use Rattle.float32.proofs.Product.{product-lt}
 use Rattle.float32.proofs.fused_bits.Statement.{statement}

@@ -3,7 +3,7 @@
 --   run-is                               one run
 --   going-start, going-on, going-stops, going-spent   the loop
 use mathlib.Core.Path.{_≡_, refl, sym, ap, _∙_}
-use mathlib.Core.List.{List, [], _∷_}
+use mathlib.Core.List.{[], _∷_}
 use mathlib.Core.Option.{some}
 use Prim.Native.Nat.{ℕ, suc, _+_, _-_, _≤_, _<_}
 use native.Mathlib.Omega.{arith}
@@ -25,7 +25,7 @@ use Rattle.retention.specs.declared.Trial.{Trial}
 use Rattle.retention.specs.declared.Trial.the-variants as trial
 use Rattle.retention.specs.SampleSize.{sampleSize}
 use Rattle.retention.specs.Trials.{firstSeed, runInputs, target, trialFrom, refusalIn, sampledAs, runOf, andThen}
-use Rattle.retention.specs.Trials.{runsFrom, meanOf, sample, trialOf, leftBy, TrialContract}
+use Rattle.retention.specs.Trials.{runsFrom, meanOf, sample, TrialContract}
 
 -- a run tells its target or its refusal
 tells : (a : Answer) (span : ℕ) (after : Lent Float) {x : Float} {r : Trial}

@@ -1,30 +1,28 @@
--- What a call that the entry accepts has.
-use mathlib.Core.Path.{_≡_, refl}
-use mathlib.Core.Bool.{Bool, true, false, not, _&&_, _||_, false≢true}
+-- What a call that the entry accepts has: `Accepted`, `accepted`.
+use mathlib.Core.Path.{_≡_}
+use mathlib.Core.Bool.{Bool, true, false, not, _&&_, false≢true}
 use Prim.Native.Nat.{ℕ, _≤_, _<_}
 use native.Mathlib.Omega.{arith}
-use borrow.Author.Tests.{eqb-true, eqb-false, leb-true, ltb-false}
+use borrow.Author.Tests.{eqb-true, leb-true, ltb-false}
 use lib.Dec.{eqb, leb, ltb}
 use lib.ListN.{length}
 use Rattle.float32.specs.Float32.{isFinite}
 use Rattle.cards.specs.Cards.{cardAt, isKept, cardOk}
 use Rattle.cards.specs.Config.{configOk}
 use Rattle.days.specs.Due.{dueDays}
-use Rattle.simulation.specs.declared.Refusal.{Refusal}
-use Rattle.simulation.specs.declared.Check.{Check}
 use Rattle.simulation.specs.declared.Check.the-variants as check
-use Rattle.simulation.specs.State.{State}
+use Rattle.simulation.specs.State.{State, mostCards, mostDays}
 use Rattle.simulation.proofs.entry.FirstWhere.{none-before}
-use Rattle.simulation.specs.Entry.{Inputs, firstWhere, notFinite, notOk, failIf, checkParameters, listsOk}
-use Rattle.simulation.specs.Entry.{lengthsOk, checkFirst, checkSettings, checked}
-use Rattle.turns.proofs.Logic.{not-one, both, neither, not-false}
+use Rattle.simulation.proofs.entry.Settings.{passes, settings-passed}
+use Rattle.simulation.specs.Entry.{Inputs, firstWhere, notOk, listsOk, lengthsOk, checkFirst, checked}
+use Rattle.turns.proofs.Logic.{both, not-false}
 
 pub record Accepted {C : Type 0} (i : Inputs) (s : State C) : Type 0 where
   pub parameters-long : 34 ≤ length (i .parameters)
   pub deck-some : 0 < i .config .«deck_size»
-  pub deck-most : i .config .«deck_size» ≤ 65536
+  pub deck-most : i .config .«deck_size» ≤ mostCards
   pub span-some : 0 < i .config .«learn_span»
-  pub span-most : i .config .«learn_span» ≤ 36500
+  pub span-most : i .config .«learn_span» ≤ mostDays
   pub config-ok : configOk (i .config) ≡ true
   pub retention-ok : isFinite (i .retention) ≡ true
   pub lists-ok : listsOk i s ≡ true
@@ -41,11 +39,6 @@ pub record Accepted {C : Type 0} (i : Inputs) (s : State C) : Type 0 where
   pub existing-few : length (i .existing) ≤ i .config .«deck_size»
   pub cards-ok : (j : ℕ) → j < length (i .existing) → isKept (cardAt (i .existing) (i .existing-counts) j) ≡ true
       → cardOk (cardAt (i .existing) (i .existing-counts) j) ≡ true
-
-pub passes : (b : Bool) (r : Refusal) (next : Check) → failIf b r next ≡ check.Passed
-    → (b ≡ false) × (next ≡ check.Passed)
-passes true r next e = absurd (not-one cc)
-passes false r next e = (refl, e)
 
 kept-ok : (a b : Bool) → (a && not b) ≡ false → a ≡ true → b ≡ true
 kept-ok true b e k = not-false b e
@@ -67,23 +60,13 @@ lists-test i s =
     && leb (dueDays span) (length (s .due)))))))))
 
 pub accepted : {C : Type 0} (i : Inputs) (s : State C) → checked i s ≡ check.Passed → Accepted i s
-unfolding checkSettings checkParameters checkFirst lengthsOk
+unfolding checkFirst lengthsOk
 accepted i s e =
-    let w = i .parameters in
     let g = i .config in
     let n = length (i .existing) in
-    let p₁ = passes (ltb (length w) 34) _ _ e in
-    let p₂ = passes (ltb (firstWhere (notFinite w) 34 0) 34) _ _ (p₁ .1) in
-    let p₃ = passes (eqb (g .«deck_size») 0 || ltb 65536 (g .«deck_size»)) _ _ (p₂ .1) in
-    let p₄ = passes (eqb (g .«learn_span») 0 || ltb 36500 (g .«learn_span»)) _ _ (p₃ .1) in
-    let p₅ = passes (not (configOk g && isFinite (i .retention))) _ _ (p₄ .1) in
-    let p₆ = passes (not (lists-test i s)) _ _ (p₅ .1) in
-    let p₇ = passes (ltb (g .«deck_size») n) _ _ (p₆ .1) in
-    let p₈ = passes (ltb (firstWhere (notOk (i .existing) (i .existing-counts)) n 0) n) _ _ (p₇ .1) in
-    let d = neither (eqb (g .«deck_size») 0) (ltb 65536 (g .«deck_size»)) (p₃ .0) in
-    let t = neither (eqb (g .«learn_span») 0) (ltb 36500 (g .«learn_span»)) (p₄ .0) in
-    let c = both (configOk g) (isFinite (i .retention)) (not-false _ (p₅ .0)) in
-    let l₁ = both (eqb n (length (i .existing-counts))) _ (not-false _ (p₆ .0)) in
+    let p = settings-passed (isFinite (i .retention)) (lists-test i s) (i .parameters) g n _ e in
+    let c = passes (ltb (firstWhere (notOk (i .existing) (i .existing-counts)) n 0) n) _ _ (p .next-passes) in
+    let l₁ = both (eqb n (length (i .existing-counts))) _ (p .lists-ok) in
     let l₂ = both (eqb (length (s .table .keys)) (length (s .table .intervals))) _ (l₁ .1) in
     let l₃ = both (eqb (length (s .cards)) (length (s .counts))) _ (l₂ .1) in
     let l₄ = both (leb (g .«deck_size») (length (s .cards))) _ (l₃ .1) in
@@ -92,17 +75,15 @@ accepted i s e =
     let l₇ = both (leb (g .«learn_span») (length (s .costs))) _ (l₆ .1) in
     let l₈ = both (leb (g .«learn_span») (length (s .memorized))) _ (l₇ .1) in
     let even = eqb-true (length (s .cards)) (length (s .counts)) (l₃ .0) in
-    let nd = eqb-false (g .«deck_size») 0 (d .0) in
-    let nt = eqb-false (g .«learn_span») 0 (t .0) in
     record {
-      parameters-long = ltb-false (length w) 34 (p₁ .0);
-      deck-some = omega (arith, nd);
-      deck-most = ltb-false 65536 (g .«deck_size») (d .1);
-      span-some = omega (arith, nt);
-      span-most = ltb-false 36500 (g .«learn_span») (t .1);
-      config-ok = c .0;
-      retention-ok = c .1;
-      lists-ok = not-false _ (p₆ .0);
+      parameters-long = p .parameters-long;
+      deck-some = p .deck-some;
+      deck-most = p .deck-most;
+      span-some = p .span-some;
+      span-most = p .span-most;
+      config-ok = p .config-ok;
+      retention-ok = p .setting-ok;
+      lists-ok = p .lists-ok;
       existing-even = eqb-true n (length (i .existing-counts)) (l₁ .0);
       table-even = eqb-true (length (s .table .keys)) (length (s .table .intervals)) (l₂ .0);
       cards-even = even;
@@ -113,10 +94,10 @@ accepted i s e =
       costs-long = leb-true (g .«learn_span») (length (s .costs)) (l₇ .0);
       due-long = leb-true (dueDays (g .«learn_span»)) (length (s .due)) (l₈ .1);
       memorized-long = leb-true (g .«learn_span») (length (s .memorized)) (l₈ .0);
-      existing-few = ltb-false (g .«deck_size») n (p₇ .0);
+      existing-few = p .existing-few;
       cards-ok = λ j l k. kept-ok (isKept (cardAt (i .existing) (i .existing-counts) j))
           (cardOk (cardAt (i .existing) (i .existing-counts) j))
           (none-before (notOk (i .existing) (i .existing-counts)) n 0 j
-          (let h = ltb-false (firstWhere (notOk (i .existing) (i .existing-counts)) n 0) n (p₈ .0) in omega
+          (let h = ltb-false (firstWhere (notOk (i .existing) (i .existing-counts)) n 0) n (c .0) in omega
           (arith, h)) (omega arith) (omega arith)) k;
     }

@@ -2,14 +2,15 @@
 --   PassesOn f        what f does with the tests that follow
 --   settings-on       the tests of the settings are so
 --   settings-pass, settings-fail   what passes with nothing behind it, and what fails
---   settings-passed   of tests that pass: the lists, the number of existing cards, and what follows
+--   passes            one test that passes
+--   SettingsOk, settings-passed   what tests that pass say
 --   lists-told        refusal 6 is about no list exactly where the lists pass
 use mathlib.Core.Path.{_≡_, refl, sym, _∙_}
 use mathlib.Core.Bool.{Bool, true, false, not, cond, _||_, _&&_}
 use mathlib.Core.List.{List, [], _∷_}
-use Prim.Native.Nat.{ℕ, suc, _≤_}
+use Prim.Native.Nat.{ℕ, suc, _≤_, _<_}
 use native.Mathlib.Omega.{arith}
-use borrow.Author.Tests.{ltb-false, ne-eqb}
+use borrow.Author.Tests.{eqb-false, ltb-false, ne-eqb}
 use types.Run.{OneOf}
 use denote.Enum.Declared.{tagOf}
 use lib.Dec.{eqb, leb, ltb}
@@ -27,8 +28,7 @@ use Rattle.simulation.specs.declared.Lengths.{Lengths}
 use Rattle.simulation.specs.State.{mostCards, mostDays}
 use Rattle.simulation.specs.Entry.{firstWhere, notFinite, failIf, checkParameters, lengthsOk}
 use Rattle.simulation.specs.Entry.{shortList, checkSettings}
-use Rattle.turns.proofs.Logic.{not-one, neither, not-false}
-use Rattle.simulation.proofs.entry.Accepted.{passes}
+use Rattle.turns.proofs.Logic.{not-one, both, neither, not-false}
 
 -- what a test, or a chain of tests, does with the tests that follow
 data PassesOn (f : Check → Check) : Type 0 where
@@ -51,6 +51,11 @@ passed-not r e = not-one cc
 not-passed : (c : Check) → OneOf (1 ∷ []) (tagOf check-type.the-type c) → c ≡ check.Passed → ⊥
 not-passed check.Passed t e = omega (arith, t)
 not-passed (check.Failed r) t e = passed-not r (sym e)
+
+pub passes : (b : Bool) (r : Refusal) (next : Check) → failIf b r next ≡ check.Passed
+    → (b ≡ false) × (next ≡ check.Passed)
+passes true r next e = absurd (not-one cc)
+passes false r next e = (refl, e)
 
 module _ (ok lists : Bool) (w : List Float) (g : SimulatorConfig) (n : ℕ) where
   settings-on : PassesOn (checkSettings ok lists w g n)
@@ -80,8 +85,20 @@ module _ (ok lists : Bool) (w : List Float) (g : SimulatorConfig) (n : ℕ) wher
       go (passing p) = absurd (not-passed c t (e ∙ p check.Passed))
       go (failing r p) = e ∙ p check.Passed ∙ sym (p next)
 
-  pub settings-passed : (next : Check) → checkSettings ok lists w g n next ≡ check.Passed
-      → (lists ≡ true) × (n ≤ mostCards) × (next ≡ check.Passed)
+  -- what the tests ask, one after the other, and that those which follow pass
+  pub record SettingsOk (next : Check) : Type 0 where
+    pub parameters-long : 34 ≤ length w
+    pub deck-some : 0 < g .«deck_size»
+    pub deck-most : g .«deck_size» ≤ mostCards
+    pub span-some : 0 < g .«learn_span»
+    pub span-most : g .«learn_span» ≤ mostDays
+    pub config-ok : configOk g ≡ true
+    pub setting-ok : ok ≡ true
+    pub lists-ok : lists ≡ true
+    pub existing-few : n ≤ g .«deck_size»
+    pub next-passes : next ≡ check.Passed
+
+  pub settings-passed : (next : Check) → checkSettings ok lists w g n next ≡ check.Passed → SettingsOk next
   unfolding checkSettings checkParameters
   settings-passed next e =
       let p₁ = passes (ltb (length w) 34) _ _ e in
@@ -91,8 +108,24 @@ module _ (ok lists : Bool) (w : List Float) (g : SimulatorConfig) (n : ℕ) wher
       let p₅ = passes (not (configOk g && ok)) _ _ (p₄ .1) in
       let p₆ = passes (not lists) _ _ (p₅ .1) in
       let p₇ = passes (ltb (g .«deck_size») n) _ _ (p₆ .1) in
-      let deck = ltb-false mostCards (g .«deck_size») (neither (eqb (g .«deck_size») 0) _ (p₃ .0) .1) in
-      (not-false lists (p₆ .0), omega (arith, deck, ltb-false (g .«deck_size») n (p₇ .0)), p₇ .1)
+      let deck = neither (eqb (g .«deck_size») 0) (ltb mostCards (g .«deck_size»)) (p₃ .0) in
+      let span = neither (eqb (g .«learn_span») 0) (ltb mostDays (g .«learn_span»)) (p₄ .0) in
+      let config = both (configOk g) ok (not-false _ (p₅ .0)) in
+      record {
+        parameters-long = ltb-false (length w) 34 (p₁ .0);
+        deck-some = positive (g .«deck_size») (deck .0);
+        deck-most = ltb-false mostCards (g .«deck_size») (deck .1);
+        span-some = positive (g .«learn_span») (span .0);
+        span-most = ltb-false mostDays (g .«learn_span») (span .1);
+        config-ok = config .0;
+        setting-ok = config .1;
+        lists-ok = not-false lists (p₆ .0);
+        existing-few = ltb-false (g .«deck_size») n (p₇ .0);
+        next-passes = p₇ .1;
+      }
+    where
+      positive : (m : ℕ) → eqb m 0 ≡ false → 0 < m
+      positive m h = omega (arith, eqb-false m 0 h)
 
 told : (b : Bool) (k : ℕ) {rest : Bool} (n : ℕ) → rest ≡ eqb n 0 → (b && rest) ≡ eqb (cond (not b) (suc k) n) 0
 told true k n e = e

@@ -5,7 +5,6 @@
 --   ok-demand              demand 3 of a run that ends Ok
 use mathlib.Core.Path.{_≡_, refl, sym, ap, _∙_}
 use mathlib.Core.Option.{Option, none, some}
-use lib.ListN.{length}
 use Rattle.turns.specs.Run.{stops}
 use Rattle.simulation.specs.declared.Refusal.{Refusal}
 use Rattle.simulation.specs.declared.Check.{Check}
@@ -20,7 +19,7 @@ use Rattle.simulation.specs.Rules.{Rules}
 use Rattle.simulation.specs.Turn.{next}
 use Rattle.simulation.specs.Entry.{Inputs, checked}
 use Rattle.simulation.specs.Simulate.{Result, progress, answerOf, answerIf, resultFrom, afterCheck, simulatedBy}
-use Rattle.simulation.specs.Demands.{startOf, cardsOf, endOf, turnsOf, progressOf, DemandThree}
+use Rattle.simulation.specs.Demands.{startOf, endOf, progressOf, DemandThree}
 use Rattle.simulation.proofs.entry.Accepted.{accepted}
 use Rattle.simulation.proofs.run.Suits.{Suits}
 use Rattle.simulation.proofs.run.DemandThree.{has-stopped, stops-so, daily-rules, rows-are}

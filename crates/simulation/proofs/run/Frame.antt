@@ -22,7 +22,6 @@ use Rattle.days.specs.Due.{dueDays}
 use Rattle.intervals.specs.Table.{Table, places}
 use Rattle.intervals.proofs.Laws.{same-clear, clear-places}
 use Rattle.events.specs.Drawn.{Drawn}
-use Rattle.queue.specs.Queue.{queue}
 use Rattle.simulation.specs.declared.Check.the-variants as check
 use Rattle.simulation.specs.declared.Stop.{Stop}
 use Rattle.simulation.specs.declared.Stop.the-variants as stop

@@ -34,7 +34,7 @@ use Rattle.cards.specs.Day.{dayOf, isNew}
 use Rattle.cards.specs.Cards.{cardAt, writeFloats, writeCounts, isKept, farthest, mostLapses, dateOk, historyOk, cardOk}
 use Rattle.cards.proofs.Later.{day-cut, whole-le}
 use Rattle.days.specs.Due.{dueDays}
-use Rattle.queue.specs.Queue.{queue, pushed}
+use Rattle.queue.specs.Queue.{pushed}
 use Rattle.queue.specs.Sound.{Keyed}
 use Rattle.queue.proofs.Laws.{Filled, fill-none, fill-same, fill-next}
 use Rattle.intervals.specs.Table.{Table, places, freeAt, clearIn}

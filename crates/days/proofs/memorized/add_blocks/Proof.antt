@@ -1,8 +1,8 @@
 -- The invariant of its loop: what is left to add, to what is memorized so far, gives the whole. The measure is the days
 -- left.
 use native.Mathlib.Omega.{arith}
-use mathlib.Core.Path.{_≡_, refl, ap, _∙_}
-use Prim.Native.Nat.{_-_, _≤_}
+use mathlib.Core.Path.{_≡_, refl}
+use Prim.Native.Nat.{_-_}
 use lib.ListN.{length}
 use Rattle.model.specs.Model.{retention}
 use Rattle.days.specs.Sums.{addForgettingCurveRange}

@@ -4,7 +4,6 @@ use mathlib.Core.Path.{_≡_, refl}
 use Prim.Native.Nat.{_+_, _-_, _≤_}
 use lib.Dec.{le→leb}
 use lib.IntN.{pos}
-use lib.ListN.{getD}
 use lib.Ieee.{binary32, sub, ofInt, inFloat}
 use Rattle.elementary.specs.Filled.{filled}
 use Rattle.elementary.proofs.Filled.{fill-turn, fill-end}

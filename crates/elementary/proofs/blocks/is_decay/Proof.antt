@@ -1,5 +1,5 @@
 use native.Mathlib.Omega.{arith}
-use mathlib.Core.Path.{_≡_, sym, subst}
+use mathlib.Core.Path.{sym, subst}
 use mathlib.Core.Bool.{true≢false}
 use lib.Dec.{T, ltb→lt}
 use Rattle.elementary.proofs.Common.{equals-itself}

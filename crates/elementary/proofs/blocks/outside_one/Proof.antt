@@ -1,6 +1,5 @@
 use native.Mathlib.Omega.{arith}
-use mathlib.Core.Path.{_≡_, sym, subst}
-use Prim.Native.Nat.{_%_}
+use mathlib.Core.Path.{sym, subst}
 use lib.Dec.{T}
 use Rattle.elementary.proofs.Common.{equals-itself}
 use borrow.Author.Needs.{needs}

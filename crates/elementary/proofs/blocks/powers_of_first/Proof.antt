@@ -1,5 +1,3 @@
-use mathlib.Core.Path.{_≡_, sym, subst}
-use lib.Dec.{T, eqb→eq}
 use borrow.Author.Needs.{needs}
 use Rattle.elementary.proofs.blocks.powers_of_first.Statement.{statement}
 use Rattle.elementary.proofs.blocks.powers_of_first.Tie as tie

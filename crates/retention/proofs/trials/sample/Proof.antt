@@ -3,8 +3,6 @@
 use Prim.Native.Nat.{_-_}
 use native.Mathlib.Omega.{arith}
 use mathlib.Core.Path.{refl, ap, _∙_}
-use lib.IntN.{pos}
-use lib.Ieee.{binary32, ofInt}
 use Rattle.simulation.specs.State.{lent}
 use Rattle.simulation.specs.Frame.{SameLengths}
 use Rattle.float32.specs.Ops.{_/ᶠ_}

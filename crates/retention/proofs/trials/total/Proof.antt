@@ -1,5 +1,5 @@
 -- The invariant of its loop: the sum is that of the first i numbers. The measure is n less i.
-use Prim.Native.Nat.{ℕ, suc, _+_, _-_, _≤_}
+use Prim.Native.Nat.{ℕ, _-_, _≤_}
 use native.Mathlib.Omega.{arith}
 use mathlib.Core.Path.{_≡_, refl, ap, _∙_}
 use Rattle.retention.specs.Trials.{total}

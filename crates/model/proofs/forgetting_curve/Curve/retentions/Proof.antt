@@ -1,5 +1,5 @@
-use mathlib.Core.Path.{_≡_, ap, _∙_}
-use Prim.Native.Nat.{ℕ, _≤_, min}
+use mathlib.Core.Path.{ap, _∙_}
+use Prim.Native.Nat.{ℕ, min}
 use native.Mathlib.Nat.{min-eq-left}
 use lib.ListN.{getD}
 use lib.Ieee.{nan}
