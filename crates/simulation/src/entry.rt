@@ -15,12 +15,10 @@ ghost use Rattle.simulation.specs.Entry.{inputs, firstWhere, notFinite, 
 ghost use Rattle.simulation.specs.Entry.{checkParameters, lengthsOk, shortList, checkFirst};
 ghost use Rattle.simulation.specs.Entry.{checkSettings, checkEntry};
 
-// The largest deck, the longest span, and how many parameters FSRS-7 has.
+// The largest deck and the longest span.
 const MOST_CARDS: u32 = 65536;
 
 const MOST_DAYS: u32 = 36500;
-
-const PARAMETERS: u32 = 34;
 
 fn parameter(w: &[f32], i: u32) -> f32
     ensures { λ r. ⌜ r ≡ getD (now (w .entry)) i nan ⌝ }
@@ -49,16 +47,13 @@ fn fail_if(test: bool, refusal: Refusal, next: Check) -> Check
     if test { Check::Failed(refusal) } else { next }
 }
 
+// FSRS-7 has 34 parameters.
 fn check_parameters(w: &[f32], next: Check) -> Check
     ensures { λ r. ⌜ r ≡ checkParameters (now (w .entry)) next ⌝ }
 {
-    let i = first_not_finite(w, PARAMETERS);
-    let finite = fail_if(i < PARAMETERS, Refusal::Parameters(i), next);
-    fail_if(
-        w.len() < PARAMETERS as usize,
-        Refusal::Parameters(PARAMETERS),
-        finite,
-    )
+    let i = first_not_finite(w, 34);
+    let finite = fail_if(i < 34, Refusal::Parameters(i), next);
+    fail_if(w.len() < 34, Refusal::Parameters(34), finite)
 }
 
 // Whether refusal 5 turns a card away: it is kept and not as it must be.

@@ -2,7 +2,7 @@
 
 /// `struct drill_brent`.
 #[repr(C)]
-#[derive(Clone, Copy)]
+#[derive(Clone, Copy, Debug)]
 pub struct Brent {
     pub a: f32,
     pub b: f32,

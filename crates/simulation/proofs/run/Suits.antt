@@ -1,6 +1,6 @@
 -- What demand 3 asks of a run's rules (`Suits`), and that the rules of an accepted call have it, whatever is drawn
 -- (`suits`): a scheduled interval is 1 to 36,500.
-use mathlib.Core.Path.{_≡_, subst}
+use mathlib.Core.Path.{_≡_, refl, subst}
 use mathlib.Core.Bool.{Bool, true, not, _&&_}
 use lib.Dec.{T}
 use lib.Ieee.{Float, ofBits, ofFields, ofInt, round, le, isNan}

@@ -29,8 +29,8 @@ returns c =
 cast-check-cards : tie.Need-cast-check-cards
 cast-check-cards c =
     let at-settings = c .before .before in
-    let few = settings-passed _ _ _ _ _ _ (sym (at-settings .check-settings .ensures) ∙ c .enum-told .given .1) in
-    omega (arith, few .1)
+    let p = settings-passed _ _ _ _ _ _ (sym (at-settings .check-settings .ensures) ∙ c .enum-told .given .1) in
+    omega (arith, p .deck-most, p .existing-few)
 
 check-cards-requires : tie.Need-check-cards-requires
 check-cards-requires c κs = search needs
