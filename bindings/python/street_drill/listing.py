@@ -18,7 +18,8 @@ _DAY = re.compile(
 
 
 def _float(bits: str) -> float:
-    return struct.unpack(">f", bytes.fromhex(bits))[0]
+    value: float = struct.unpack(">f", bytes.fromhex(bits))[0]
+    return value
 
 
 def _span(path: str, line: str) -> int:

@@ -9,7 +9,7 @@ import math
 from collections.abc import Iterable, Iterator, Sequence
 from dataclasses import dataclass
 
-from .course import Course, opening
+from .course import Course, line, opening
 
 TITLES = {
     "cost": "Time a day",
@@ -137,16 +137,17 @@ def swatch(colour: int) -> str:
 
 def _openings(scale: _Scale, courses: Sequence[Course], streets: int) -> Iterator[str]:
     """A line across at so many streets, and at each course's day a dot, a line down and the day."""
-    days = [(day, colour) for colour, course in enumerate(courses) if (day := opening(course, streets)) is not None]
+    days = sorted((day, colour) for colour, course in enumerate(courses)
+                  if (day := opening(line(course, "memorized"), streets)) is not None)
     y = scale.y(streets)
     yield f'<line class="open" x1="{LEFT}" x2="{RIGHT}" y1="{y:.1f}" y2="{y:.1f}"/>'
     for day, _ in days:
         yield f'<line class="open" x1="{scale.x(day):.1f}" x2="{scale.x(day):.1f}" y1="{y:.1f}" y2="{BOTTOM}"/>'
-    # Where all courses come to it, the place below its end is free, else that above its start.
-    all_come = len(days) == len(courses) and y < BOTTOM - 20
-    x, below, side = (RIGHT - 5, 14, "end") if all_come else (LEFT + 5, -5, "start")
-    yield f'<text class="over" x="{x}" y="{y + below:.1f}" text-anchor="{side}">{_mark(streets)} streets</text>'
-    for row, (day, colour) in enumerate(sorted(days)):
+    # Where all courses come to it in time, the place below its end is free, else that above its start.
+    in_time = len(days) == len(courses) and scale.x(days[-1][0]) < RIGHT - 110 and y < BOTTOM - 20
+    end, below, side = (RIGHT - 5, 14, "end") if in_time else (LEFT + 5, -5, "start")
+    yield f'<text class="over" x="{end}" y="{y + below:.1f}" text-anchor="{side}">{_mark(streets)} streets</text>'
+    for row, (day, colour) in enumerate(days):
         x = scale.x(day)
         yield f'<circle class="dot c{colour % COLOURS}" cx="{x:.1f}" cy="{y:.1f}" r="4"/>'
         if len(days) <= _MOST_OPENINGS:
@@ -177,9 +178,7 @@ def _lines(scale: _Scale, courses: Sequence[Course], column: str) -> Iterator[st
     for colour, course in enumerate(courses):
         if column in course.bands:
             yield from _line(scale, course.columns[column], colour, "first")
-            yield from _line(scale, course.bands[column].mean, colour)
-        else:
-            yield from _line(scale, course.columns.get(column, ()), colour)
+        yield from _line(scale, line(course, column), colour)
 
 
 def picture(courses: Sequence[Course], column: str, streets: int | None) -> str:

@@ -90,7 +90,7 @@ class Page(unittest.TestCase):
         for count in [1, 2, 4]:
             text = page([runs_of("round", 1), *[runs_of("other", 3)] * (count - 1)], 80)
             self.check(text)
-            self.assertEqual(text.count("from day"), count)
+            self.assertEqual(text.count("from day"), 2 * count - 1)
             self.assertEqual(text.count("in all, mean of 3 runs"), min(count - 1, 1))
 
     def test_table(self) -> None:

@@ -1,4 +1,4 @@
-"""The setting that a refusal 4 is about: one is named just where the library refuses."""
+"""Settings and cards that refusals 4 and 5 are about: one is named just where the library refuses."""
 
 import ctypes
 import math
@@ -6,8 +6,9 @@ import random
 import unittest
 from dataclasses import fields, replace
 
-from street_drill import Refusal, SimulatorConfig, simulate
-from street_drill.config_check import wrong_setting
+from street_drill import Card, Refusal, SimulatorConfig, simulate
+from street_drill.model import CARD_FLOATS
+from street_drill.places import wrong_field, wrong_setting
 
 from .common import PARAMETERS
 
@@ -20,6 +21,14 @@ def spoiled(draw: random.Random, value):
         return tuple(spoiled(draw, entry) if number == place or draw.random() < 0.3 else entry
                      for number, entry in enumerate(value))
     return ctypes.c_float(draw.choice(ODD)).value
+
+
+def refusal_of(config: SimulatorConfig, cards: list[Card], retention: float) -> int:
+    try:
+        simulate(config, PARAMETERS, cards, desired_retention=retention)
+    except Refusal as refusal:
+        return refusal.number
+    return 0
 
 
 class WrongSetting(unittest.TestCase):
@@ -35,11 +44,23 @@ class WrongSetting(unittest.TestCase):
                     retention = spoiled(draw, 0.9)
                 else:
                     config = replace(config, **{name: spoiled(draw, getattr(config, name))})
-            try:
-                simulate(config, PARAMETERS, desired_retention=retention)
-                number = 0
-            except Refusal as refusal:
-                number = refusal.number
+            number = refusal_of(config, [], retention)
             self.assertEqual(number == 4, wrong_setting(config, retention) is not None, (config, retention))
             refused += number == 4
+        self.assertTrue(500 < refused < 1900, refused)
+
+
+class WrongField(unittest.TestCase):
+    def test_as_the_library(self) -> None:
+        draw = random.Random(5)
+        odd = [*ODD, 16_777_216.0, -16_777_216.0, 16_777_218.0, -16_777_218.0]
+        refused = 0
+        for _ in range(2000):
+            card = Card(5.0, 3.0, -2.0, 1.0, 3.0, 0.9, 4, draw.choice([1, 1, 1, 4_000_000_000, 4_000_000_001]))
+            for _ in range(draw.choice([1, 1, 2, 3])):
+                card = replace(card, **{draw.choice(CARD_FLOATS): ctypes.c_float(draw.choice(odd)).value})
+            kept = card.stability > ctypes.c_float(1e-9).value
+            number = refusal_of(SimulatorConfig(deck_size=1, learn_span=1), [card], 0.9)
+            self.assertEqual(number == 5, kept and wrong_field(card) is not None, card)
+            refused += number == 5
         self.assertTrue(500 < refused < 1900, refused)
