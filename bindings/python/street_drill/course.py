@@ -39,6 +39,7 @@ class Course:
 
     @property
     def span(self) -> int:
+        """How many days it has."""
         return len(self.columns["cost"])
 
 
@@ -68,6 +69,7 @@ def _band(runs: Sequence[Sequence[float]]) -> Band:
 
 
 def of_runs(name: str, forecasts: Sequence[Forecast]) -> Course:
+    """The first forecast's course, with bands where there are more."""
     columns = [_columns(forecast) for forecast in forecasts]
     bands = {column: _band([run[column] for run in columns]) for column in COLUMNS} if len(forecasts) > 1 else {}
     return Course(name, columns[0], bands, len(forecasts))
@@ -103,11 +105,13 @@ def _text(value: float | str) -> str:
 
 
 def as_csv(table: Table) -> str:
+    """A table without its name; floats by the fewest digits."""
     _, head, rows = table
     return csv_text([head, *([_text(value) for value in row] for row in rows)])
 
 
 def duration(seconds: float) -> str:
+    """As a planner says it: 40 s, 12 min, 1 h 05 min."""
     if not math.isfinite(seconds):
         return "no finite time"
     if seconds < 59.5:

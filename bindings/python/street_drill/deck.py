@@ -93,6 +93,7 @@ def of_text(path: str, text: str) -> Deck:
 
 
 def read(path: str) -> Deck:
+    """A deck from a file."""
     return of_text(path, files.read(path))
 
 

@@ -163,6 +163,7 @@ class Lists:
 
 
 def simulate(inputs: Inputs, desired_retention: float, seed: int, lists: Lists) -> Answer:
+    """A run, which leaves its forecast in the lists."""
     check_float_modes()
     answer: Answer = _library().drill_simulate(*inputs._arguments(), desired_retention, seed, *lists._arguments())
     return answer
@@ -187,9 +188,11 @@ class Search:
         return retention
 
     def take_mean(self, mean: float) -> None:
+        """Of the retention that was to try."""
         self._search = _library().drill_search_take(self._search, mean)
 
     def answer(self) -> Found:
+        """Of a search that has nothing more to try."""
         state = self._search.state
         refusal = _library().drill_search_answer(self._search)
         return Found(refusal, state.done, 0, state.done, state.x, state.fx)

@@ -51,4 +51,5 @@ def of_text(path: str, text: str) -> Course:
 
 
 def read(path: str) -> Course:
+    """A course from a file."""
     return of_text(path, files.read(path))

@@ -39,9 +39,11 @@ class _Scale:
     top: float
 
     def x(self, day: float) -> float:
+        """From the left."""
         return LEFT + day / self.last_day * (RIGHT - LEFT)
 
     def y(self, value: float) -> float:
+        """From the top."""
         return BOTTOM - value / self.top * (BOTTOM - TOP)
 
 
@@ -127,6 +129,7 @@ def _band(scale: _Scale, lows: Sequence[float], highs: Sequence[float], colour: 
 
 
 def swatch(colour: int) -> str:
+    """A piece of a course's line, to stand before its name."""
     dash = _DASHES[colour // COLOURS % len(_DASHES)]
     return (f'<svg class="swatch" viewBox="0 0 28 8" aria-hidden="true">'
             f'<path class="course c{colour % COLOURS}" stroke-dasharray="{dash}" d="M2 4L26 4"/></svg>')
@@ -137,15 +140,16 @@ def swatch(colour: int) -> str:
 
 def _openings(scale: _Scale, courses: Sequence[Course], streets: int) -> Iterator[str]:
     """A line across at so many streets, and at each course's day a dot, a line down and the day."""
-    days = sorted((day, colour) for colour, course in enumerate(courses)
-                  if (day := opening(line(course, "memorized"), streets)) is not None)
+    openings = [opening(line(course, "memorized"), streets) for course in courses]
+    days = sorted((day, colour) for colour, day in enumerate(openings) if day is not None)
     y = scale.y(streets)
     yield f'<line class="open" x1="{LEFT}" x2="{RIGHT}" y1="{y:.1f}" y2="{y:.1f}"/>'
     for day, _ in days:
         yield f'<line class="open" x1="{scale.x(day):.1f}" x2="{scale.x(day):.1f}" y1="{y:.1f}" y2="{BOTTOM}"/>'
-    # Where all courses come to it in time, the place below its end is free, else that above its start.
-    in_time = len(days) == len(courses) and scale.x(days[-1][0]) < RIGHT - 110 and y < BOTTOM - 20
-    end, below, side = (RIGHT - 5, 14, "end") if in_time else (LEFT + 5, -5, "start")
+    # The place below its end is free where every course has come to it, or is over, long before; else above its start.
+    clear = max(course.span - 1 if day is None else day for course, day in zip(courses, openings))
+    is_free = scale.x(clear) < RIGHT - 110 and y < BOTTOM - 20
+    end, below, side = (RIGHT - 5, 14, "end") if is_free else (LEFT + 5, -5, "start")
     yield f'<text class="over" x="{end}" y="{y + below:.1f}" text-anchor="{side}">{_mark(streets)} streets</text>'
     for row, (day, colour) in enumerate(days):
         x = scale.x(day)
@@ -160,7 +164,7 @@ def _openings(scale: _Scale, courses: Sequence[Course], streets: int) -> Iterato
 
 
 def last_day(courses: Sequence[Course]) -> int:
-    # A span of one day still needs an axis of some width.
+    """Where the axis of days ends: of a span of one day at 1, since it needs some width."""
     return max(1, *(course.span - 1 for course in courses))
 
 

@@ -1,4 +1,4 @@
-"""Where a refusal is in the planner's files: the library tells numbers, and a planner wants the key, or line and column.
+"""Where a refusal is in the planner's files: the library tells numbers, a planner wants the key, or line and column.
 
   placed          a refusal as a mistake with its place
   wrong_setting   the setting that refusal 4 is about, and its rule

@@ -29,6 +29,7 @@ class Settings:
 
     @property
     def name(self) -> str:
+        """What the file is called, for a head or a row."""
         return Path(self.path).stem
 
 
@@ -145,4 +146,5 @@ def of_text(path: str, text: str) -> Settings:
 
 
 def read(path: str) -> Settings:
+    """Settings from a file."""
     return of_text(path, files.read(path))
