@@ -56,7 +56,8 @@ class WrongField(unittest.TestCase):
         odd = [*ODD, 16_777_216.0, -16_777_216.0, 16_777_218.0, -16_777_218.0]
         refused = 0
         for _ in range(2000):
-            card = Card(5.0, 3.0, -2.0, 1.0, 3.0, 0.9, 4, draw.choice([1, 1, 1, 4_000_000_000, 4_000_000_001]))
+            lapses = draw.choice([1, 1, 1, 4_000_000_000, 4_000_000_001])
+            card = Card(5.0, 3.0, draw.choice([-2.0, -math.inf]), 1.0, 3.0, 0.9, 4, lapses)
             for _ in range(draw.choice([1, 1, 2, 3])):
                 card = replace(card, **{draw.choice(CARD_FLOATS): ctypes.c_float(draw.choice(odd)).value})
             kept = card.stability > ctypes.c_float(1e-9).value
