@@ -4,7 +4,8 @@
  *
  * Link libcapi.a, which `rt staticlib capi` writes (x86-64 Linux). examples/new_round.c is a whole program.
  *
- * - A list is a pointer and its number of places. A list of no places may be NULL.
+ * - A list is a pointer and its number of places. A list of no places may be NULL. A pointer without a length points to
+ * one place.
  * - A list that a call writes overlaps no other argument. Nothing is kept from call to call, so calls on lists of their
  * own may run on threads.
  * - Every function takes every value of its arguments; what it cannot use it refuses, or the comment says what it
@@ -24,8 +25,9 @@ extern "C" {
 
 /* ==== refusals: what drill_simulate and drill_optimal_retention answer
  *
- * Tests are made in the order 1, 2, 3, 4, 6, 2, 5. Refused by 1 to 6, a call has changed no list. Refused by 7 or 8, a
- * run leaves every list as after its last whole turn, or as set up. */
+ * Tests are made in the order 1, 2, 3, 4, 6, 2, 5. Refused by 1 to 6, a call has changed no list; its answer has no
+ * turns, cards and queued, and the seed as draws. Refused by 7 or 8, a run leaves every list as after its last whole
+ * turn, or as set up where there was none; its answer says how far it came. */
 enum drill_refusal {
     DRILL_OK = 0,
     /* under 34 parameters, or one of the first 34 is not finite; second: 34 if too few, else the first such index */
@@ -87,7 +89,7 @@ struct drill_config {
     float max_ivl;                      /* the longest interval in days, 1 to 36500 */
     float first_rating_prob[4];         /* weights of the first rating */
     float review_rating_prob[3];        /* weights of hard, good and easy where a street is recalled */
-    uint32_t learn_limit;               /* most learnings a day, or DRILL_NO_LIMIT */
+    uint32_t learn_limit;               /* most learnings a day, or DRILL_NO_LIMIT; 0: no new card is made */
     uint32_t review_limit;              /* most reviews a day, or DRILL_NO_LIMIT */
     bool new_cards_ignore_review_limit; /* false: learnings count against review_limit too */
     /* a card with so many lapses is retired: 0 retires every card at its first turn, DRILL_NO_LIMIT none */
@@ -144,10 +146,15 @@ struct drill_answer {
     uint64_t draws;   /* the generator's state: the seed of a run that goes on from here */
 };
 
-/* A run. The lists that it writes may hold anything before; the interval table (keys and intervals) is emptied first.
- * After it cards and counts are the updated deck, new streets too; days, costs (seconds) and memorized (the sum of the
- * cards' chances of recall) have a place for each day, due one for each day that is counted. What lies behind a list's
- * needed length stays as it was. 32768 places of the interval table serve where all cards have one desired retention. */
+/* A run. Of the parameters the first 34 are read, FSRS-7's. New cards are reviewed at desired_retention, existing ones
+ * at their own; new cards are made until there are deck_size. The lists that it writes may hold anything before; the
+ * interval table (keys and intervals) is emptied first.
+ *
+ * After it cards and counts are the updated deck: the existing cards that were not passed over, in their order, then
+ * the new ones. days, costs (seconds) and memorized (the sum of the cards' chances of recall) have a place for each
+ * day; due has the number of cards due on each day of the span and of half a span more, a new card once it is learned.
+ * What lies behind a list's needed length stays as it was. 32768 places of the interval table serve where all cards
+ * have one desired retention. */
 struct drill_answer
 drill_simulate(const float *parameters, size_t parameters_len, const struct drill_card_state *existing_cards,
                size_t existing_cards_len, const struct drill_card_counts *existing_counts, size_t existing_counts_len,
@@ -206,14 +213,16 @@ struct drill_search {
 struct drill_search drill_search_start(uint32_t rounds);
 /* the retention to try; a NaN where there is none: the search has ended */
 float drill_search_next(struct drill_search s);
+/* the search with the mean of the retention that was to try; a search that has ended stays as it is */
 struct drill_search drill_search_take(struct drill_search s, float mean);
 /* DRILL_OK, DRILL_NOT_FOUND, or DRILL_SEARCH_OPEN: a retention is still to be tried */
 uint32_t drill_search_answer(struct drill_search s);
 /* how many runs a trial has, by the days of the span */
 uint32_t drill_sample_size(uint32_t span);
-/* what a run costs for each card memorized on its last day, from the lists that it left */
+/* what a run of so many days, from 1, costs for each card memorized on its last day, from the lists that it left; a NaN
+ * where a list is shorter */
 float drill_target(uint32_t span, const float *costs, size_t costs_len, const float *memorized, size_t memorized_len);
-/* the mean of the first n */
+/* the mean of the first n; a NaN where n is 0 or the list is shorter */
 float drill_mean(const float *targets, size_t targets_len, uint32_t n);
 
 /* ==== the float modes
@@ -227,9 +236,12 @@ static inline bool drill_float_modes_ok(void) {
     return down == 1.0f && up > 1.0f + 2 * half_step && minus == -1.0f && kept > 0 && halved > 0;
 }
 
-/* ==== the memory model, from its 34 parameters; a parameter that is missing counts as a NaN */
+/* ==== the memory model, from its 34 parameters; a parameter that is missing counts as a NaN. A rating of 0 counts as
+ * 1, one above 4 as 4. What takes a stability alone is of the state with difficulty 5 and the same fast stability: so
+ * the run takes its cards. */
 
 float drill_init_stability(const float *w, size_t w_len, uint32_t rating);
+/* not yet kept within 1 to 10; a rating above 4 is taken as it is */
 float drill_init_difficulty(const float *w, size_t w_len, uint32_t rating);
 float drill_next_difficulty(const float *w, size_t w_len, float difficulty, uint32_t rating, float retention);
 float drill_stability_after_success(const float *w, size_t w_len, float stability, float retention, float difficulty,
@@ -250,7 +262,7 @@ float drill_next_interval_for_state(const float *w, size_t w_len, float stabilit
                                     float desired);
 float drill_next_interval_bisection(const float *w, size_t w_len, float stability, float difficulty, float fast,
                                     float desired);
-/* in whole days from 1 to the largest */
+/* the same rounded to whole days, from 1 to the largest */
 float drill_scheduled(const float *w, size_t w_len, float stability, float desired, float largest);
 
 /* ==== the interval table: a key beside each interval, a place with an interval below 1 being free. drill_clear empties
@@ -268,38 +280,47 @@ uint32_t drill_bucket_index(float value, float step);
 uint32_t drill_stability_bucket(float stability);
 uint32_t drill_retention_bucket(float retention);
 
-/* ==== the queue: a heap in the first len rows of a list */
+/* ==== the queue: a heap in the first len rows of a list. Where len is 0 or beyond the list, drill_pop and
+ * drill_change_front change nothing */
 uint64_t drill_card_priority(uint32_t day, bool is_new, float difficulty);
 /* the new len: len + 1, or len where all rows are in use, and then the card is not taken in */
 uint32_t drill_push(struct drill_queue_row *rows, size_t rows_len, uint32_t len, uint32_t card, uint64_t key);
-/* the first row's card */
+/* the first row's card, 0 in a list of no rows */
 uint32_t drill_peek_index(const struct drill_queue_row *rows, size_t rows_len, uint32_t len);
 /* the new len, without the first row's card */
 uint32_t drill_pop(struct drill_queue_row *rows, size_t rows_len, uint32_t len);
 void drill_change_front(struct drill_queue_row *rows, size_t rows_len, uint32_t len, uint64_t key);
 
-/* ==== draws: SplitMix64; a word is the top half of an output */
+/* ==== draws: SplitMix64, whose state begins as the seed; a word is the top half of an output */
 uint64_t drill_next(uint64_t *state);
 uint32_t drill_word(uint64_t output);
-/* the index, from 0, of the weight that the word chooses. It is a rating only after the first of its row is added (1
- * for four weights, 2 for three), and says nothing for weights that refusal 4 turns away */
+/* the index, from 0, of the weight that the word chooses; 0 where no weight is above 0. It is a rating only after the
+ * first of its row is added (1 for four weights, 2 for three), and says nothing for weights that refusal 4 turns away
+ */
 size_t drill_weighted_index(const float *weights, size_t weights_len, uint32_t word);
+/* whether a card of that chance is recalled by the word; a chance that is a NaN is not */
 bool drill_recalled(float chance, uint32_t word);
 
-/* ==== numbers */
+/* ==== numbers, as Rust has them, with the same bits on every machine */
+/* exp and ln are within a step of the exact value (ln: or within 2^-40), powf within two where |y| is up to 128 */
 float drill_exp(float x);
 float drill_ln(float x);
 float drill_powf(float x, float y);
 bool drill_is_finite(float x);
 float drill_abs(float x);
+/* of a NaN and a number the number */
 float drill_max(float x, float y);
 float drill_min(float x, float y);
+/* a NaN stays a NaN */
 float drill_clamp(float x, float lo, float hi);
+/* without the fraction, at most the type's ends; 0 for a NaN */
 int32_t drill_to_i32(float x);
 uint32_t drill_to_u32(float x);
 /* the float nearest to m * 2^(e - 1074), with a sign */
 float drill_pack(bool negative, uint64_t m, uint32_t e);
+/* the nearest whole number, a half away from 0 */
 float drill_round(float x);
+/* x * y + z, rounded once */
 float drill_mul_add(float x, float y, float z);
 
 #ifdef __cplusplus

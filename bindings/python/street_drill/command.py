@@ -10,7 +10,7 @@ import sys
 from collections.abc import Sequence
 from pathlib import Path
 
-from . import cluster, course, deck, files, listing, region, runs, settings
+from . import cluster, course, deck, files, listing, places, region, runs, settings
 from .course import Course
 from .deck import NO_DECK
 from .decimals import shortest
@@ -79,7 +79,7 @@ def _forecast(options: argparse.Namespace) -> None:
     sources = [*options.settings, *([options.deck] if options.deck and options.deck != options.cards else [])]
     files.write_all(texts, sources)
     for drawn in courses:
-        sys.stdout.write(course.summary(drawn, options.open))
+        print(course.summary(drawn, options.open), end="")
 
 
 def _add(texts: dict[str, str], path: str, text: str) -> None:
@@ -101,7 +101,7 @@ def _cheapest(options: argparse.Namespace) -> None:
         found = optimal_retention(given.config, given.parameters, known.cards,
                                   workers=options.workers, progress=progress)
     except Refusal as refusal:
-        raise runs.placed(given, known, refusal) from refusal
+        raise places.placed(given, known, refusal) from refusal
     if not math.isfinite(found.mean):
         raise Mistake(given.path, "a trial held no street at its end, so no retention is the cheapest")
     print(f"{given.name}: retention {shortest(found.retention)} costs least, "
@@ -113,7 +113,7 @@ def _page(options: argparse.Namespace) -> None:
     path = options.page or str(Path(options.listings[0]).with_suffix(".html"))
     files.write_all({path: page(courses, options.open)}, options.listings)
     for drawn in courses:
-        sys.stdout.write(course.summary(drawn, options.open))
+        print(course.summary(drawn, options.open), end="")
 
 
 def _region(options: argparse.Namespace) -> None:
@@ -123,18 +123,20 @@ def _region(options: argparse.Namespace) -> None:
     mistakes = [each for each in made if isinstance(each, Mistake)]
     if mistakes:
         raise Mistakes(mistakes)
-    depots_table = region.table(made, options.open)
-    whole = region.total(made)
+    courses = [each for each in made if isinstance(each, Course)]
+    depots_table = region.table(courses, options.open)
+    whole = region.total(courses)
     texts = {options.summary: course.as_csv(depots_table)}
     _add(texts, options.page, page([whole], tables=[depots_table]))
     files.write_all(texts, [path for depot in depots for path in (depot.path, depot.deck_path)])
-    sys.stdout.write(course.summary(whole, None))
+    print(course.summary(whole, None), end="")
 
 
 _COMMANDS = {"forecast": _forecast, "cheapest": _cheapest, "page": _page, "region": _region}
 
 
 def main(arguments: Sequence[str] | None = None) -> int:
+    """Does what the arguments ask, and gives the exit status."""
     options = _parser().parse_args(arguments)
     try:
         _COMMANDS[options.command](options)

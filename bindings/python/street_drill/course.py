@@ -2,18 +2,18 @@
 
   Course      columns by name, with bands where there were several runs
   of_runs     from forecasts; the first is the course, the others make the band
+  line        what is drawn of a column
   days_table  a row a day; as_csv: a table as CSV
   facts       what a planner asks first; summary: the same for the terminal
 """
 
-import csv
 import ctypes
-import io
 import math
 from collections.abc import Mapping, Sequence
 from dataclasses import dataclass
 
 from .decimals import shortest
+from .files import csv_text
 from .model import Forecast
 
 COLUMNS = ("learned", "reviewed", "correct", "introduced", "due", "cost", "memorized")
@@ -39,6 +39,7 @@ class Course:
 
     @property
     def span(self) -> int:
+        """How many days it has."""
         return len(self.columns["cost"])
 
 
@@ -68,9 +69,15 @@ def _band(runs: Sequence[Sequence[float]]) -> Band:
 
 
 def of_runs(name: str, forecasts: Sequence[Forecast]) -> Course:
+    """The first forecast's course, with bands where there are more."""
     columns = [_columns(forecast) for forecast in forecasts]
     bands = {column: _band([run[column] for run in columns]) for column in COLUMNS} if len(forecasts) > 1 else {}
     return Course(name, columns[0], bands, len(forecasts))
+
+
+def line(course: Course, column: str) -> Sequence[float]:
+    """Of several runs the mean: a day of one of them is luck. Empty where a listing tells nothing of the column."""
+    return course.bands[column].mean if column in course.bands else course.columns.get(column, ())
 
 
 # A name, a head and rows.
@@ -79,7 +86,8 @@ Table = tuple[str, Sequence[str], Sequence[Sequence[float | str]]]
 
 def days_table(course: Course) -> Table:
     """A row a day; the columns of a band follow their own."""
-    names, columns = ["day"], [range(course.span)]
+    names: list[str] = ["day"]
+    columns: list[Sequence[float]] = [range(course.span)]
     for name in COLUMNS:
         if name in course.columns:
             names.append(name)
@@ -97,13 +105,13 @@ def _text(value: float | str) -> str:
 
 
 def as_csv(table: Table) -> str:
+    """A table without its name; floats by the fewest digits."""
     _, head, rows = table
-    out = io.StringIO()
-    csv.writer(out, lineterminator="\n").writerows([head, *([_text(value) for value in row] for row in rows)])
-    return out.getvalue()
+    return csv_text([head, *([_text(value) for value in row] for row in rows)])
 
 
 def duration(seconds: float) -> str:
+    """As a planner says it: 40 s, 12 min, 1 h 05 min."""
     if not math.isfinite(seconds):
         return "no finite time"
     if seconds < 59.5:
@@ -112,9 +120,14 @@ def duration(seconds: float) -> str:
     return f"{minutes // 60:,} h {minutes % 60:02} min" if minutes >= 60 else f"{minutes} min"
 
 
-def opening(course: Course, streets: int) -> int | None:
+def opening(held: Sequence[float], streets: int) -> int | None:
     """The first day on which so many streets are held."""
-    return next((day for day, held in enumerate(course.columns["memorized"]) if held >= streets), None)
+    return next((day for day, number in enumerate(held) if number >= streets), None)
+
+
+def _opens(held: Sequence[float], streets: int) -> str:
+    day = opening(held, streets)
+    return "on no day" if day is None else f"from day {day}"
 
 
 def busiest(course: Course) -> int:
@@ -126,15 +139,16 @@ def busiest(course: Course) -> int:
 def facts(course: Course, streets: int | None) -> list[tuple[str, str]]:
     """What a planner asks first, each with its label; days count from 0."""
     costs, held = course.columns["cost"], course.columns["memorized"]
-    day = busiest(course)
+    day, runs = busiest(course), f"mean of {course.runs} runs"
     told = [("span", f"{course.span:,} days" if course.span > 1 else "1 day"), ("in all", duration(sum(costs)))]
     if course.bands:
-        told.append((f"in all, mean of {course.runs} runs", duration(sum(course.bands["cost"].mean))))
+        told.append((f"in all, {runs}", duration(sum(line(course, "cost")))))
     told.append(("busiest day", f"day {day}, {duration(costs[day])}"))
     told.append(("held on the last day", f"{held[-1]:,.1f} of {course.columns['introduced'][-1]:,} introduced"))
     if streets is not None:
-        opens = opening(course, streets)
-        told.append((f"{streets:,} streets held", "on no day" if opens is None else f"from day {opens}"))
+        told.append((f"{streets:,} streets held", _opens(held, streets)))
+    if streets is not None and course.bands:
+        told.append((f"{streets:,} streets held, {runs}", _opens(line(course, "memorized"), streets)))
     return told
 
 

@@ -29,7 +29,8 @@ def exact(text: str) -> Decimal:
 
 
 def _is_even(value: float) -> bool:
-    return struct.unpack("<Q", struct.pack("<d", value))[0] % 2 == 0
+    bits: int = struct.unpack("<Q", struct.pack("<d", value))[0]
+    return bits % 2 == 0
 
 
 def nearest(value: Decimal) -> float:
@@ -55,8 +56,9 @@ def _with_digits(value: float, digits: int) -> Decimal | None:
 def _written(value: float) -> str:
     digits = range(1, _MOST_DIGITS + 1)
     fewest = digits[bisect.bisect_left(digits[:-1], True, key=lambda count: _with_digits(value, count) is not None)]
-    written = _with_digits(value, fewest).normalize()
-    return f"{written:f}" if 1e-6 <= abs(value) < 1e16 else f"{written:e}"
+    written = _with_digits(value, fewest)
+    assert written is not None, "nine digits read back"
+    return f"{written.normalize():f}" if 1e-6 <= abs(value) < 1e16 else f"{written.normalize():e}"
 
 
 def shortest(value: float) -> str:

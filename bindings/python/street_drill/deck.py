@@ -6,6 +6,7 @@ import io
 import math
 from collections.abc import Iterator, Sequence
 from dataclasses import dataclass, replace
+from typing import Any
 
 from . import files
 from .decimals import exact, nearest, shortest
@@ -66,7 +67,7 @@ def _value(name: str, text: str) -> float:
 def _card(path: str, line: int, head: Sequence[str], record: Sequence[str]) -> Card:
     if len(record) != len(head):
         raise Mistake(f"{path}: line {line}", f"has {len(record)} columns, and the head has {len(head)}")
-    values = {}
+    values: dict[str, Any] = {}
     for number, (name, text) in enumerate(zip(head, record), start=1):
         if name in _FIELDS:
             try:
@@ -92,6 +93,7 @@ def of_text(path: str, text: str) -> Deck:
 
 
 def read(path: str) -> Deck:
+    """A deck from a file."""
     return of_text(path, files.read(path))
 
 
@@ -113,12 +115,9 @@ def updated(deck: Deck, cards: Sequence[Card], span: int) -> str:
     """
     order = sorted(range(len(deck.cards)), key=lambda place: not deck.cards[place].stability > _KEPT_ABOVE)
     rows = [deck.rows[place] for place in order]
-    nothing = [""] * len(deck.head)
-    out = io.StringIO()
-    writer = csv.writer(out, lineterminator="\n")
-    writer.writerow(deck.head)
+    nothing = ("",) * len(deck.head)
+    written: list[Sequence[str]] = [deck.head]
     for place, card in enumerate(cards):
         later = replace(card, last_date=_later(card.last_date, span), due=_later(card.due, span))
-        writer.writerow(_row(deck.head, rows[place] if place < len(rows) else nothing, later))
-    writer.writerows(rows[len(cards) :])
-    return out.getvalue()
+        written.append(_row(deck.head, rows[place] if place < len(rows) else nothing, later))
+    return files.csv_text([*written, *rows[len(cards) :]])

@@ -1,8 +1,10 @@
-"""Files read as text, and written whole or not at all."""
+"""Files read as text, and written whole or not at all; rows as CSV."""
 
 import contextlib
 import os
-from collections.abc import Iterable, Mapping
+import re
+import signal
+from collections.abc import Iterable, Iterator, Mapping
 
 from .errors import Mistake
 
@@ -27,6 +29,15 @@ def read(path: str) -> str:
         raise Mistake(f"{path}: line {data.count(bytes([10]), 0, error.start) + 1}", "is not UTF-8") from error
 
 
+def _field(text: str) -> str:
+    return '"' + text.replace('"', '""') + '"' if re.search('[",\r\n]', text) else text
+
+
+def csv_text(rows: Iterable[Iterable[str]]) -> str:
+    """Rows as CSV. Python's own writer leaves a lone carriage return without quotes, and no reader takes that."""
+    return "".join(",".join(map(_field, row)) + "\n" for row in rows)
+
+
 def _destination(path: str) -> str:
     """The file that a name stands for. A rename would put a device or a folder aside, so neither is taken."""
     real = os.path.realpath(path)
@@ -49,9 +60,24 @@ def _write_beside(path: str, text: str) -> str:
     return beside
 
 
+@contextlib.contextmanager
+def _uninterrupted() -> Iterator[None]:
+    """Signals that end the command wait, so that no file stays under the name that it has while it is written."""
+    before = signal.pthread_sigmask(signal.SIG_BLOCK, {signal.SIGINT, signal.SIGTERM, signal.SIGHUP})
+    try:
+        yield
+    finally:
+        signal.pthread_sigmask(signal.SIG_SETMASK, before)
+
+
 def write_all(texts: Mapping[str, str], sources: Iterable[str] = ()) -> None:
     """Writes each text to its path. No path is touched before all texts lie on the disk, and none of the sources is."""
     kept = {os.path.realpath(source) for source in sources}
+    with _uninterrupted():
+        _write_all(texts, kept)
+
+
+def _write_all(texts: Mapping[str, str], kept: set[str]) -> None:
     written: list[tuple[str, str]] = []
     try:
         for path, text in texts.items():

@@ -16,6 +16,7 @@ import os
 from array import array
 from collections.abc import Sequence
 from pathlib import Path
+from typing import Any
 
 MOST_CARDS = 65_536
 MOST_DAYS = 36_500
@@ -116,11 +117,11 @@ def check_float_modes() -> None:
         raise RuntimeError("this thread's float modes are not the default ones")
 
 
-def _zeros(kind: str, places: int) -> array:
+def _zeros(kind: str, places: int) -> "array[Any]":
     return array(kind, bytes(array(kind).itemsize * places))
 
 
-def _lent(places: array, row: int = 1) -> tuple[int, int]:
+def _lent(places: "array[Any]", row: int = 1) -> tuple[int, int]:
     """A list's pointer and its number of rows."""
     return places.buffer_info()[0], len(places) // row
 
@@ -136,7 +137,7 @@ class Inputs:
         self._config = config
         self.deck_size, self.learn_span = config.deck_size, config.learn_span
 
-    def _arguments(self) -> list:
+    def _arguments(self) -> list[Any]:
         return [*_lent(self._parameters), *_lent(self._cards, 6), *_lent(self._counts, 2), self._config]
 
 
@@ -162,30 +163,36 @@ class Lists:
 
 
 def simulate(inputs: Inputs, desired_retention: float, seed: int, lists: Lists) -> Answer:
+    """A run, which leaves its forecast in the lists."""
     check_float_modes()
-    return _library().drill_simulate(*inputs._arguments(), desired_retention, seed, *lists._arguments())
+    answer: Answer = _library().drill_simulate(*inputs._arguments(), desired_retention, seed, *lists._arguments())
+    return answer
 
 
 def optimal_retention(inputs: Inputs, rounds: int, lists: Lists) -> Found:
     """The whole search in one call, on one thread."""
     check_float_modes()
-    return _library().drill_optimal_retention(*inputs._arguments(), rounds, *lists._arguments())
+    found: Found = _library().drill_optimal_retention(*inputs._arguments(), rounds, *lists._arguments())
+    return found
 
 
 class Search:
     """A search's state between its trials."""
 
     def __init__(self, rounds: int) -> None:
-        self._search = _library().drill_search_start(rounds)
+        self._search: _Search = _library().drill_search_start(rounds)
 
     def next_retention(self) -> float:
         """The retention to try, a NaN where there is none."""
-        return _library().drill_search_next(self._search)
+        retention: float = _library().drill_search_next(self._search)
+        return retention
 
     def take_mean(self, mean: float) -> None:
+        """Of the retention that was to try."""
         self._search = _library().drill_search_take(self._search, mean)
 
     def answer(self) -> Found:
+        """Of a search that has nothing more to try."""
         state = self._search.state
         refusal = _library().drill_search_answer(self._search)
         return Found(refusal, state.done, 0, state.done, state.x, state.fx)
@@ -193,14 +200,18 @@ class Search:
 
 def sample_size(span: int) -> int:
     """How many runs a trial has."""
-    return _library().drill_sample_size(span)
+    runs: int = _library().drill_sample_size(span)
+    return runs
 
 
 def target(span: int, lists: Lists) -> float:
     """What a run costs for each card memorized on its last day."""
-    return _library().drill_target(span, *_lent(lists.costs), *_lent(lists.memorized))
+    cost: float = _library().drill_target(span, *_lent(lists.costs), *_lent(lists.memorized))
+    return cost
 
 
 def mean(targets: Sequence[float]) -> float:
+    """The mean of a trial's targets, added in their order."""
     lent = array("f", targets)
-    return _library().drill_mean(*_lent(lent), len(lent))
+    found: float = _library().drill_mean(*_lent(lent), len(lent))
+    return found

@@ -18,7 +18,8 @@ _DAY = re.compile(
 
 
 def _float(bits: str) -> float:
-    return struct.unpack(">f", bytes.fromhex(bits))[0]
+    value: float = struct.unpack(">f", bytes.fromhex(bits))[0]
+    return value
 
 
 def _span(path: str, line: str) -> int:
@@ -50,4 +51,5 @@ def of_text(path: str, text: str) -> Course:
 
 
 def read(path: str) -> Course:
+    """A course from a file."""
     return of_text(path, files.read(path))

@@ -6,7 +6,8 @@
   Runner                       runs of the same inputs, for many seeds and retentions
 """
 
-from collections.abc import Iterable, Sequence
+from array import array
+from collections.abc import Iterator, Sequence
 from dataclasses import dataclass, fields
 from operator import attrgetter
 from typing import Any
@@ -118,15 +119,15 @@ def _inputs(config: SimulatorConfig, parameters: Sequence[float], cards: Sequenc
     return library.Inputs(parameters, floats, counts, library.Config(**settings))
 
 
-def _rows(flat: Sequence, width: int, count: int) -> Iterable[Sequence]:
+def _rows(flat: "array[Any]", width: int, count: int) -> Iterator["array[Any]"]:
     return (flat[place : place + width] for place in range(0, width * count, width))
 
 
 def _forecast(span: int, answer: library.Answer, lists: library.Lists, cards: int) -> Forecast:
-    rows = zip(_rows(lists.days, 4, span), lists.costs, lists.memorized)
+    rows = zip(_rows(lists.days, 4, span), zip(lists.costs, lists.memorized))
     kept = zip(_rows(lists.cards, 6, cards), _rows(lists.counts, 2, cards))
     return Forecast(
-        rows=tuple(Day(*counts, cost, memorized) for counts, cost, memorized in rows),
+        rows=tuple(Day(*(*counts, *sums)) for counts, sums in rows),
         due=tuple(lists.due),
         cards=tuple(Card(*floats, *counts) for floats, counts in kept),
         turns=answer.turns,

@@ -32,10 +32,9 @@ def _facts_of_each(courses: Sequence[Course], streets: int | None) -> str:
     labels = list(dict.fromkeys(label for each in told for label in each))
     names = [f"{picture.swatch(colour)}{escape(course.name)}" for colour, course in enumerate(courses)]
     # What a course does not tell is left empty.
-    rows = [["", *labels], *([name, *(each.get(label, "") for label in labels)] for name, each in zip(names, told))]
-    if _few(courses):
-        rows = list(zip(*rows))
-    lines = (_line(row, "th" if number == 0 else "td") for number, row in enumerate(rows))
+    rows = [("", *labels), *((name, *(each.get(label, "") for label in labels)) for name, each in zip(names, told))]
+    turned = list(zip(*rows)) if _few(courses) else rows
+    lines = (_line(row, "th" if number == 0 else "td") for number, row in enumerate(turned))
     return f'<table class="facts">{"".join(lines)}</table>'
 
 
@@ -125,7 +124,7 @@ def page(courses: Sequence[Course], streets: int | None = None, tables: Sequence
     columns = [column for column in picture.TITLES if any(column in course.columns for course in courses)]
     pictures = "\n".join(picture.picture(courses, column, streets) for column in columns)
     title = _title(courses)
-    shown = "\n".join(_table(*each) for each in tables or map(days_table, courses))
+    shown = "\n".join(_table(*each) for each in tables or [days_table(course) for course in courses])
     return "\n".join([
         '<!DOCTYPE html>\n<html lang="en">\n<head>\n<meta charset="utf-8">',
         '<meta name="viewport" content="width=device-width, initial-scale=1">',

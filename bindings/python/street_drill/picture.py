@@ -9,7 +9,7 @@ import math
 from collections.abc import Iterable, Iterator, Sequence
 from dataclasses import dataclass
 
-from .course import Course, opening
+from .course import Course, line, opening
 
 TITLES = {
     "cost": "Time a day",
@@ -39,9 +39,11 @@ class _Scale:
     top: float
 
     def x(self, day: float) -> float:
+        """From the left."""
         return LEFT + day / self.last_day * (RIGHT - LEFT)
 
     def y(self, value: float) -> float:
+        """From the top."""
         return BOTTOM - value / self.top * (BOTTOM - TOP)
 
 
@@ -127,6 +129,7 @@ def _band(scale: _Scale, lows: Sequence[float], highs: Sequence[float], colour: 
 
 
 def swatch(colour: int) -> str:
+    """A piece of a course's line, to stand before its name."""
     dash = _DASHES[colour // COLOURS % len(_DASHES)]
     return (f'<svg class="swatch" viewBox="0 0 28 8" aria-hidden="true">'
             f'<path class="course c{colour % COLOURS}" stroke-dasharray="{dash}" d="M2 4L26 4"/></svg>')
@@ -137,16 +140,18 @@ def swatch(colour: int) -> str:
 
 def _openings(scale: _Scale, courses: Sequence[Course], streets: int) -> Iterator[str]:
     """A line across at so many streets, and at each course's day a dot, a line down and the day."""
-    days = [(day, colour) for colour, course in enumerate(courses) if (day := opening(course, streets)) is not None]
+    openings = [opening(line(course, "memorized"), streets) for course in courses]
+    days = sorted((day, colour) for colour, day in enumerate(openings) if day is not None)
     y = scale.y(streets)
     yield f'<line class="open" x1="{LEFT}" x2="{RIGHT}" y1="{y:.1f}" y2="{y:.1f}"/>'
     for day, _ in days:
         yield f'<line class="open" x1="{scale.x(day):.1f}" x2="{scale.x(day):.1f}" y1="{y:.1f}" y2="{BOTTOM}"/>'
-    # Where all courses come to it, the place below its end is free, else that above its start.
-    all_come = len(days) == len(courses) and y < BOTTOM - 20
-    x, below, side = (RIGHT - 5, 14, "end") if all_come else (LEFT + 5, -5, "start")
-    yield f'<text class="over" x="{x}" y="{y + below:.1f}" text-anchor="{side}">{_mark(streets)} streets</text>'
-    for row, (day, colour) in enumerate(sorted(days)):
+    # The place below its end is free where every course has come to it, or is over, long before; else above its start.
+    clear = max(course.span - 1 if day is None else day for course, day in zip(courses, openings))
+    is_free = scale.x(clear) < RIGHT - 110 and y < BOTTOM - 20
+    end, below, side = (RIGHT - 5, 14, "end") if is_free else (LEFT + 5, -5, "start")
+    yield f'<text class="over" x="{end}" y="{y + below:.1f}" text-anchor="{side}">{_mark(streets)} streets</text>'
+    for row, (day, colour) in enumerate(days):
         x = scale.x(day)
         yield f'<circle class="dot c{colour % COLOURS}" cx="{x:.1f}" cy="{y:.1f}" r="4"/>'
         if len(days) <= _MOST_OPENINGS:
@@ -159,7 +164,7 @@ def _openings(scale: _Scale, courses: Sequence[Course], streets: int) -> Iterato
 
 
 def last_day(courses: Sequence[Course]) -> int:
-    # A span of one day still needs an axis of some width.
+    """Where the axis of days ends: of a span of one day at 1, since it needs some width."""
     return max(1, *(course.span - 1 for course in courses))
 
 
@@ -177,9 +182,7 @@ def _lines(scale: _Scale, courses: Sequence[Course], column: str) -> Iterator[st
     for colour, course in enumerate(courses):
         if column in course.bands:
             yield from _line(scale, course.columns[column], colour, "first")
-            yield from _line(scale, course.bands[column].mean, colour)
-        else:
-            yield from _line(scale, course.columns.get(column, ()), colour)
+        yield from _line(scale, line(course, column), colour)
 
 
 def picture(courses: Sequence[Course], column: str, streets: int | None) -> str:

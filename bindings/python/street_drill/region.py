@@ -89,9 +89,9 @@ def table(depots: Sequence[Course], streets: int | None) -> Table:
 
 def _row(depot: Course, streets: int | None) -> list[float | str]:
     costs, busiest = depot.columns["cost"], course.busiest(depot)
-    row = [depot.name, depot.span, _sum(costs), busiest, costs[busiest],
-           depot.columns["introduced"][-1], depot.columns["memorized"][-1]]
+    row: list[float | str] = [depot.name, depot.span, _sum(costs), busiest, costs[busiest],
+                              depot.columns["introduced"][-1], depot.columns["memorized"][-1]]
     if streets is None:
         return row
-    day = course.opening(depot, streets)
+    day = course.opening(depot.columns["memorized"], streets)
     return [*row, "" if day is None else day]

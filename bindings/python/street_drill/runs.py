@@ -1,20 +1,12 @@
-"""Forecasts of settings and a deck for one or more seeds, with refusals told by their place in the planner's files."""
+"""Forecasts of settings and a deck for one or more seeds."""
 
 from concurrent.futures import ThreadPoolExecutor
 
-from .config_check import wrong_setting
 from .deck import Deck
-from .errors import Mistake, Refusal
+from .errors import Refusal
 from .model import Forecast, Runner
+from .places import placed
 from .settings import Settings
-
-
-def placed(given: Settings, known: Deck, refusal: Refusal) -> Mistake:
-    """A refusal as a mistake: of a card by its line in the deck, of all else by the settings, and key if known."""
-    if refusal.number == 5:
-        return Mistake(f"{known.path}: line {known.lines[refusal.second]}", str(refusal))
-    key = wrong_setting(given.config, given.desired_retention) if refusal.number == 4 else None
-    return Mistake(f"{given.path}: {key}" if key else given.path, str(refusal))
 
 
 def forecasts(given: Settings, known: Deck, runs: int, workers: int) -> list[Forecast]:

@@ -3,6 +3,7 @@
 A missing key takes its default; parameters have none, which the library refuses. Each error names its key.
 """
 
+import itertools
 import re
 import tomllib
 from collections.abc import Callable
@@ -28,6 +29,7 @@ class Settings:
 
     @property
     def name(self) -> str:
+        """What the file is called, for a head or a row."""
         return Path(self.path).stem
 
 
@@ -78,7 +80,7 @@ def _bool(value: Any, place: str) -> bool:
     return value
 
 
-def _list(value: Any, place: str, read: Callable[[Any, str], Any], length: int | None = None) -> tuple:
+def _list(value: Any, place: str, read: Callable[[Any, str], Any], length: int | None = None) -> tuple[Any, ...]:
     if type(value) is not list:
         raise _Wrong(place, f"must be a list and is {_is(value)}")
     if length is not None and len(value) != length:
@@ -102,15 +104,23 @@ _READERS = {
 }
 
 
+def _line(text: str, place: int) -> str:
+    return f"line {text.count(chr(10), 0, place) + 1}"
+
+
 def _parsed(path: str, text: str) -> dict[str, Any]:
     try:
         return tomllib.loads(text, parse_float=_Written)
     except tomllib.TOMLDecodeError as error:
         sentence, _, place = str(error).rpartition(" (at ")
         raise Mistake(f"{path}: {place.rstrip(')')}", sentence) from error
-    except (ValueError, RecursionError) as error:
-        # tomllib tells no place of a number of thousands of digits, of a date that is none, or of lists too deep.
-        raise Mistake(path, "a number is too long" if "digits" in str(error) else f"is no TOML: {error}") from error
+    except ValueError as error:
+        # tomllib tells no place of a whole number of more digits than Python reads.
+        long = re.search(r"[\d_]{4301}", text)
+        raise Mistake(f"{path}: {_line(text, long.start())}" if long else path, "a number is too long") from error
+    except RecursionError as error:
+        depths = list(itertools.accumulate((char in "[{") - (char in "]}") for char in text))
+        raise Mistake(f"{path}: {_line(text, depths.index(max(depths)))}", "lists lie too deep") from error
 
 
 def of_text(path: str, text: str) -> Settings:
@@ -136,4 +146,5 @@ def of_text(path: str, text: str) -> Settings:
 
 
 def read(path: str) -> Settings:
+    """Settings from a file."""
     return of_text(path, files.read(path))

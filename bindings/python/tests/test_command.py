@@ -5,9 +5,11 @@ import csv
 import errno
 import io
 import os
+import signal
 import subprocess
 import sys
 import tempfile
+import time
 import unittest
 import unittest.mock
 from dataclasses import asdict
@@ -15,7 +17,7 @@ from pathlib import Path
 
 from street_drill import settings, simulate
 from street_drill.command import main
-from street_drill.course import percentile
+from street_drill.course import duration, percentile
 from street_drill.decimals import exact, nearest
 
 from . import damage
@@ -86,6 +88,16 @@ class Command(unittest.TestCase):
         self.assertIn(f"100 streets held: from day {day}\n", run("forecast", EXAMPLE, "--open", 100)[1])
         self.assertIn("121 streets held: on no day\n", run("forecast", EXAMPLE, "--open", 121)[1])
 
+    def test_summary_of_runs(self) -> None:
+        """The mean's hours, and the first day on which the mean holds so many, beside the first run's."""
+        runs = [self.forecast(seed).rows for seed in range(7, 12)]
+        held = [sum(day.memorized for day in days) / 5 for days in zip(*runs)]
+        day = next(number for number, streets in enumerate(held) if streets >= 100)
+        said = run("forecast", EXAMPLE, "--open", 100, "--runs", 5)[1]
+        self.assertIn(f"100 streets held, mean of 5 runs: from day {day}\n", said)
+        hours = duration(sum(day.cost for days in runs for day in days) / 5)
+        self.assertIn(f"in all, mean of 5 runs: {hours}\n", said)
+
     def test_cheapest_is_quiet(self) -> None:
         status, said, errors = run("cheapest", EXAMPLE)
         self.assertEqual((status, errors), (0, ""))
@@ -133,11 +145,26 @@ class Command(unittest.TestCase):
         self.assertEqual(run("forecast", "none.toml"), (2, "", "street_drill: none.toml: No such file or directory\n"))
         self.assertEqual(run("forecast", EXAMPLE, "--deck", self.folder)[0], 2)
 
-    def test_card_is_told_by_its_line(self) -> None:
+    def test_card_is_told_by_its_place(self) -> None:
         deck = self.folder / "deck.csv"
         deck.write_bytes(damage.DECK.replace(b"12.5,-10", b"12.5,99999999"))
-        self.assertIn("deck.csv: line 3: refused 5 1: ", run("forecast", EXAMPLE, "--deck", deck)[2])
-        self.assertIn("deck.csv: line 3: refused 5 1: ", run("cheapest", EXAMPLE, "--deck", deck)[2])
+        for command in ["forecast", "cheapest"]:
+            errors = run(command, EXAMPLE, "--deck", deck)[2]
+            self.assertIn("deck.csv: line 3, column 4 (last_date): refused 5 1: must be within", errors)
+
+    def test_setting_is_told_by_its_key(self) -> None:
+        own, parameters = self.folder / "own.toml", EXAMPLE.read_text().split("]")[0] + "]\n"
+        for text, told in {
+            parameters + "deck_size = 0": "own.toml: deck_size: refused 2 0: ",
+            parameters + "learn_span = 36501": "own.toml: learn_span: refused 3 0: ",
+            parameters + "max_ivl = 0": "own.toml: max_ivl: refused 4 0: must be 1 to 36,500\n",
+            parameters + "first_rating_prob = [0, 0, 0, 0]": "own.toml: first_rating_prob: refused 4 0: ",
+            parameters.replace("0.796", "nan", 1): "own.toml: parameters: refused 1 9: ",
+            "": "own.toml: parameters: refused 1 34: ",
+        }.items():
+            own.write_text(text)
+            self.assertIn(told, run("forecast", own)[2])
+            self.assertIn(told, run("cheapest", own)[2])
 
     def test_damaged(self) -> None:
         refused, faults = damage.check(300, 7)
@@ -157,6 +184,32 @@ class Processes(unittest.TestCase):
         self.assertEqual(self.python("-m", "street_drill", "forecast", EXAMPLE).returncode, 0)
         wrong = self.python("-m", "street_drill", "forecast", "README.md")
         self.assertEqual((wrong.returncode, wrong.stdout, len(wrong.stderr.splitlines())), (2, "", 1))
+
+    def test_full_output(self) -> None:
+        for option in ["forecast", "cheapest"]:
+            with open("/dev/full", "w") as full:
+                command = [sys.executable, "-m", "street_drill", option, EXAMPLE]
+                ended = subprocess.run(command, cwd=PACKAGE, stdout=full, stderr=subprocess.PIPE, text=True)
+            told = "street_drill: standard output: No space left on device\n"
+            self.assertEqual((ended.returncode, ended.stderr), (1, told))
+
+    def test_interrupted(self) -> None:
+        """Ctrl-C in the middle of a long run: an end at once, without a word or a file, and without its workers."""
+        long = EXAMPLE.read_text().replace("= 120", "= 65536").replace("= 30", "= 36500") + "max_cost_perday = inf\n"
+        with tempfile.TemporaryDirectory() as name:
+            folder = Path(name)
+            (folder / "a.toml").write_text(long)
+            (folder / "b.toml").write_text(long)
+            for arguments in [["forecast", "a.toml", "--rows", "rows.csv"], ["cheapest", "a.toml"], ["region", "."]]:
+                command = subprocess.Popen([sys.executable, "-m", "street_drill", *arguments], cwd=folder, text=True,
+                                           env={**os.environ, "PYTHONPATH": str(PACKAGE)}, start_new_session=True,
+                                           stdout=subprocess.PIPE, stderr=subprocess.STDOUT)
+                time.sleep(2)
+                command.send_signal(signal.SIGINT)
+                # The pipe ends with the last process that has it.
+                said = command.communicate(timeout=20)[0]
+                self.assertEqual((command.returncode, said), (-signal.SIGINT, ""), arguments)
+                self.assertEqual(sorted(os.listdir(folder)), ["a.toml", "b.toml"])
 
     def test_no_library(self) -> None:
         elsewhere = {**os.environ, "STREET_DRILL_LIBRARY": "/none.so"}

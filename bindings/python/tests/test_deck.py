@@ -56,6 +56,15 @@ class Updated(unittest.TestCase):
         for card, later in zip(forecast.cards, after.cards, strict=True):
             self.assertEqual(later, replace(card, last_date=card.last_date - 20, due=card.due - 20))
 
+    def test_odd_names_come_back(self) -> None:
+        """Quotes, blanks and ends of lines in a street's name, as any reader of CSV takes them."""
+        names = ['Mill "Old" Lane', "a,b", "a\rb", "a\nb", "a\r\nb", " a ", '"', ""]
+        rows = "".join('"' + name.replace('"', '""') + '"' + ROW[9:] for name in names)
+        deck = of_text("d.csv", HEAD + rows)
+        forecast = simulate(SimulatorConfig(deck_size=8, learn_span=5), PARAMETERS, deck.cards)
+        after = of_text("d.csv", updated(deck, forecast.cards, 5))
+        self.assertEqual([row[0] for row in after.rows], names)
+
     def test_no_new_card(self) -> None:
         deck = of_text("d.csv", HEAD + UNKNOWN + ROW)
         forecast = simulate(SimulatorConfig(deck_size=4, learn_span=20, learn_limit=0), PARAMETERS, deck.cards)

@@ -94,6 +94,19 @@ class FloatModes(unittest.TestCase):
                 modes.fesetround(0)
         simulate(SMALL, PARAMETERS)
 
+    def test_subnormals(self) -> None:
+        """In MXCSR, the last word of x86-64's fenv_t, bit 15 flushes results to 0, and bit 6 takes subnormals for 0."""
+        modes, before = ctypes.CDLL(None), (ctypes.c_uint32 * 8)()
+        modes.fegetenv(before)
+        for bit in [15, 6]:
+            modes.fesetenv((ctypes.c_uint32 * 8)(*before[:7], before[7] | 1 << bit))
+            try:
+                with self.assertRaises(RuntimeError):
+                    simulate(SMALL, PARAMETERS)
+            finally:
+                modes.fesetenv(before)
+        simulate(SMALL, PARAMETERS)
+
 
 class Searches(unittest.TestCase):
     def test_as_the_whole_call(self) -> None:

@@ -12,7 +12,7 @@ import xml.etree.ElementTree
 from pathlib import Path
 
 from street_drill import Mistake, settings, simulate
-from street_drill.course import COLUMNS, Course, duration, of_runs
+from street_drill.course import COLUMNS, Course, duration, of_runs, opening
 from street_drill.listing import of_text
 from street_drill.page import _beside, page
 from street_drill.picture import axis
@@ -78,6 +78,13 @@ class Page(unittest.TestCase):
             self.assertEqual(sum(text.startswith("day ") for text in picture.itertext()), told)
         self.assertEqual(self.check(page([course], 121))[1].findall("circle"), [])
 
+    def test_mark_of_the_mean_s_day(self) -> None:
+        """Of several runs the mark lies on the strong line, which is their mean."""
+        course = runs_of("round", 5)
+        day = opening(course.bands["memorized"].mean, 100)
+        self.assertNotEqual(day, opening(course.columns["memorized"], 100))
+        self.assertIn(f"day {day}", list(self.check(page([course], 100))[1].itertext()))
+
     def test_a_line_for_each(self) -> None:
         courses = [runs_of(f"round <{number}>", 1) for number in range(10)]
         text = page(courses)
@@ -90,7 +97,7 @@ class Page(unittest.TestCase):
         for count in [1, 2, 4]:
             text = page([runs_of("round", 1), *[runs_of("other", 3)] * (count - 1)], 80)
             self.check(text)
-            self.assertEqual(text.count("from day"), count)
+            self.assertEqual(text.count("from day"), 2 * count - 1)
             self.assertEqual(text.count("in all, mean of 3 runs"), min(count - 1, 1))
 
     def test_table(self) -> None:

@@ -49,8 +49,8 @@ class Reading(unittest.TestCase):
             "[deck_size]": "s.toml: deck_size: must be a whole number and is a table",
             "seed = 1\nseed = 2\nreps = 3": "s.toml: line 2, column",
             "seed == 1": "s.toml: line 1, column",
-            "seed = " + "1" * 5000: "s.toml: a number is too long",
-            "seed = " + "[" * 5000: "s.toml: is no TOML",
+            "\nseed = " + "1" * 5000: "s.toml: line 2: a number is too long",
+            "\nseed = [\n" + "[" * 5000: "s.toml: line 3: lists lie too deep",
             "seed = 2020-13-41": "s.toml: ",
         }.items():
             self.assertIn(place, mistake_of(text))
