@@ -103,7 +103,8 @@ def _cheapest(options: argparse.Namespace) -> None:
     except Refusal as refusal:
         raise places.placed(given, known, refusal) from refusal
     if not math.isfinite(found.mean):
-        raise Mistake(given.path, "a trial held no street at its end, so no retention is the cheapest")
+        raise Mistake(given.path, "a trial cost no finite time for each street held, as where none is held in the end: "
+                      "no retention is the cheapest")
     print(f"{given.name}: retention {shortest(found.retention)} costs least, "
           f"{shortest(found.mean)} seconds for each street held ({found.rounds} rounds)")
 
