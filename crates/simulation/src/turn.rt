@@ -328,7 +328,8 @@ pub(crate) fn turn(
     match choice {
         Choice::Retire => retire_step(memorized, rows, config, m, card, len, draws),
         Choice::PutOff => put_off_step(cards, rows, due, config.learn_span, c, card, d, len, draws),
-        Choice::Learn => event_step(
+        // a learning or a review, by whether the card is new
+        _ => event_step(
             cards,
             counts,
             rows,
@@ -342,26 +343,7 @@ pub(crate) fn turn(
             m,
             c,
             copy_of(card),
-            true,
-            d,
-            len,
-            draws,
-        ),
-        Choice::Review => event_step(
-            cards,
-            counts,
-            rows,
-            days,
-            costs,
-            memorized,
-            due,
-            keys,
-            intervals,
-            config,
-            m,
-            c,
-            copy_of(card),
-            false,
+            cards::is_new(card.last_date),
             d,
             len,
             draws,

@@ -8,10 +8,10 @@ use Rattle.simulation.proofs.simulate.Statement.{statement}
 use Rattle.simulation.proofs.simulate.Tie as tie
 
 is-finite-requires : tie.Need-is-finite-requires
-is-finite-requires c κs = search needs
+is-finite-requires c κs = tt
 
 check-entry-requires : tie.Need-check-entry-requires
-check-entry-requires c κs = search needs
+check-entry-requires c κs = tt
 
 enum-known-entry : tie.Need-enum-known-entry
 enum-known-entry c = search needs

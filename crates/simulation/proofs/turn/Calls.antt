@@ -8,7 +8,7 @@
 use mathlib.Core.Path.{_≡_, refl, sym, ap, _∙_}
 use mathlib.Core.Bool.{Bool, true, false, true≢false, false≢true}
 use mathlib.Core.List.{List, [], _∷_}
-use mathlib.Core.Logic.{_≢_}
+use mathlib.Core.Logic.{_≢_, inl, inr}
 use native.Mathlib.Omega.{arith}
 use borrow.Author.Tests.{eq-eqb, ne-eqb}
 use types.Run.{OneOf}
@@ -22,7 +22,8 @@ use Rattle.cards.specs.declared.Choice.{Choice}
 use Rattle.cards.specs.declared.Choice.the-variants as choice
 use Rattle.cards.specs.Day.{dayOf, isNew}
 use Rattle.cards.specs.Cards.{cardAt}
-use Rattle.cards.specs.Choices.{choiceOf}
+use Rattle.cards.specs.Choices.{retires, blocked, choose, choiceOf}
+use Rattle.cards.proofs.Choice as choice-type
 use Rattle.days.specs.Counts.{learnedAt, reviewedAt}
 use Rattle.days.specs.Sums.{costAt, addCost}
 use Rattle.days.specs.Due.{addDue, noneDue}
@@ -198,6 +199,22 @@ module _ (R : Rules Float) (l : Lent Float) (len draws : ℕ) where
             let h = p .done y in
             rw (sym (h .1 .queue-is)) (record { outcome = h .0; lists = rw (h .1 .cards-are, h .1 .due-are) })
 
-    pub event-is : (new : Bool) (o : Outcome) (l′ : Lent Float) → act R st c k d ch ≡ eventOn R st c k new d
+    -- what is neither retired nor put off is learned or reviewed, by whether it is new
+    event-by : (a b n : Bool) → OneOf (2 ∷ 3 ∷ []) (tagOf choice-type.the-type (choose a b n))
+        → act R st c k d (choose a b n) ≡ eventOn R st c k n d
+    event-by true b n (inl e) = absurd (omega (arith, e))
+    event-by true b n (inr e) = absurd (omega (arith, e))
+    event-by false true n (inl e) = absurd (omega (arith, e))
+    event-by false true n (inr e) = absurd (omega (arith, e))
+    event-by false false true t = refl
+    event-by false false false t = refl
+
+    pub event-is : (new : Bool) (o : Outcome) (l′ : Lent Float) → new ≡ isNew (k .«last_date»)
+        → OneOf (2 ∷ 3 ∷ []) (tagOf choice-type.the-type ch)
         → TurnContract (eventOn R st c k new d) st o l′ → TurnContract (next R st) st o l′
-    event-is new o l′ e p = rw (next-is ∙ e) p
+    unfolding choiceOf
+    event-is new o l′ en t p =
+        let n = isNew (k .«last_date») in
+        let a = retires (R .span) (R .lapse-limit) k in
+        let b = blocked (R .limits) d n m r x in
+        rw (next-is ∙ ap (act R st c k d) eh ∙ event-by a b n (rw eh at t)) (rw en at p)

@@ -5,10 +5,10 @@ use Rattle.simulation.proofs.entry.check_cards.Statement.{statement}
 use Rattle.simulation.proofs.entry.check_cards.Tie as tie
 
 first-not-ok-requires : tie.Need-first-not-ok-requires
-first-not-ok-requires c κs = search needs
+first-not-ok-requires c κs = tt
 
 fail-if-requires : tie.Need-fail-if-requires
-fail-if-requires c κs = search needs
+fail-if-requires c κs = tt
 
 returns : tie.Need-returns
 unfolding checkFirst

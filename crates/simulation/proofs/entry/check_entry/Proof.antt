@@ -7,10 +7,10 @@ use Rattle.simulation.proofs.entry.check_entry.Statement.{statement}
 use Rattle.simulation.proofs.entry.check_entry.Tie as tie
 
 lists-ok-requires : tie.Need-lists-ok-requires
-lists-ok-requires c κs = search needs
+lists-ok-requires c κs = tt
 
 check-settings-requires : tie.Need-check-settings-requires
-check-settings-requires c κs = search needs
+check-settings-requires c κs = tt
 
 enum-told : tie.Need-enum-told
 enum-told c = search needs
@@ -33,7 +33,7 @@ cast-check-cards c =
     omega (arith, p .deck-most, p .existing-few)
 
 check-cards-requires : tie.Need-check-cards-requires
-check-cards-requires c κs = search needs
+check-cards-requires c κs = tt
 
 returns-2 : tie.Need-returns-2
 returns-2 c =

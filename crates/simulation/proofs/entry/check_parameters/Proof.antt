@@ -5,13 +5,13 @@ use Rattle.simulation.proofs.entry.check_parameters.Statement.{statemen
 use Rattle.simulation.proofs.entry.check_parameters.Tie as tie
 
 first-not-finite-requires : tie.Need-first-not-finite-requires
-first-not-finite-requires c κs = search needs
+first-not-finite-requires c κs = tt
 
 fail-if-requires : tie.Need-fail-if-requires
-fail-if-requires c κs = search needs
+fail-if-requires c κs = tt
 
 fail-if-requires-2 : tie.Need-fail-if-requires-2
-fail-if-requires-2 c κs = search needs
+fail-if-requires-2 c κs = tt
 
 returns : tie.Need-returns
 unfolding checkParameters

@@ -5,28 +5,28 @@ use Rattle.simulation.proofs.entry.check_settings.Statement.{statement}
 use Rattle.simulation.proofs.entry.check_settings.Tie as tie
 
 config-ok-requires : tie.Need-config-ok-requires
-config-ok-requires c κs = search needs
+config-ok-requires c κs = tt
 
 cast-fail-if : tie.Need-cast-fail-if
 cast-fail-if c = search needs
 
 fail-if-requires : tie.Need-fail-if-requires
-fail-if-requires c κs = search needs
+fail-if-requires c κs = tt
 
 fail-if-requires-2 : tie.Need-fail-if-requires-2
-fail-if-requires-2 c κs = search needs
+fail-if-requires-2 c κs = tt
 
 fail-if-requires-3 : tie.Need-fail-if-requires-3
-fail-if-requires-3 c κs = search needs
+fail-if-requires-3 c κs = tt
 
 fail-if-requires-4 : tie.Need-fail-if-requires-4
-fail-if-requires-4 c κs = search needs
+fail-if-requires-4 c κs = tt
 
 fail-if-requires-5 : tie.Need-fail-if-requires-5
-fail-if-requires-5 c κs = search needs
+fail-if-requires-5 c κs = tt
 
 check-parameters-requires : tie.Need-check-parameters-requires
-check-parameters-requires c κs = search needs
+check-parameters-requires c κs = tt
 
 returns : tie.Need-returns
 unfolding checkSettings

@@ -4,10 +4,10 @@ use Rattle.simulation.proofs.entry.is_bad.Statement.{statement}
 use Rattle.simulation.proofs.entry.is_bad.Tie as tie
 
 is-kept-requires : tie.Need-is-kept-requires
-is-kept-requires c κs = search needs
+is-kept-requires c κs = tt
 
 card-ok-requires : tie.Need-card-ok-requires
-card-ok-requires c κs = search needs
+card-ok-requires c κs = tt
 
 returns : tie.Need-returns
 returns c = rw (← c .before .before .is-kept .ensures, c .before .if1 .taken, ← c .card-ok .ensures)

@@ -11,7 +11,7 @@ cast-span : tie.Need-cast-span
 cast-span c = search needs
 
 due-days-requires : tie.Need-due-days-requires
-due-days-requires c κs = search needs
+due-days-requires c κs = tt
 
 returns : tie.Need-returns
 unfolding lengthsOk

@@ -11,34 +11,34 @@ cast-span : tie.Need-cast-span
 cast-span c = search needs
 
 due-days-requires : tie.Need-due-days-requires
-due-days-requires c κs = search needs
+due-days-requires c κs = tt
 
 number-if-requires : tie.Need-number-if-requires
-number-if-requires c κs = search needs
+number-if-requires c κs = tt
 
 number-if-requires-2 : tie.Need-number-if-requires-2
-number-if-requires-2 c κs = search needs
+number-if-requires-2 c κs = tt
 
 number-if-requires-3 : tie.Need-number-if-requires-3
-number-if-requires-3 c κs = search needs
+number-if-requires-3 c κs = tt
 
 number-if-requires-4 : tie.Need-number-if-requires-4
-number-if-requires-4 c κs = search needs
+number-if-requires-4 c κs = tt
 
 number-if-requires-5 : tie.Need-number-if-requires-5
-number-if-requires-5 c κs = search needs
+number-if-requires-5 c κs = tt
 
 number-if-requires-6 : tie.Need-number-if-requires-6
-number-if-requires-6 c κs = search needs
+number-if-requires-6 c κs = tt
 
 number-if-requires-7 : tie.Need-number-if-requires-7
-number-if-requires-7 c κs = search needs
+number-if-requires-7 c κs = tt
 
 number-if-requires-8 : tie.Need-number-if-requires-8
-number-if-requires-8 c κs = search needs
+number-if-requires-8 c κs = tt
 
 number-if-requires-9 : tie.Need-number-if-requires-9
-number-if-requires-9 c κs = search needs
+number-if-requires-9 c κs = tt
 
 returns : tie.Need-returns
 unfolding shortList

@@ -4,16 +4,16 @@ use Rattle.simulation.proofs.set_up.add_card.Statement.{statement}
 use Rattle.simulation.proofs.set_up.add_card.Tie as tie
 
 key-of-requires : tie.Need-key-of-requires
-key-of-requires c κs = search needs
+key-of-requires c κs = tt
 
 write-floats-requires : tie.Need-write-floats-requires
-write-floats-requires c κs = search needs
+write-floats-requires c κs = tt
 
 write-counts-requires : tie.Need-write-counts-requires
-write-counts-requires c κs = search needs
+write-counts-requires c κs = tt
 
 push-requires : tie.Need-push-requires
-push-requires c κs = search needs
+push-requires c κs = tt
 
 same-length : tie.Need-same-length
 same-length c = search needs

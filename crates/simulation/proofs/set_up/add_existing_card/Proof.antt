@@ -5,16 +5,16 @@ use Rattle.simulation.proofs.set_up.add_existing_card.Statement.{statem
 use Rattle.simulation.proofs.set_up.add_existing_card.Tie as tie
 
 is-kept-requires : tie.Need-is-kept-requires
-is-kept-requires c κs = search needs
+is-kept-requires c κs = tt
 
 add-card-requires : tie.Need-add-card-requires
-add-card-requires c κs = search needs
+add-card-requires c κs = tt
 
 day-of-requires : tie.Need-day-of-requires
-day-of-requires c κs = search needs
+day-of-requires c κs = tt
 
 add-due-requires : tie.Need-add-due-requires
-add-due-requires c κs = search needs
+add-due-requires c κs = tt
 
 same-length : tie.Need-same-length
 same-length c = search needs

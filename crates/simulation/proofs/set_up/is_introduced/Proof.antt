@@ -4,10 +4,10 @@ use Rattle.simulation.proofs.set_up.is_introduced.Statement.{statement}
 use Rattle.simulation.proofs.set_up.is_introduced.Tie as tie
 
 is-kept-requires : tie.Need-is-kept-requires
-is-kept-requires c κs = search needs
+is-kept-requires c κs = tt
 
 is-new-requires : tie.Need-is-new-requires
-is-new-requires c κs = search needs
+is-new-requires c κs = tt
 
 returns : tie.Need-returns
 returns c = rw (← c .before .before .is-kept .ensures, c .before .if1 .taken, ← c .is-new .ensures)

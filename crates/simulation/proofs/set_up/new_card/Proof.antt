@@ -6,10 +6,10 @@ use Rattle.simulation.proofs.set_up.new_card.Statement.{statement}
 use Rattle.simulation.proofs.set_up.new_card.Tie as tie
 
 quotient-requires : tie.Need-quotient-requires
-quotient-requires c κs = search needs
+quotient-requires c κs = tt
 
 from-u32-requires : tie.Need-from-u32-requires
-from-u32-requires c κs = search needs
+from-u32-requires c κs = tt
 
 returns : tie.Need-returns
 unfolding newCard ofBits ofFields div neg

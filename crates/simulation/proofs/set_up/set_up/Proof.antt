@@ -13,31 +13,31 @@ add-first-due : tie.Need-add-first-due
 add-first-due c = search needs
 
 first-due-requires : tie.Need-first-due-requires
-first-due-requires c κs = search needs
+first-due-requires c κs = tt
 
 add-existing-cards-requires : tie.Need-add-existing-cards-requires
-add-existing-cards-requires c κs = search needs
+add-existing-cards-requires c κs = tt
 
 new-card-count-requires : tie.Need-new-card-count-requires
-new-card-count-requires c κs = search needs
+new-card-count-requires c κs = tt
 
 add-new-cards-requires : tie.Need-add-new-cards-requires
-add-new-cards-requires c κs = search needs
+add-new-cards-requires c κs = tt
 
 introduced-before-requires : tie.Need-introduced-before-requires
-introduced-before-requires c κs = search needs
+introduced-before-requires c κs = tt
 
 first-day-counts-requires : tie.Need-first-day-counts-requires
-first-day-counts-requires c κs = search needs
+first-day-counts-requires c κs = tt
 
 first-zeros-requires : tie.Need-first-zeros-requires
-first-zeros-requires c κs = search needs
+first-zeros-requires c κs = tt
 
 first-zeros-requires-2 : tie.Need-first-zeros-requires-2
-first-zeros-requires-2 c κs = search needs
+first-zeros-requires-2 c κs = tt
 
 clear-requires : tie.Need-clear-requires
-clear-requires c κs = search needs
+clear-requires c κs = tt
 
 same-length : tie.Need-same-length
 same-length c = search needs

@@ -4,7 +4,7 @@ use Rattle.simulation.proofs.turn.add_forgetting_curve.Statement.{state
 use Rattle.simulation.proofs.turn.add_forgetting_curve.Tie as tie
 
 is-new-requires : tie.Need-is-new-requires
-is-new-requires c κs = search needs
+is-new-requires c κs = tt
 
 returns : tie.Need-returns
 unfolding addForgettingCurve
@@ -13,10 +13,10 @@ returns c =
     rw (← at-is-new .is-new .ensures, c .if1 .taken)
 
 to-u32-requires : tie.Need-to-u32-requires
-to-u32-requires c κs = search needs
+to-u32-requires c κs = tt
 
 add-forgetting-curve-range-requires : tie.Need-add-forgetting-curve-range-requires
-add-forgetting-curve-range-requires c κs = search needs
+add-forgetting-curve-range-requires c κs = tt
 
 same-length : tie.Need-same-length
 same-length c = search needs

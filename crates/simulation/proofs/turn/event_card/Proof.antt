@@ -5,13 +5,13 @@ use Rattle.simulation.proofs.turn.event_card.Statement.{statement}
 use Rattle.simulation.proofs.turn.event_card.Tie as tie
 
 from-u32-requires : tie.Need-from-u32-requires
-from-u32-requires c κs = search needs
+from-u32-requires c κs = tt
 
 saturating-suc-requires : tie.Need-saturating-suc-requires
-saturating-suc-requires c κs = search needs
+saturating-suc-requires c κs = tt
 
 lapses-after-requires : tie.Need-lapses-after-requires
-lapses-after-requires c κs = search needs
+lapses-after-requires c κs = tt
 
 returns : tie.Need-returns
 unfolding cardAfterEvent

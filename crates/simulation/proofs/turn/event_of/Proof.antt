@@ -5,13 +5,13 @@ use Rattle.simulation.proofs.turn.event_of.Statement.{statement}
 use Rattle.simulation.proofs.turn.event_of.Tie as tie
 
 from-u32-requires : tie.Need-from-u32-requires
-from-u32-requires c κs = search needs
+from-u32-requires c κs = tt
 
 retention-requires : tie.Need-retention-requires
-retention-requires c κs = search needs
+retention-requires c κs = tt
 
 event-at-requires : tie.Need-event-at-requires
-event-at-requires c κs = search needs
+event-at-requires c κs = tt
 
 returns : tie.Need-returns
 unfolding chanceOn eventOf

@@ -12,7 +12,7 @@ use Rattle.simulation.proofs.turn.event_step.Statement.{statement}
 use Rattle.simulation.proofs.turn.event_step.Tie as tie
 
 curve-requires : tie.Need-curve-requires
-curve-requires c κs = search needs
+curve-requires c κs = tt
 
 event-of-requires : tie.Need-event-of-requires
 event-of-requires c κs = search needs
@@ -37,10 +37,10 @@ returns c =
     (at-event-of .event-of .ensures) (not-happened _ (at-match .match .keys2))
 
 scheduled-interval-requires : tie.Need-scheduled-interval-requires
-scheduled-interval-requires c κs = search needs
+scheduled-interval-requires c κs = tt
 
 is-full-requires : tie.Need-is-full-requires
-is-full-requires c κs = search needs
+is-full-requires c κs = tt
 
 same-length : tie.Need-same-length
 same-length c = search needs
@@ -67,25 +67,25 @@ returns-2 c =
     (c .if1 .taken)
 
 interval-in-requires : tie.Need-interval-in-requires
-interval-in-requires c κs = search needs
+interval-in-requires c κs = tt
 
 event-card-requires : tie.Need-event-card-requires
-event-card-requires c κs = search needs
+event-card-requires c κs = tt
 
 write-card-requires : tie.Need-write-card-requires
-write-card-requires c κs = search needs
+write-card-requires c κs = tt
 
 write-days-requires : tie.Need-write-days-requires
 write-days-requires c κs = search needs
 
 day-of-requires : tie.Need-day-of-requires
-day-of-requires c κs = search needs
+day-of-requires c κs = tt
 
 add-due-requires : tie.Need-add-due-requires
-add-due-requires c κs = search needs
+add-due-requires c κs = tt
 
 enter-slot-requires : tie.Need-enter-slot-requires
-enter-slot-requires c κs = search needs
+enter-slot-requires c κs = tt
 
 same-length-3 : tie.Need-same-length-3
 same-length-3 c = search needs

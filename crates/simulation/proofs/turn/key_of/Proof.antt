@@ -4,13 +4,13 @@ use Rattle.simulation.proofs.turn.key_of.Statement.{statement}
 use Rattle.simulation.proofs.turn.key_of.Tie as tie
 
 day-of-requires : tie.Need-day-of-requires
-day-of-requires c κs = search needs
+day-of-requires c κs = tt
 
 is-new-requires : tie.Need-is-new-requires
-is-new-requires c κs = search needs
+is-new-requires c κs = tt
 
 card-priority-requires : tie.Need-card-priority-requires
-card-priority-requires c κs = search needs
+card-priority-requires c κs = tt
 
 returns : tie.Need-returns
 returns c = rw (c .card-priority .ensures, c .before .before .day-of .ensures, c .before .is-new .ensures)

@@ -10,7 +10,7 @@ returns-2 : tie.Need-returns-2
 returns-2 c = rw (c .before .if1 .left, c .if2 .taken)
 
 saturating-suc-requires : tie.Need-saturating-suc-requires
-saturating-suc-requires c κs = search needs
+saturating-suc-requires c κs = tt
 
 returns-3 : tie.Need-returns-3
 returns-3 c = rw (c .before .before .if1 .left, c .before .if2 .left, c .saturating-suc .ensures)

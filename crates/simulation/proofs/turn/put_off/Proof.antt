@@ -5,25 +5,25 @@ use Rattle.simulation.proofs.turn.put_off.Statement.{statement}
 use Rattle.simulation.proofs.turn.put_off.Tie as tie
 
 is-new-requires : tie.Need-is-new-requires
-is-new-requires c κs = search needs
+is-new-requires c κs = tt
 
 put-off-card-requires : tie.Need-put-off-card-requires
-put-off-card-requires c κs = search needs
+put-off-card-requires c κs = tt
 
 day-after-requires : tie.Need-day-after-requires
-day-after-requires c κs = search needs
+day-after-requires c κs = tt
 
 card-priority-requires : tie.Need-card-priority-requires
-card-priority-requires c κs = search needs
+card-priority-requires c κs = tt
 
 write-floats-requires : tie.Need-write-floats-requires
-write-floats-requires c κs = search needs
+write-floats-requires c κs = tt
 
 change-front-requires : tie.Need-change-front-requires
-change-front-requires c κs = search needs
+change-front-requires c κs = tt
 
 move-due-requires : tie.Need-move-due-requires
-move-due-requires c κs = search needs
+move-due-requires c κs = tt
 
 same-length : tie.Need-same-length
 same-length c = search needs

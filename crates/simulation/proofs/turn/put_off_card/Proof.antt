@@ -5,7 +5,7 @@ use Rattle.simulation.proofs.turn.put_off_card.Statement.{statement}
 use Rattle.simulation.proofs.turn.put_off_card.Tie as tie
 
 from-u32-requires : tie.Need-from-u32-requires
-from-u32-requires c κs = search needs
+from-u32-requires c κs = tt
 
 returns : tie.Need-returns
 unfolding cardAfterPutOff

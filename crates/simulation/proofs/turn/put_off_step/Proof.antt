@@ -5,10 +5,10 @@ use Rattle.simulation.proofs.turn.put_off_step.Statement.{statement}
 use Rattle.simulation.proofs.turn.put_off_step.Tie as tie
 
 is-new-requires : tie.Need-is-new-requires
-is-new-requires c κs = search needs
+is-new-requires c κs = tt
 
 none-due-requires : tie.Need-none-due-requires
-none-due-requires c κs = search needs
+none-due-requires c κs = tt
 
 same-length : tie.Need-same-length
 same-length c = search needs
@@ -24,7 +24,7 @@ returns c =
     (c .if1 .taken)
 
 put-off-requires : tie.Need-put-off-requires
-put-off-requires c κs = search needs
+put-off-requires c κs = tt
 
 same-length-2 : tie.Need-same-length-2
 same-length-2 c = search needs

@@ -7,13 +7,13 @@ use Rattle.simulation.proofs.turn.retire_step.Statement.{statement}
 use Rattle.simulation.proofs.turn.retire_step.Tie as tie
 
 curve-requires : tie.Need-curve-requires
-curve-requires c κs = search needs
+curve-requires c κs = tt
 
 add-forgetting-curve-requires : tie.Need-add-forgetting-curve-requires
 add-forgetting-curve-requires c κs = search needs
 
 pop-requires : tie.Need-pop-requires
-pop-requires c κs = search needs
+pop-requires c κs = tt
 
 same-length : tie.Need-same-length
 same-length c = search needs

@@ -4,16 +4,16 @@ use Rattle.simulation.proofs.turn.write_card.Statement.{statement}
 use Rattle.simulation.proofs.turn.write_card.Tie as tie
 
 key-of-requires : tie.Need-key-of-requires
-key-of-requires c κs = search needs
+key-of-requires c κs = tt
 
 write-floats-requires : tie.Need-write-floats-requires
-write-floats-requires c κs = search needs
+write-floats-requires c κs = tt
 
 write-counts-requires : tie.Need-write-counts-requires
-write-counts-requires c κs = search needs
+write-counts-requires c κs = tt
 
 change-front-requires : tie.Need-change-front-requires
-change-front-requires c κs = search needs
+change-front-requires c κs = tt
 
 same-length : tie.Need-same-length
 same-length c = search needs
