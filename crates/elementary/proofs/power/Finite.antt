@@ -25,7 +25,7 @@ use Rattle.elementary.specs.Accuracy.{signOf, RatioGe, RatioLe, PowGe, P
 use Rattle.elementary.proofs.power.Shown.{Shown}
 use Rattle.elementary.proofs.exp2.Words.{exp2-le}
 use Rattle.elementary.proofs.power.Law.{near-law}
-use Rattle.elementary.proofs.power.Steps.{near-one, near-to-zero}
+use Rattle.elementary.proofs.power.Steps.{near-is, near-one, near-to-zero}
 use Rattle.elementary.proofs.large.Law.{large-law}
 
 -- ---- 1^y
@@ -141,10 +141,6 @@ from-one b c e = go (lt-or-ge (c % 2 ^ 31) 0x43000001)
 
 pub to-zero : (b c : ℕ) → 0 < b → b < 0x7F800000 → c % 2 ^ 31 ≡ 0 → powBits b c ≡ 0x3F800000
 to-zero b c B h e = is-near b c (omega arith) ∙ near-to-zero b c B h e
-
-near-is : (b c : ℕ) → nearBits b c ≡ exp2Bits (argOf (log2Of (normalized b)) c)
-unfolding nearBits
-near-is b c = refl
 
 large-is : (b c : ℕ) → largeBits b c ≡ exp2Bits (largeArg (squared (normalized b) c) c)
 unfolding largeBits

@@ -6,7 +6,7 @@
 --   arg-quick, arg-other         the exponent of 2 is as promised, in the quick arm and elsewhere
 --   log-most                     log2 x counted from 1
 --   pattern-asked, arg-asked     what the two steps ask
---   pow-from                     nearBits from the code's steps
+--   near-is, pow-from            nearBits, and from the code's steps
 --   quick-from                   the quick arm's test
 --   near-to-zero, near-one       x^0 and 1^y
 use mathlib.Core.Path.{_≡_, refl, sym, ap, ap₂, _∙_, subst}
@@ -151,13 +151,13 @@ arg-asked b c p l false B h k f ep el =
       other = λ _. rw (el ∙ ap log2Of ep) (log-range (normalized b) (P .least) (P .most));
     }
 
-pow-is : (b c : ℕ) → nearBits b c ≡ exp2Bits (argOf (log2Of (normalized b)) c)
+pub near-is : (b c : ℕ) → nearBits b c ≡ exp2Bits (argOf (log2Of (normalized b)) c)
 unfolding nearBits
-pow-is b c = refl
+near-is b c = refl
 
 pub pow-from : (b c p l z : ℕ) (q : Bool) → (q ≡ true → Quick b c) → p ≡ cond q (b - 0x3F800000) (normalized b)
     → l ≡ log2Of p → ArgIs l c q z → exp2Bits (cond q (z + 2 ^ 55) z) ≡ nearBits b c
-pow-from b c p l z q f ep el a = ap exp2Bits (a .is ∙ ap (λ (x : ℕ). argOf x c) (go q f ep)) ∙ sym (pow-is b c)
+pow-from b c p l z q f ep el a = ap exp2Bits (a .is ∙ ap (λ (x : ℕ). argOf x c) (go q f ep)) ∙ sym (near-is b c)
   where
     go : (q : Bool) → (q ≡ true → Quick b c) → p ≡ cond q (b - 0x3F800000) (normalized b)
         → cond q (l + 159 * 2 ^ 32) l ≡ log2Of (normalized b)
@@ -190,7 +190,7 @@ near-to-zero b c B h e =
     let r = log-range (normalized b) (parts b B h .least) (parts b B h .most) in
     let g : absDiff l (159 * 2 ^ 32) ≤ 639950127104 = diff-le (159 * 2 ^ 32) l 639950127104 (omega (arith, r))
     (omega (arith, r)) in
-    pow-is b c
+    near-is b c
     ∙ ap exp2Bits (arg-is l c ∙ ap (signedArg (159 * 2 ^ 32) l c)
     (sym (product-none (absDiff l (159 * 2 ^ 32)) (c % 2 ^ 31) g (omega arith))) ∙ unsigned (159 * 2 ^ 32) l c)
     ∙ one-is
@@ -207,7 +207,7 @@ no-product a =
 
 pub near-one : (c : ℕ) → nearBits 0x3F800000 c ≡ 0x3F800000
 near-one c =
-    pow-is 0x3F800000 c
+    near-is 0x3F800000 c
     ∙ ap (λ (l : ℕ). exp2Bits (argOf l c)) log-one
     ∙ ap exp2Bits (arg-is (159 * 2 ^ 32) c ∙ ap (signedArg (159 * 2 ^ 32) (159 * 2 ^ 32) c) (no-product (c % 2 ^ 31))
     ∙ unsigned (159 * 2 ^ 32) (159 * 2 ^ 32) c)
