@@ -21,11 +21,13 @@ use Rattle.brent.specs.declared.Parabola.{Parabola}
 use Rattle.float32.specs.Numbers.{0ᶠ}
 use Rattle.brent.specs.Step.{cg, two, tol1, tol2, middle, converged, toEnd, golden, parabola, useful, nearEnd}
 use Rattle.brent.specs.Step.{inward, fitted, parabolic, moved, stepped, trialOf, trial}
-use Rattle.brent.proofs.Values.{N, At, In, Place, placed, rounded-in, le-vals, below-yes, round-flip, neg-value}
-use Rattle.brent.proofs.Values.{mul-at, minus-over, minus-under, step-up, step-down, widen, at-in}
+use Rattle.brent.proofs.Values.{le-vals, below-yes, round-flip, neg-value}
+use Rattle.brent.proofs.Multiples.{N, At, In, Place, placed, rounded-in, widen, at-in}
+use Rattle.brent.proofs.Operations.{mul-at, minus-over, minus-under, step-up, step-down}
 use Rattle.brent.proofs.Measures.{tol1-in, tol2-in, middle-at, Room, room}
-use Rattle.brent.proofs.Moves.{Fit, forth, hither, fit-moves, mulAdd-fits, Roomy, ahead, back, none, Strides}
-use Rattle.brent.proofs.Moves.{right, left, sign-yes, sign-no, stepped-strides}
+use Rattle.brent.proofs.Quotients.{Fit, forth, hither, fit-moves, mulAdd-fits}
+use Rattle.brent.proofs.Moves.{Roomy, ahead, back, none, Strides, right, left, sign-yes, sign-no}
+use Rattle.brent.proofs.Moves.{stepped-strides}
 use Rattle.brent.proofs.Range.{Ranged}
 
 cg-is : HasValue cg false 12816652 (2 ^ 25)

@@ -15,7 +15,7 @@ use lib.Ieee.Order.{le-of-values}
 use Rattle.float32.specs.Float32 as Float32
 use Rattle.brent.specs.declared.Brent.{Brent}
 use Rattle.brent.specs.Step.{rMin, rMax, begun, within}
-use Rattle.brent.proofs.Values.{N, At}
+use Rattle.brent.proofs.Multiples.{N, At}
 use Rattle.brent.proofs.Measures.{kMin, kMax}
 
 -- the ends and the best retention are multiples of 2^-24, in order, within 0.70 to 0.95

@@ -14,7 +14,8 @@ use lib.Ieee.Bits.{is-true}
 use lib.Ieee.Order.{le-of-values}
 use Rattle.brent.specs.declared.Brent.{Brent}
 use Rattle.brent.specs.Step.{converged, trial, afterWorse, afterBetter, afterTrial, stepOf}
-use Rattle.brent.proofs.Values.{N, At, Place, le-vals, below-no, below-yes, at-least, at-most}
+use Rattle.brent.proofs.Values.{le-vals, below-no, below-yes}
+use Rattle.brent.proofs.Multiples.{N, At, Place, at-least, at-most}
 use Rattle.brent.proofs.Moves.{Strides, right, left}
 use Rattle.brent.proofs.Range.{Ranged}
 use Rattle.brent.proofs.Between.{trial-strides, trial-place}
