@@ -2,7 +2,7 @@
 --   count-free, count-used, count-zero   the count, place by place
 --   count-places                         no more keys are held than the table is long
 --   full-count, free-count               Full: as many as it is long; Free: fewer
---   full-iff                             Full: the key is not held and as many are held as the table is long, and only so
+--   full-iff                             Full: the key is not held and as many are held as it is long, and only then
 --   count-same, count-more               as many where the same places are used; one more where one place more is
 use mathlib.Core.Path.{_≡_, refl, sym, _∙_, ap}
 use mathlib.Core.Bool.{true, false}

@@ -27,7 +27,8 @@ pub record Changed (q : Queue) (key : ℕ) (q′ : Queue) : Type 0 where
   pub beyond : (i : ℕ) → q .len ≤ i → getD (q′ .rows) i [] ≡ getD (q .rows) i []
 
 module _ (q : Queue) (key : ℕ) where
-  pub rekeyed-first : 0 < length (q .rows) → getD (rekeyed (q .rows) key) 0 [] ≡ key ∷ getD (getD (q .rows) 0 []) 1 0 ∷ []
+  pub rekeyed-first : 0 < length (q .rows)
+      → getD (rekeyed (q .rows) key) 0 [] ≡ key ∷ getD (getD (q .rows) 0 []) 1 0 ∷ []
   rekeyed-first l = getD-set-same (q .rows) 0 (key ∷ getD (getD (q .rows) 0 []) 1 0 ∷ []) [] l
 
   pub rekeyed-other : (i : ℕ) → i ≢ 0 → getD (rekeyed (q .rows) key) i [] ≡ getD (q .rows) i []

@@ -74,8 +74,8 @@ pub form-good : (n : Name) (ps : List Part) (st st′ : Settings) → leb 10 (pl
 unfolding form
 form-good n ps st st′ p q e = rw (p, q) e
 
-pub line-back : (name : List ℕ) (ws : List (List ℕ)) (n : Name) (st st′ : Settings) → Word name → AllWords ws → nameOf name
-    ≡ n → form n (wordsThen ws) st ≡ accepted st′
+pub line-back : (name : List ℕ) (ws : List (List ℕ)) (n : Name) (st st′ : Settings) → Word name → AllWords ws
+    → nameOf name ≡ n → form n (wordsThen ws) st ≡ accepted st′
     → line (parts (formText name ws)) st ≡ accepted st′
 unfolding line named
 line-back name ws n st st′ p a e f = rw (form-parts name ws p a, e) f
@@ -177,7 +177,8 @@ word-all = record { whole = refl; some = omega arith }
 
 -- ---- lengths
 
-pub form-length : (name : List ℕ) (ws : List (List ℕ)) → length (formText name ws) ≡ 1 + length name + length (spaced ws)
+pub form-length : (name : List ℕ) (ws : List (List ℕ))
+    → length (formText name ws) ≡ 1 + length name + length (spaced ws)
 unfolding formText
 form-length name ws = omega (arith, length-append name (spaced ws))
 

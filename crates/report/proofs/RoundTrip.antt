@@ -51,7 +51,8 @@ module _ (s base : Settings) (ok : Expressible s) where
                   (
                     form-noFeed (bytes "first") (hexes (s .first)) word-first (hexes-words (s .first)),
                     (
-                      form-noFeed (bytes "cost") ((bytes "all") ∷ hex (getD (s .cost) 0 0) ∷ []) word-cost (cost-words s base ok),
+                      form-noFeed (bytes "cost") ((bytes "all") ∷ hex (getD (s .cost) 0 0) ∷ []) word-cost
+                          (cost-words s base ok),
                       tt,
                     ),
                   ),
