@@ -20,8 +20,9 @@ use Rattle.brent.specs.Search.{searchOn, search, Lawful, RefusedBy}
 use Rattle.brent.specs.Stepping.{started, goesOn, nextRetention, takenIn, takeMean, fed, AskedWithin}
 use Rattle.brent.proofs.Driven.{tried-same}
 use Rattle.brent.proofs.Measures.{kMin}
-use Rattle.brent.proofs.Range as Range
-use Rattle.brent.proofs.Range.{Ranged, trial-place, begun-ranged, rMin-at, within-at}
+use Rattle.brent.proofs.Rounds as Rounds
+use Rattle.brent.proofs.Range.{Ranged, begun-ranged, rMin-at, within-at}
+use Rattle.brent.proofs.Between.{trial-place}
 
 trial-within : (s : Brent) → Ranged s → converged s ≡ false → T (within (trial s .u))
 trial-within s r e =
@@ -45,7 +46,7 @@ module _ {W R : Type 0} (run run' : W → Float → Sampled W R)
       (agree w (trial s .u) (trial-within s r e))
       ∙ tried-same (trial s .u) (run' w (trial s .u)) (λ after mean. searchOn run n after (stepOf s mean))
       (λ after mean. searchOn run' n after (stepOf s mean))
-      (λ after mean. h after mean (Range.next s r e mean .to)))
+      (λ after mean. h after mean (Rounds.next s r e mean .to)))
 
   same-on : (n : ℕ) (w : W) (s : Brent) → Ranged s → searchOn run n w s ≡ searchOn run' n w s
   unfolding searchOn
@@ -85,7 +86,7 @@ module _ {W R : Type 0} (run : W → Float → Sampled W R) (P : W → Type 0) (
   ends-turn n w s r p h false e =
       rw e
       (trial-ends (trial s .u) (run w (trial s .u)) (λ after mean. searchOn run n after (stepOf s mean))
-      (lawful w (trial s .u) p (trial-within s r e)) (λ after mean q. h after mean q (Range.next s r e mean .to)))
+      (lawful w (trial s .u) p (trial-within s r e)) (λ after mean q. h after mean q (Rounds.next s r e mean .to)))
 
   ends-on : (n : ℕ) (w : W) (s : Brent) → Ranged s → P w → Ends (searchOn run n w s)
   unfolding searchOn ended
@@ -118,7 +119,7 @@ unfolding takenIn
 taken-ranged rounds s mean r = go (goesOn rounds s) refl
   where
     go : (b : Bool) → goesOn rounds s ≡ b → Ranged (cond b (stepOf s mean) s)
-    go true e = Range.next s r (going-open rounds s e) mean .to
+    go true e = Rounds.next s r (going-open rounds s e) mean .to
     go false e = r
 
 take-kept : (t : Stepper) (mean : Float) → Kept t → Kept (takeMean t mean)

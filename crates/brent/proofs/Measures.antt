@@ -22,8 +22,9 @@ use Rattle.float32.specs.Float32 as Float32
 use Rattle.float32.specs.Ops.{_+ᶠ_, _-ᶠ_, _*ᶠ_}
 use Rattle.float32.proofs.Sums.{sum-like, sum-under, Order, less, same, more, order}
 use Rattle.brent.specs.Step.{tol, minTol, two, half, tol1, tol2, middle}
-use Rattle.brent.proofs.Values.{N, At, In, InOf, Place, placed, rounded-in, rounded-in-of, add-at, mul-at}
-use Rattle.brent.proofs.Values.{mulAdd-at, minus-over, minus-under, neg-value, abs-value, scaled, below-yes}
+use Rattle.brent.proofs.Values.{neg-value, abs-value, scaled, below-yes}
+use Rattle.brent.proofs.Multiples.{N, At, In, InOf, Place, placed, rounded-in, rounded-in-of}
+use Rattle.brent.proofs.Operations.{add-at, mul-at, mulAdd-at, minus-over, minus-under}
 
 -- 0.70 and 0.95
 abbrev pub kMin : ℕ

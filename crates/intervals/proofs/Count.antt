@@ -18,9 +18,10 @@ use Rattle.intervals.specs.Table.{Table, places, freeAt, valueAt, lookup
 use Rattle.intervals.specs.Table.{Stands}
 use Rattle.intervals.proofs.Probe.{true-false, lookup-at-is}
 use Rattle.intervals.proofs.Change.{same-is, same-self}
-use Rattle.intervals.proofs.Laws.{Answer, at, room, full, answer, free-none, full-none, stands-held}
+use Rattle.intervals.proofs.Held.{Answer, at, room, full, answer, free-none, full-none, stands-held, some-none}
+use Rattle.intervals.proofs.Used.{count-free, count-used, count-zero}
+use Rattle.intervals.proofs.Longer.{SameEntries}
 use Rattle.intervals.specs.Table.{Sound}
-use Rattle.intervals.proofs.Laws.{some-none, count-free, count-used, count-zero, SameEntries}
 
 -- how many numbers below n pass a test
 count-if : (ℕ → Bool) → ℕ → ℕ

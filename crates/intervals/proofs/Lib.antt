@@ -3,7 +3,11 @@ pub mod Fill
 pub mod Steps
 pub mod Probe
 pub mod Change
-pub mod Laws
+pub mod Held
+pub mod Used
+pub mod Emptied
+pub mod Entered
+pub mod Longer
 pub mod Count
 pub mod Schedule
 pub mod Patterns

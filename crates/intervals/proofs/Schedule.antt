@@ -13,7 +13,7 @@
 --     finds, test by test
 --     scheduled-used  the fresh interval never marks a free place
 use mathlib.Core.Path.{_≡_, refl, sym, ap, _∙_}
-use mathlib.Core.Bool.{Bool, true, false}
+use mathlib.Core.Bool.{Bool, true, false, cond}
 use mathlib.Core.List.{[], _∷_}
 use mathlib.Core.Logic.{_↔_, ⊎-elim}
 use mathlib.Core.Option.{none}
@@ -22,10 +22,10 @@ use native.Mathlib.Decide.{ℕ-discrete}
 use native.Mathlib.Omega.{arith}
 use types.Run.{OneOf}
 use denote.Enum.Declared.{tagOf}
-use lib.Ieee.{Float}
-use Rattle.float32.specs.Float32.{max}
+use lib.Ieee.{Float, lt, ofBits, ofFields}
+use Rattle.float32.specs.Float32.{max, clamp}
 use Rattle.float32.specs.Ops.{_+ᶠ_, _-ᶠ_}
-use Rattle.float32.specs.Numbers.{0ᶠ}
+use Rattle.float32.specs.Numbers.{0ᶠ, 1ᶠ}
 use Rattle.model.specs.Constants.{half}
 use Rattle.model.specs.Model.{Curves, ofStability, scheduled}
 use Rattle.model.specs.Model as Model
@@ -42,9 +42,10 @@ use Rattle.intervals.proofs.Entry as entry-type
 use Rattle.intervals.proofs.Slot as slot-type
 use Rattle.intervals.proofs.Probe.{true-false, lookup-at-is}
 use Rattle.intervals.proofs.Change.{enter-places, value-same, free-other, value-other}
-use Rattle.intervals.proofs.Laws.{clamp-used, Takes, new, again, takes-within, enter-sound, full-iff}
+use Rattle.intervals.proofs.Used.{full-iff}
+use Rattle.intervals.proofs.Entered.{Takes, new, again, takes-within, enter-sound}
+use Rattle.intervals.proofs.Longer.{SameEntries, Match, both-at, both-free, first-full, same-lookup, same-enter}
 use Rattle.intervals.specs.Table.{Sound}
-use Rattle.intervals.proofs.Laws.{SameEntries, Match, both-at, both-free, first-full, same-lookup, same-enter}
 
 module _ (t : Table) (s r : ℕ) (certified : Float → Bool) (fresh : Float) where
   -- by what the lookup found
@@ -223,6 +224,21 @@ pub not-found : (f : Entry) → OneOf (1 ∷ 2 ∷ []) (tagOf entry-type.the-typ
 not-found (entry.Found p v) a b = absurd (⊎-elim (λ e. omega arith) (λ e. omega arith) a)
 not-found (entry.Free p) a b = absurd (⊎-elim (λ e. omega arith) (λ e. omega arith) b)
 not-found entry.Full a b = refl
+
+one-used : isFree 1ᶠ ≡ false
+unfolding lt ofBits ofFields
+one-used = refl
+
+-- what is clamped between 1 and a maximum that is not below 1 does not mark a free place
+clamp-by : (x hi : Float) (a b : Bool) → lt x 1ᶠ ≡ a → lt hi x ≡ b → isFree hi ≡ false
+    → isFree (cond a 1ᶠ (cond b hi x)) ≡ false
+clamp-by x hi true b e f h = one-used
+clamp-by x hi false true e f h = h
+clamp-by x hi false false e f h = e
+
+clamp-used : (x hi : Float) → isFree hi ≡ false → isFree (clamp x 1ᶠ hi) ≡ false
+unfolding clamp
+clamp-used x hi h = clamp-by x hi (lt x 1ᶠ) (lt hi x) refl refl h
 
 -- the fresh interval never marks a free place
 pub scheduled-used : (curves : Curves) (stability retention most : Float) → isFree most ≡ false

@@ -3,6 +3,11 @@ pub mod Loops
 pub mod Order
 pub mod Steps
 pub mod Settled
-pub mod Laws
+pub mod Queued
+pub mod Change
+pub mod Pop
+pub mod Push
+pub mod Keyed
+pub mod Filled
 pub mod Keys
 pub mod Frame

@@ -2,6 +2,7 @@
 --   Mixed len rows₀ rows              the same rows in another order
 --   mixed-none                        rows with no card twice are so of themselves
 --   Settled len rows₀ rows            the same rows, in heap order
+--   settled-sound                     a queue of such rows is sound
 --   bubble-settles, heapify-settles   each loop leaves the rows so
 use mathlib.Core.Path.{_≡_, refl, sym, _∙_}
 use mathlib.Core.List.{List, []}
@@ -10,7 +11,8 @@ use Prim.Native.Nat.{ℕ, _+_, _*_, _≤_, _<_}
 use native.Mathlib.Decide.{ℕ-discrete}
 use native.Mathlib.Omega.{arith}
 use lib.ListN.{getD, length, length-set}
-use Rattle.queue.specs.Queue.{keyAt, cardIndexAt, parent, swap, bubbleUp, least, heapify}
+use Rattle.queue.specs.Queue.{queue, keyAt, cardIndexAt, parent, swap, bubbleUp, least, heapify}
+use Rattle.queue.specs.Sound.{Sound}
 use Rattle.queue.proofs.Order.{Ordered, Rising, Sinking, rise-step, sink-step, risen, sunken}
 use Rattle.queue.proofs.Steps.{swap-first, swap-second, swap-other, swapped, rise-keeps, least-below}
 use Rattle.queue.proofs.Steps.{least-child, sink-keeps}
@@ -104,6 +106,9 @@ module _ (len : ℕ) (rows₀ rows : List (List ℕ)) (a b : ℕ) (la : a < len)
 pub record Settled (len : ℕ) (rows₀ rows : List (List ℕ)) : Type 0 where
   pub mixed : Mixed len rows₀ rows
   pub order : Ordered (keyAt rows) len
+
+pub settled-sound : (len : ℕ) (rows₀ rows : List (List ℕ)) → Settled len rows₀ rows → Sound (queue rows len)
+settled-sound len rows₀ rows d = record { room = d .mixed .room; once = d .mixed .once; order = d .order }
 
 -- ---- bubble_up
 record Rises (len : ℕ) (rows₀ rows : List (List ℕ)) (pos : ℕ) : Type 0 where

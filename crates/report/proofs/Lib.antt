@@ -1,7 +1,10 @@
 pub mod WriteLaws
 pub mod DigitLaws
 pub mod TextLaws
+pub mod FormLaws
+pub mod ReadLaws
 pub mod RoundTrip
+pub mod PartLaws
 pub mod DayLaws
 pub mod RowLaws
 pub mod Points

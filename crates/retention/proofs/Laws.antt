@@ -20,7 +20,7 @@ use Rattle.brent.specs.Search.{WasTried, FoundWithin, OneMore, OnlySpent, Never
 use Rattle.brent.specs.Step.{within}
 use Rattle.brent.proofs.Driven.{driven-is}
 use Rattle.brent.proofs.Laws as Method
-use Rattle.brent.proofs.Range as Range
+use Rattle.brent.proofs.Trials as Trials
 use Rattle.brent.proofs.Asked.{left-as}
 use Rattle.retention.specs.declared.SearchAnswer.{SearchAnswer}
 use Rattle.retention.specs.Trials.{sample}
@@ -97,7 +97,7 @@ module _ (i : Inputs) (rounds : ℕ) (l : Lent Float) where
     lengths-same = λ e. passed-so e .0 .lengths;
     beyond-same = λ e. passed-so e .0 .behind;
     trials-within = by-entry (λ x. Each (λ t. T (within (t .retention))) (x .trials))
-        (λ r. tt) (Range.trials-within (sample i) rounds l);
+        (λ r. tt) (Trials.trials-within (sample i) rounds l);
     found-within = by-entry (λ x. FoundWithin (x .answer))
         (λ r. tt) (Method.found-within (sample i) rounds l);
     cheapest = by-entry (λ x. (Each (λ t. isNan (t .mean) ≡ false) (x .trials) → Each
@@ -108,9 +108,9 @@ module _ (i : Inputs) (rounds : ℕ) (l : Lent Float) where
     one-more = by-entry (λ x. OneMore (x .answer) (length (x .trials)))
         (λ r. tt) (Method.one-more (sample i) rounds l);
     only-spent = by-entry (λ x. OnlySpent (x .answer) rounds)
-        (λ r. tt) (Range.only-spent (sample i) rounds l);
+        (λ r. tt) (Trials.only-spent (sample i) rounds l);
     never-ten = λ h. by-entry (λ x. NeverTen (x .answer))
-        (λ r. tt) (Range.never-ten (sample i) rounds l h);
+        (λ r. tt) (Trials.never-ten (sample i) rounds l h);
     apart = λ e l′ h u w n. run-apart rounds i l l′ u n e h (all-alike l) w;
     stepper = λ e fuel h. driven-is (sample i) rounds fuel l h ∙ sym (passed-is e);
   }

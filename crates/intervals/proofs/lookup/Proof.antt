@@ -7,7 +7,7 @@ use native.Mathlib.Omega.{arith}
 use Rattle.intervals.specs.Table.{table, places, homeOf, nextOf, probe, lookupIn}
 use Rattle.intervals.proofs.Steps.{home-lt, next-lt, probe-free, probe-here, probe-on, step-none, lookup-none}
 use Rattle.intervals.proofs.Steps.{lookup-probe}
-use Rattle.intervals.proofs.Laws.{looked}
+use Rattle.intervals.proofs.Held.{looked}
 use borrow.Author.Needs.{needs}
 use Rattle.intervals.proofs.lookup.Statement.{statement}
 use Rattle.intervals.proofs.lookup.Tie as tie

@@ -15,7 +15,7 @@ use Rattle.cards.specs.Cards.{cardAt}
 use Rattle.cards.specs.Choices.{choose, choiceOf}
 use Rattle.days.specs.Due.{noneDue}
 use Rattle.queue.specs.Queue.{front}
-use Rattle.queue.proofs.Laws.{front-queued}
+use Rattle.queue.proofs.Queued.{front-queued}
 use Rattle.simulation.specs.State.{State}
 use Rattle.simulation.specs.Rules.{Rules}
 use Rattle.simulation.specs.Entry.{Inputs}

@@ -20,7 +20,8 @@ use Rattle.turns.specs.Run.{Next, takes, stops, run}
 use Rattle.turns.proofs.Loop.{Follows, Same, run-follows}
 use Rattle.days.specs.Due.{dueDays}
 use Rattle.intervals.specs.Table.{Table, places}
-use Rattle.intervals.proofs.Laws.{same-clear, clear-places}
+use Rattle.intervals.proofs.Emptied.{clear-places}
+use Rattle.intervals.proofs.Longer.{same-clear}
 use Rattle.events.specs.Drawn.{Drawn}
 use Rattle.simulation.specs.declared.Check.the-variants as check
 use Rattle.simulation.specs.declared.Stop.{Stop}

@@ -28,7 +28,7 @@ use Rattle.queue.specs.Queue.{front}
 use Rattle.intervals.specs.declared.Slot.{Slot}
 use Rattle.intervals.specs.declared.Slot.the-variants as slot
 use Rattle.intervals.specs.Schedule.{entered}
-use Rattle.intervals.proofs.Laws.{clear-sound}
+use Rattle.intervals.proofs.Emptied.{clear-sound}
 use Rattle.intervals.specs.Table.{Table, Sound}
 use Rattle.events.specs.Drawn.{Drawn}
 use Rattle.simulation.specs.declared.Refusal.the-variants as refusal

@@ -25,7 +25,7 @@ use Rattle.intervals.specs.declared.Slot.{Slot}
 use Rattle.intervals.specs.declared.Slot.the-variants as slot
 use Rattle.intervals.specs.Table.{Table, places}
 use Rattle.intervals.specs.Schedule.{isFull, intervalOf, entered}
-use Rattle.intervals.proofs.Laws.{SameEntries}
+use Rattle.intervals.proofs.Longer.{SameEntries}
 use Rattle.events.specs.Drawn.{Drawn}
 use Rattle.simulation.specs.declared.Refusal.the-variants as refusal
 use Rattle.simulation.specs.declared.Stop.{Stop}

@@ -19,7 +19,7 @@ use Rattle.days.specs.Due.{dueDays, addDue}
 use Rattle.days.proofs.Due.{added, add-long}
 use Rattle.queue.specs.Queue.{Queue}
 use Rattle.queue.specs.Sound.{queued}
-use Rattle.queue.proofs.Laws.{Filled}
+use Rattle.queue.proofs.Filled.{Filled}
 use Rattle.simulation.specs.SetUp.{Deck, addCard, addKeptCard}
 use Rattle.simulation.specs.Invariant.{dayIn, newIn, DueCounts}
 use Rattle.simulation.proofs.turn.Due.{waiting, reached, due-below}

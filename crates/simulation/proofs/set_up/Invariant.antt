@@ -36,7 +36,7 @@ use Rattle.cards.proofs.Later.{day-cut, whole-le}
 use Rattle.days.specs.Due.{dueDays}
 use Rattle.queue.specs.Queue.{pushed}
 use Rattle.queue.specs.Sound.{Keyed}
-use Rattle.queue.proofs.Laws.{Filled, fill-none, fill-same, fill-next}
+use Rattle.queue.proofs.Filled.{Filled, fill-none, fill-same, fill-next}
 use Rattle.intervals.specs.Table.{Table, places, freeAt, clearIn}
 use Rattle.events.specs.Drawn.{Drawn}
 use Rattle.simulation.specs.State.{State}

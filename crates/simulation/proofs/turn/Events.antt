@@ -37,7 +37,9 @@ use Rattle.days.proofs.Due.{add-long}
 use Rattle.events.specs.declared.Memory.{Memory}
 use Rattle.queue.specs.Queue.{front, frontChanged}
 use Rattle.queue.specs.Sound.{Keyed}
-use Rattle.queue.proofs.Laws.{change-queued, front-queued, requeue}
+use Rattle.queue.proofs.Queued.{front-queued}
+use Rattle.queue.proofs.Change.{change-queued}
+use Rattle.queue.proofs.Keyed.{requeue}
 use Rattle.intervals.specs.declared.Slot.{Slot}
 use Rattle.intervals.specs.declared.Slot.the-variants as slot
 use Rattle.intervals.specs.Table.{Table, places, freeAt, valueAt}

@@ -32,8 +32,10 @@ use Rattle.queue.specs.Key.{cardPriority, priorityOf}
 use Rattle.queue.specs.Queue.{front, frontChanged, popped}
 use Rattle.queue.specs.Sound.{queued}
 use Rattle.queue.proofs.Keys.{packed-day, priority-in}
-use Rattle.queue.proofs.Laws.{change-queued, pop-other, pop-front, front-queued, keyed-least, queued-named, requeue}
-use Rattle.queue.proofs.Laws.{unqueue}
+use Rattle.queue.proofs.Queued.{front-queued}
+use Rattle.queue.proofs.Change.{change-queued}
+use Rattle.queue.proofs.Pop.{pop-other, pop-front}
+use Rattle.queue.proofs.Keyed.{keyed-least, queued-named, requeue, unqueue}
 use Rattle.events.specs.Drawn.{Drawn}
 use Rattle.simulation.specs.State.{State, cardIn, keyOf}
 use Rattle.simulation.specs.Turn.{cardAfterPutOff, afterPutOff, afterRetire, turnAs}

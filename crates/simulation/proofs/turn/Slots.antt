@@ -12,7 +12,7 @@ use Rattle.intervals.specs.declared.Slot.the-variants as slot
 use Rattle.intervals.specs.Bucket.{stabilityBucket, retentionBucket}
 use Rattle.intervals.specs.Table.{Table, places}
 use Rattle.intervals.specs.Schedule.{isFull, intervalOf, entered, certifies}
-use Rattle.intervals.proofs.Laws.{SameEntries}
+use Rattle.intervals.proofs.Longer.{SameEntries}
 use Rattle.intervals.specs.Table.{Sound}
 use Rattle.intervals.proofs.Schedule.{interval-all, slot-sound, slot-full-iff, same-slot}
 use Rattle.simulation.specs.Invariant.{TableInRange}
