@@ -1,18 +1,18 @@
--- `ln::second_at`: the arms are the entries of the list.
+-- `ln_tables::first_at`: the arms are the entries of the list.
 use mathlib.Core.Path.{_≡_, sym, ap}
 use Prim.Native.Nat.{ℕ}
 use lib.ListN.{getD}
 use Rattle.series.proofs.Keys.{last-key}
-use Rattle.elementary.specs.Ln.{second}
-use Rattle.elementary.proofs.ln.second_at.Statement.{statement}
-use Rattle.elementary.proofs.ln.second_at.Tie as tie
+use Rattle.elementary.specs.Ln.{first}
+use Rattle.elementary.proofs.ln_tables.first_at.Statement.{statement}
+use Rattle.elementary.proofs.ln_tables.first_at.Tie as tie
 
-hit : (k : ℕ) {x : ℕ} → x ≡ k → getD second k 0 ≡ getD second x 0
-hit k e = sym (ap (λ (i : ℕ). getD second i 0) e)
+hit : (k : ℕ) {x : ℕ} → x ≡ k → getD first k 0 ≡ getD first x 0
+hit k e = sym (ap (λ (i : ℕ). getD first i 0) e)
 
-pub second-at-spec : {M : Type 1} → statement M
-unfolding second
-second-at-spec =
+pub first-at-spec : {M : Type 1} → statement M
+unfolding first
+first-at-spec =
     tie.close
     (tie.spec
     (λ c. hit 0 (c .match .keys1))
