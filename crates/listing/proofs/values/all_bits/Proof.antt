@@ -4,8 +4,8 @@ use Rattle.listing.specs.Numbers.{as32}
 use Rattle.listing.proofs.PartLaws.{parts-at}
 use Rattle.listing.specs.Forms.{all}
 use borrow.Author.Needs.{needs}
-use Rattle.listing.proofs.forms.all_bits.Statement.{statement}
-use Rattle.listing.proofs.forms.all_bits.Tie as tie
+use Rattle.listing.proofs.values.all_bits.Statement.{statement}
+use Rattle.listing.proofs.values.all_bits.Tie as tie
 
 part-at-requires : tie.Need-part-at-requires
 part-at-requires c κs = search needs

@@ -1,7 +1,7 @@
 use Rattle.listing.specs.Forms.{withNumber, setsNumber}
 use borrow.Author.Needs.{needs}
-use Rattle.listing.proofs.forms.take_seed.Statement.{statement}
-use Rattle.listing.proofs.forms.take_seed.Tie as tie
+use Rattle.listing.proofs.sets.take_seed.Statement.{statement}
+use Rattle.listing.proofs.sets.take_seed.Tie as tie
 
 enum-known-x : tie.Need-enum-known-x
 enum-known-x c = search needs

@@ -2,8 +2,8 @@ use Rattle.listing.specs.Forms.{setsFirst}
 use Rattle.listing.specs.Parsed.{asSeveral}
 use Rattle.listing.proofs.SeveralLaws.{four}
 use borrow.Author.Needs.{needs}
-use Rattle.listing.proofs.forms.take_first.Statement.{statement}
-use Rattle.listing.proofs.forms.take_first.Tie as tie
+use Rattle.listing.proofs.sets.take_first.Statement.{statement}
+use Rattle.listing.proofs.sets.take_first.Tie as tie
 
 array-read-t7 : tie.Need-array-read-t7
 array-read-t7 c = search needs

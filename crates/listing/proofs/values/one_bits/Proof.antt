@@ -4,8 +4,8 @@ use Rattle.listing.specs.Numbers.{as32}
 use Rattle.listing.proofs.PartLaws.{parts-at}
 use Rattle.listing.specs.Forms.{one}
 use borrow.Author.Needs.{needs}
-use Rattle.listing.proofs.forms.one_number32.Statement.{statement}
-use Rattle.listing.proofs.forms.one_number32.Tie as tie
+use Rattle.listing.proofs.values.one_bits.Statement.{statement}
+use Rattle.listing.proofs.values.one_bits.Tie as tie
 
 part-at-requires : tie.Need-part-at-requires
 part-at-requires c κs = search needs
@@ -19,8 +19,8 @@ closes-at-requires c κs = search needs
 part-of-requires : tie.Need-part-of-requires
 part-of-requires c κs = search needs
 
-decimal32-requires : tie.Need-decimal32-requires
-decimal32-requires c κs = search needs
+bits-of-requires : tie.Need-bits-of-requires
+bits-of-requires c κs = search needs
 
 returns : tie.Need-returns
 unfolding one partsFrom
@@ -33,7 +33,7 @@ returns c =
     let start = at-part-at .before .before in
     let a = start .args in
     rw (
-      c .decimal32 .ensures,
+      c .bits-of .ensures,
       at-part-of .part-of .ensures,
       parts-at (a .s .now) (a .i),
       sym
@@ -93,15 +93,15 @@ returns-5 c =
     let a = start .args in
     rw (parts-at (a .s .now) (a .i), sym (at-part-at .part-at .ensures), c .enum-told3 .given .1)
 
-pub one-number32-spec : {M : Type 1} → statement M
-one-number32-spec =
+pub one-bits-spec : {M : Type 1} → statement M
+one-bits-spec =
     tie.close
     (tie.spec
     part-at-requires
     enum-known-from
     closes-at-requires
     part-of-requires
-    decimal32-requires
+    bits-of-requires
     returns
     enum-told
     enum-told-2

@@ -1,11 +1,10 @@
 use mathlib.Core.Path.{sym}
 use Rattle.listing.specs.Places.{partsFrom}
-use Rattle.listing.specs.Numbers.{as32}
 use Rattle.listing.proofs.PartLaws.{parts-at}
 use Rattle.listing.specs.Forms.{one}
 use borrow.Author.Needs.{needs}
-use Rattle.listing.proofs.forms.one_bits.Statement.{statement}
-use Rattle.listing.proofs.forms.one_bits.Tie as tie
+use Rattle.listing.proofs.values.one_number64.Statement.{statement}
+use Rattle.listing.proofs.values.one_number64.Tie as tie
 
 part-at-requires : tie.Need-part-at-requires
 part-at-requires c κs = search needs
@@ -19,8 +18,8 @@ closes-at-requires c κs = search needs
 part-of-requires : tie.Need-part-of-requires
 part-of-requires c κs = search needs
 
-bits-of-requires : tie.Need-bits-of-requires
-bits-of-requires c κs = search needs
+decimal64-requires : tie.Need-decimal64-requires
+decimal64-requires c κs = search needs
 
 returns : tie.Need-returns
 unfolding one partsFrom
@@ -33,7 +32,7 @@ returns c =
     let start = at-part-at .before .before in
     let a = start .args in
     rw (
-      c .bits-of .ensures,
+      c .decimal64 .ensures,
       at-part-of .part-of .ensures,
       parts-at (a .s .now) (a .i),
       sym
@@ -53,7 +52,7 @@ enum-told-3 : tie.Need-enum-told-3
 enum-told-3 c = search needs
 
 returns-2 : tie.Need-returns-2
-unfolding one partsFrom as32
+unfolding one partsFrom
 returns-2 c =
     let at-closes-at = c .before in
     let at-from = at-closes-at .before .before in
@@ -70,7 +69,7 @@ returns-2 c =
     )
 
 returns-3 : tie.Need-returns-3
-unfolding one partsFrom as32
+unfolding one partsFrom
 returns-3 c =
     let at-part-at = c .before .before in
     let start = at-part-at .before .before in
@@ -78,7 +77,7 @@ returns-3 c =
     rw (parts-at (a .s .now) (a .i), sym (at-part-at .part-at .ensures), c .enum-told .given .1)
 
 returns-4 : tie.Need-returns-4
-unfolding one partsFrom as32
+unfolding one partsFrom
 returns-4 c =
     let at-part-at = c .before .before in
     let start = at-part-at .before .before in
@@ -86,22 +85,22 @@ returns-4 c =
     rw (parts-at (a .s .now) (a .i), sym (at-part-at .part-at .ensures), c .enum-told2 .given .1)
 
 returns-5 : tie.Need-returns-5
-unfolding one partsFrom as32
+unfolding one partsFrom
 returns-5 c =
     let at-part-at = c .before .before in
     let start = at-part-at .before .before in
     let a = start .args in
     rw (parts-at (a .s .now) (a .i), sym (at-part-at .part-at .ensures), c .enum-told3 .given .1)
 
-pub one-bits-spec : {M : Type 1} → statement M
-one-bits-spec =
+pub one-number64-spec : {M : Type 1} → statement M
+one-number64-spec =
     tie.close
     (tie.spec
     part-at-requires
     enum-known-from
     closes-at-requires
     part-of-requires
-    bits-of-requires
+    decimal64-requires
     returns
     enum-told
     enum-told-2

@@ -9,8 +9,8 @@ use Rattle.listing.specs.Parsed.{asSeveral}
 use Rattle.listing.proofs.SeveralLaws.{prepend, words-start, words-on, words-off, words-end}
 use borrow.Author.Needs.{needs}
 use native.Mathlib.Omega.{arith}
-use Rattle.listing.proofs.forms.words.Statement.{statement}
-use Rattle.listing.proofs.forms.words.Tie as tie
+use Rattle.listing.proofs.values.words.Statement.{statement}
+use Rattle.listing.proofs.values.words.Tie as tie
 
 abbrev Inv-loop : tie.InvT-loop
 Inv-loop s i k values₀ at₀ j₀ values at j = (j ≤ k)

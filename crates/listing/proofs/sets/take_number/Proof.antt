@@ -1,8 +1,8 @@
 use Rattle.listing.specs.Forms.{setsNumber}
 use Rattle.listing.specs.Parsed.{as64}
 use borrow.Author.Needs.{needs}
-use Rattle.listing.proofs.forms.take_number.Statement.{statement}
-use Rattle.listing.proofs.forms.take_number.Tie as tie
+use Rattle.listing.proofs.sets.take_number.Statement.{statement}
+use Rattle.listing.proofs.sets.take_number.Tie as tie
 
 enum-known-x : tie.Need-enum-known-x
 enum-known-x c = search needs

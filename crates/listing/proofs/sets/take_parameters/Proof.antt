@@ -2,8 +2,8 @@ use Rattle.listing.specs.Forms.{allOr, setsParameters}
 use Rattle.listing.specs.Parsed.{as64, asSeveral}
 use Rattle.listing.proofs.SeveralLaws.{whole}
 use borrow.Author.Needs.{needs}
-use Rattle.listing.proofs.forms.take_parameters.Statement.{statement}
-use Rattle.listing.proofs.forms.take_parameters.Tie as tie
+use Rattle.listing.proofs.sets.take_parameters.Statement.{statement}
+use Rattle.listing.proofs.sets.take_parameters.Tie as tie
 
 enum-known-x : tie.Need-enum-known-x
 enum-known-x c = search needs

@@ -1,7 +1,7 @@
 use Rattle.listing.specs.Forms.{withNumber}
 use borrow.Author.Needs.{needs}
-use Rattle.listing.proofs.forms.with_number.Statement.{statement}
-use Rattle.listing.proofs.forms.with_number.Tie as tie
+use Rattle.listing.proofs.sets.with_number.Statement.{statement}
+use Rattle.listing.proofs.sets.with_number.Tie as tie
 
 enum-told : tie.Need-enum-told
 enum-told c = search needs

@@ -3,8 +3,8 @@ use Rattle.listing.specs.Numbers.{bits}
 use Rattle.listing.specs.Parsed.{as64, stepTo, bitsIn, nextBits}
 use Rattle.listing.proofs.SeveralLaws.{from-as32}
 use borrow.Author.Needs.{needs}
-use Rattle.listing.proofs.forms.next_bits.Statement.{statement}
-use Rattle.listing.proofs.forms.next_bits.Tie as tie
+use Rattle.listing.proofs.values.next_bits.Statement.{statement}
+use Rattle.listing.proofs.values.next_bits.Tie as tie
 
 part-at-requires : tie.Need-part-at-requires
 part-at-requires c κs = search needs
