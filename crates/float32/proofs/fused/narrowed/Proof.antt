@@ -1,10 +1,10 @@
--- `float32::narrowed` meets its contract: `proofs/Once.antt` says what the pattern is. Assumes nothing.
+-- `fused::narrowed` meets its contract: `proofs/Once.antt` says what the pattern is. Assumes nothing.
 use Prim.Native.Nat.{_^_, _<_}
 use native.Mathlib.Omega.{arith}
 use borrow.Author.Needs.{needs}
 use Rattle.float32.proofs.Once.{narrow-room, narrow-is, narrow-no-nan}
-use Rattle.float32.proofs.narrowed.Statement.{statement}
-use Rattle.float32.proofs.narrowed.Tie as tie
+use Rattle.float32.proofs.fused.narrowed.Statement.{statement}
+use Rattle.float32.proofs.fused.narrowed.Tie as tie
 
 word : (c : tie.Start) → c .args .b < 2 ^ 64
 word c = omega arith

@@ -1,4 +1,4 @@
--- `float32::add_exact` meets its contract. Assumes nothing.
+-- `fused::add_exact` meets its contract. Assumes nothing.
 use mathlib.Core.Path.{_≡_, ap, _∙_}
 use mathlib.Core.Bool.{Bool}
 use Prim.Native.Nat.{ℕ, _-_, _*_, _%_, _^_, _≤_, _<_}
@@ -10,8 +10,8 @@ use lib.Ieee.{binary32, round, sum}
 use Rattle.float32.proofs.Sums.{sum-swap}
 use Rattle.float32.proofs.Normal.{z-le, n-over, n-under, n-fours, n-value, ordered, back, zero-left, zero-right}
 use Rattle.float32.proofs.Normal.{zero-both}
-use Rattle.float32.proofs.add_exact.Statement.{statement}
-use Rattle.float32.proofs.add_exact.Tie as tie
+use Rattle.float32.proofs.fused.add_exact.Statement.{statement}
+use Rattle.float32.proofs.fused.add_exact.Tie as tie
 
 nothing : (m a : ℕ) → m ≡ 0 → m * 2 ^ a ≡ 0
 nothing m a h = ap (λ (z : ℕ). z * 2 ^ a) h ∙ zero-mul (2 ^ a)

@@ -1,4 +1,4 @@
--- `float32::mul_add_slow` meets its contract. Assumes nothing.
+-- `fused::mul_add_slow` meets its contract. Assumes nothing.
 use mathlib.Core.Path.{sym, _∙_}
 use borrow.Author.Needs.{needs}
 use lib.Dec.{T, leb}
@@ -8,8 +8,8 @@ use Rattle.float32.specs.Encoding.{significand, exponent}
 use Rattle.float32.proofs.Cmp.{yes}
 use Rattle.float32.proofs.Decode.{Decoded, decode, finite-no-nan}
 use Rattle.float32.proofs.Product.{fma-is, fma-x, fma-y, fma-z}
-use Rattle.float32.proofs.mul_add_slow.Statement.{statement}
-use Rattle.float32.proofs.mul_add_slow.Tie as tie
+use Rattle.float32.proofs.fused.mul_add_slow.Statement.{statement}
+use Rattle.float32.proofs.fused.mul_add_slow.Tie as tie
 
 x-finite : (c : tie.Then1) → T (isFinite (c .before .before .args .x))
 x-finite c = yes (sym (c .before .is-finite .ensures) ∙ c .if1 .taken)

@@ -1,4 +1,4 @@
--- `float32::shift_right_jam` meets its contract. Assumes nothing.
+-- `fused::shift_right_jam` meets its contract. Assumes nothing.
 use mathlib.Core.Path.{_≡_, sym, _∙_}
 use mathlib.Core.Logic.{inl}
 use Prim.Native.Nat.{_*_, _/_, _^_}
@@ -7,8 +7,8 @@ use borrow.Author.Needs.{needs}
 use Rattle.float32.proofs.Jamming.{jam-odd, jam-even, jam-all, jam-room}
 use Rattle.float32.proofs.Shift.{back-up}
 use lib.Pow.{pow-pos}
-use Rattle.float32.proofs.shift_right_jam.Statement.{statement}
-use Rattle.float32.proofs.shift_right_jam.Tie as tie
+use Rattle.float32.proofs.fused.shift_right_jam.Statement.{statement}
+use Rattle.float32.proofs.fused.shift_right_jam.Tie as tie
 
 shr-h : tie.Need-shr-h
 shr-h c = search needs

@@ -1,4 +1,4 @@
--- `float32::add_ordered` meets its contract. Assumes nothing.
+-- `fused::add_ordered` meets its contract. Assumes nothing.
 use mathlib.Core.Path.{sym, ap, _∙_}
 use mathlib.Core.Bool.{false}
 use Prim.Native.Nat.{ℕ, _-_, _*_, _^_}
@@ -8,8 +8,8 @@ use borrow.Author.Needs.{needs}
 use lib.Ieee.{binary32, round}
 use Rattle.float32.proofs.Sums.{sum-like, sum-over, sum-under, sum-level, like-round, over-round, under-round}
 use Rattle.float32.proofs.Sums.{is-less, is-more, is-level, j-small}
-use Rattle.float32.proofs.add_ordered.Statement.{statement}
-use Rattle.float32.proofs.add_ordered.Tie as tie
+use Rattle.float32.proofs.fused.add_ordered.Statement.{statement}
+use Rattle.float32.proofs.fused.add_ordered.Tie as tie
 
 shift-right-jam-requires : tie.Need-shift-right-jam-requires
 shift-right-jam-requires c κs = search needs

@@ -1,8 +1,8 @@
--- `float32::rounds_once` meets its contract. Assumes nothing.
+-- `fused::rounds_once` meets its contract. Assumes nothing.
 use mathlib.Core.Bool.{false≢true}
 use borrow.Author.Needs.{needs}
-use Rattle.float32.proofs.rounds_once.Statement.{statement}
-use Rattle.float32.proofs.rounds_once.Tie as tie
+use Rattle.float32.proofs.fused.rounds_once.Statement.{statement}
+use Rattle.float32.proofs.fused.rounds_once.Tie as tie
 
 returns : tie.Need-returns
 returns c = λ e. absurd (false≢true e)

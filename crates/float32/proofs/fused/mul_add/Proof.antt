@@ -1,4 +1,4 @@
--- `float32::mul_add` meets its contract: `proofs/Once.antt` has the quick path. Assumes nothing.
+-- `fused::mul_add` meets its contract: `proofs/Once.antt` has the quick path. Assumes nothing.
 use mathlib.Core.Path.{sym, _∙_}
 use borrow.Author.Needs.{needs}
 use lib.Dec.{T}
@@ -9,8 +9,8 @@ use Rattle.float32.proofs.Decode.{Decoded, decode}
 use Rattle.float32.proofs.Twice.{away}
 use Rattle.float32.proofs.Widened.{widens}
 use Rattle.float32.proofs.Once.{sum-no-nan, quick-is}
-use Rattle.float32.proofs.mul_add.Statement.{statement}
-use Rattle.float32.proofs.mul_add.Tie as tie
+use Rattle.float32.proofs.fused.mul_add.Statement.{statement}
+use Rattle.float32.proofs.fused.mul_add.Tie as tie
 
 x-finite : (c : tie.Then1) → T (isFinite (c .before .before .args .x))
 x-finite c = yes (sym (c .before .is-finite .ensures) ∙ c .if1 .taken)

@@ -1,12 +1,12 @@
--- `float32::unlike` meets its contract. Assumes nothing.
+-- `fused::unlike` meets its contract. Assumes nothing.
 use mathlib.Core.Path.{_≡_, refl, sym, ap, _∙_}
 use mathlib.Core.Bool.{Bool, true, false}
 use lib.Ieee as Ieee
 use borrow.Author.Needs.{needs}
-use Rattle.float32.proofs.unlike.Statement.{statement}
-use Rattle.float32.proofs.unlike.Tie as tie
-use Rattle.float32.proofs.unlike.Reads as reads
-use Rattle.float32.proofs.unlike.Lts as lts
+use Rattle.float32.proofs.fused.unlike.Statement.{statement}
+use Rattle.float32.proofs.fused.unlike.Tie as tie
+use Rattle.float32.proofs.fused.unlike.Reads as reads
+use Rattle.float32.proofs.fused.unlike.Lts as lts
 
 not-not : (t : Bool) → Ieee.unlike false t ≡ t
 not-not true = refl

@@ -1,4 +1,4 @@
--- `float32::fused_bits` meets its contract. Assumes nothing.
+-- `fused::fused_bits` meets its contract. Assumes nothing.
 use mathlib.Core.Path.{sym, subst}
 use Prim.Native.Nat.{ℕ, _*_, _^_, _≤_, _<_}
 use native.Mathlib.Omega.{arith}
@@ -8,8 +8,8 @@ use borrow.Author.Needs.{needs}
 use lib.Ieee.{binary32}
 use Rattle.float32.proofs.Decode.{significand-lt}
 use Rattle.float32.proofs.Product.{product-lt}
-use Rattle.float32.proofs.fused_bits.Statement.{statement}
-use Rattle.float32.proofs.fused_bits.Tie as tie
+use Rattle.float32.proofs.fused.fused_bits.Statement.{statement}
+use Rattle.float32.proofs.fused.fused_bits.Tie as tie
 
 product : (c : tie.After-significand2) → c .before .significand .result * c .significand2 .result < 2 ^ 48
 product c =
