@@ -6,6 +6,7 @@ mod exp;
 mod exp2;
 mod large;
 mod ln;
+mod ln_tables;
 mod log2;
 mod power;
 mod powers;

@@ -3,6 +3,8 @@ mod forms;
 mod numbers;
 mod parts;
 pub mod reader;
+mod sets;
+mod values;
 
 // A number that a word says, or none.
 pub enum Parsed64 {
