@@ -1,6 +1,6 @@
 -- A search asks for no retention outside 0.70 to 0.95, also not for one that is then refused.
 --   asks-within           what a run does at other retentions is of no account to the search
---   left-as               what each trial keeps holds of what the search leaves, and it is refused only as its trials are
+--   left-as               what each trial keeps holds of what the search leaves; it is refused only as its trials are
 --   stepper-asks-within   whatever means a stepper is handed, the next retention that it asks for lies within
 use mathlib.Core.Path.{_≡_, refl, sym, ap, _∙_}
 use mathlib.Core.Bool.{Bool, true, false, not, cond, _&&_, true≢false}

@@ -94,7 +94,8 @@ pub extern "C" fn drill_forgetting_curve_and_derivative(
     fast: f32,
     derivative: &mut f32,
 ) -> f32
-    ensures { λ r. ⌜ r ≡ Model.solverRetention (Model.curveOf (now (w .entry)) (stateOf stability difficulty fast)) t ⌝ }
+    ensures { λ r. ⌜ r ≡ Model.solverRetention (Model.curveOf (now (w .entry))
+        (stateOf stability difficulty fast)) t ⌝ }
     ensures { λ _. ⌜ now (derivative .exit)
         ≡ Model.derivative (Model.curveOf (now (w .entry)) (stateOf stability difficulty fast)) t ⌝ }
 {

@@ -1,6 +1,5 @@
 -- `simulation::entry::check_cards` meets its contract.
 use Rattle.simulation.specs.Entry.{checkFirst}
-use borrow.Author.Needs.{needs}
 use Rattle.simulation.proofs.entry.check_cards.Statement.{statement}
 use Rattle.simulation.proofs.entry.check_cards.Tie as tie
 

@@ -1,5 +1,4 @@
 -- `simulation::entry::is_bad` meets its contract.
-use borrow.Author.Needs.{needs}
 use Rattle.simulation.proofs.entry.is_bad.Statement.{statement}
 use Rattle.simulation.proofs.entry.is_bad.Tie as tie
 

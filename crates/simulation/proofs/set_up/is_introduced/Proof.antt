@@ -1,5 +1,4 @@
 -- `simulation::set_up::is_known` meets its contract.
-use borrow.Author.Needs.{needs}
 use Rattle.simulation.proofs.set_up.is_introduced.Statement.{statement}
 use Rattle.simulation.proofs.set_up.is_introduced.Tie as tie
 

@@ -1,7 +1,6 @@
 -- `simulation::set_up::new_card` meets its contract.
 use lib.Ieee.{ofBits, ofFields, div, neg}
 use Rattle.simulation.specs.SetUp.{newCard}
-use borrow.Author.Needs.{needs}
 use Rattle.simulation.proofs.set_up.new_card.Statement.{statement}
 use Rattle.simulation.proofs.set_up.new_card.Tie as tie
 

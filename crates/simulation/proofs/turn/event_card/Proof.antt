@@ -1,6 +1,5 @@
 -- `simulation::turn::event_card` meets its contract.
 use Rattle.simulation.specs.Turn.{cardAfterEvent}
-use borrow.Author.Needs.{needs}
 use Rattle.simulation.proofs.turn.event_card.Statement.{statement}
 use Rattle.simulation.proofs.turn.event_card.Tie as tie
 

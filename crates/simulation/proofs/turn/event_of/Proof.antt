@@ -1,6 +1,5 @@
 -- `simulation::turn::event_of` meets its contract.
 use Rattle.events.specs.Events.{chanceOn, eventOf}
-use borrow.Author.Needs.{needs}
 use Rattle.simulation.proofs.turn.event_of.Statement.{statement}
 use Rattle.simulation.proofs.turn.event_of.Tie as tie
 

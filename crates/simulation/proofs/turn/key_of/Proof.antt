@@ -1,5 +1,4 @@
 -- `simulation::turn::key_of` meets its contract.
-use borrow.Author.Needs.{needs}
 use Rattle.simulation.proofs.turn.key_of.Statement.{statement}
 use Rattle.simulation.proofs.turn.key_of.Tie as tie
 

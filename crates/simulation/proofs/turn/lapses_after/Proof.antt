@@ -1,5 +1,4 @@
 -- `simulation::turn::lapses_after` meets its contract.
-use borrow.Author.Needs.{needs}
 use Rattle.simulation.proofs.turn.lapses_after.Statement.{statement}
 use Rattle.simulation.proofs.turn.lapses_after.Tie as tie
 

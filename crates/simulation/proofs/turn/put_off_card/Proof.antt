@@ -1,6 +1,5 @@
 -- `simulation::turn::put_off_card` meets its contract.
 use Rattle.simulation.specs.Turn.{cardAfterPutOff}
-use borrow.Author.Needs.{needs}
 use Rattle.simulation.proofs.turn.put_off_card.Statement.{statement}
 use Rattle.simulation.proofs.turn.put_off_card.Tie as tie
 

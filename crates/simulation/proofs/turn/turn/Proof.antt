@@ -145,39 +145,57 @@ returns-3 c =
 
 same-length-13 : tie.Need-same-length-13
 same-length-13 c =
-    c .before .before .before .before .before .before .before .before .before .before .before .before .before .event-step .kept .0
+    let at-event-step = c .before .before .before .before .before .before .before .before .before .before .before
+    .before .before in
+    at-event-step .event-step .kept .0
 
 same-length-14 : tie.Need-same-length-14
 same-length-14 c =
-    c .before .before .before .before .before .before .before .before .before .before .before .before .before .event-step .kept .1 .0
+    let at-event-step = c .before .before .before .before .before .before .before .before .before .before .before
+    .before .before in
+    at-event-step .event-step .kept .1 .0
 
 same-length-15 : tie.Need-same-length-15
 same-length-15 c =
-    c .before .before .before .before .before .before .before .before .before .before .before .before .before .event-step .kept .1 .1 .0
+    let at-event-step = c .before .before .before .before .before .before .before .before .before .before .before
+    .before .before in
+    at-event-step .event-step .kept .1 .1 .0
 
 same-length-16 : tie.Need-same-length-16
 same-length-16 c =
-    c .before .before .before .before .before .before .before .before .before .before .before .before .before .event-step .kept .1 .1 .1 .0
+    let at-event-step = c .before .before .before .before .before .before .before .before .before .before .before
+    .before .before in
+    at-event-step .event-step .kept .1 .1 .1 .0
 
 same-length-17 : tie.Need-same-length-17
 same-length-17 c =
-    c .before .before .before .before .before .before .before .before .before .before .before .before .before .event-step .kept .1 .1 .1 .1 .0
+    let at-event-step = c .before .before .before .before .before .before .before .before .before .before .before
+    .before .before in
+    at-event-step .event-step .kept .1 .1 .1 .1 .0
 
 same-length-18 : tie.Need-same-length-18
 same-length-18 c =
-    c .before .before .before .before .before .before .before .before .before .before .before .before .before .event-step .kept .1 .1 .1 .1 .1 .0
+    let at-event-step = c .before .before .before .before .before .before .before .before .before .before .before
+    .before .before in
+    at-event-step .event-step .kept .1 .1 .1 .1 .1 .0
 
 same-length-19 : tie.Need-same-length-19
 same-length-19 c =
-    c .before .before .before .before .before .before .before .before .before .before .before .before .before .event-step .kept .1 .1 .1 .1 .1 .1 .0
+    let at-event-step = c .before .before .before .before .before .before .before .before .before .before .before
+    .before .before in
+    at-event-step .event-step .kept .1 .1 .1 .1 .1 .1 .0
 
 same-length-20 : tie.Need-same-length-20
 same-length-20 c =
-    c .before .before .before .before .before .before .before .before .before .before .before .before .before .event-step .kept .1 .1 .1 .1 .1 .1 .1 .0
+    let at-event-step = c .before .before .before .before .before .before .before .before .before .before .before
+    .before .before in
+    at-event-step .event-step .kept .1 .1 .1 .1 .1 .1 .1 .0
 
 same-length-21 : tie.Need-same-length-21
 same-length-21 c =
-    c .before .before .before .before .before .before .before .before .before .before .before .before .before .event-step .kept .1 .1 .1 .1 .1 .1 .1 .1 .0
+    let at-event-step = c .before .before .before .before .before .before .before .before .before .before .before
+    .before .before in
+    at-event-step .event-step .kept .1 .1 .1 .1 .1 .1 .1 .1 .0
 
 returns-4 : tie.Need-returns-4
 returns-4 c =
