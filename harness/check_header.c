@@ -4,6 +4,7 @@
 
 #include <fenv.h>
 #include <stdio.h>
+#include <xmmintrin.h>
 
 int main(void) {
     const float w[34] = {0.5f, 0.5f, 0.5f, 0.5f, 0.5f, 0.5f, 0.5f, 0.5f, 0.5f, 0.5f, 0.5f, 0.5f,
@@ -43,6 +44,14 @@ int main(void) {
     for (int i = 0; i < 3; i++)
         good &= fesetround(modes[i]) == 0 && !drill_float_modes_ok();
     good &= fesetround(FE_TONEAREST) == 0 && drill_float_modes_ok();
+    /* subnormals flushed to 0 as results, and as arguments */
+    const unsigned flushed[2] = {0x8000, 0x0040}, usual = _mm_getcsr();
+    for (int i = 0; i < 2; i++) {
+        _mm_setcsr(usual | flushed[i]);
+        good &= !drill_float_modes_ok();
+    }
+    _mm_setcsr(usual);
+    good &= drill_float_modes_ok();
     const struct drill_config config = {
         .deck_size = 1,
         .learn_span = 1,
