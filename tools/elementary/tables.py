@@ -140,7 +140,7 @@ def listed(repo, place):
     path, name = place.split()
     text = open(f"{repo}/crates/{path}.antt").read()
     body = text[text.index(f"\n{name} =") :]
-    return [int(v) for v in re.findall(r"(\d+) ∷", body[: body.index("[]")])]
+    return [int(v) for v in re.findall(r"(\d+)\s*∷", body[: body.index("[]")])]
 
 
 def arms(repo, place):

@@ -1,4 +1,4 @@
--- A memory state from its three numbers. Definitions only. Assumes nothing.
+-- A memory state from its three numbers. Definitions only.
 use lib.Ieee.{Float}
 use Rattle.model.specs.declared.forgetting_curve.MemoryState.{MemoryState}
 

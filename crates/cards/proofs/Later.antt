@@ -1,5 +1,4 @@
 -- THE FLOAT-DAY LAWS: the whole part of a float, and how it moves on. For any format and any width of the whole number.
--- Assumes nothing.
 --   whole-ge                     a float at or above a whole number has no lesser whole part
 --   later                        a whole day n and an interval of 1 or more, added in floats, come to a later day
 --   in-span                      a float that is not at or past a whole number has a whole part below it

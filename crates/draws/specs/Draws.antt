@@ -1,5 +1,4 @@
 -- SplitMix64 (Steele, Lea and Flood 2014), and a rating and a recall drawn by one word of it. Definitions only.
--- Assumes nothing.
 --     advance s, mix z                    the state of the next draw, and the output of a state
 --     word z          the top 32 bits of an output
 --     DrawRule, splitMix                  a way to draw, and this one

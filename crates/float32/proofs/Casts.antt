@@ -1,5 +1,5 @@
 -- A float `as` an integer, by ranges: above the type's largest number, below its smallest, and between, where std's
--- `truncating_` functions go. Assumes nothing.
+-- `truncating_` functions go.
 --   two-to w, minus-two-to w           2 ^ w and -2 ^ w
 --   below                              the whole part of a fraction below P is below P
 --   above-zero, not-zero               2 ^ w is not 0

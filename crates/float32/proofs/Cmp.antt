@@ -1,4 +1,4 @@
--- What a comparison of two finite floats of one sign says of their sizes. Assumes nothing.
+-- What a comparison of two finite floats of one sign says of their sizes.
 --   yes, no          a test that is true, and one that is false
 --   le-pos, gt-pos   two floats with a clear sign: the sizes are in their order
 --   le-neg, gt-neg   two with the sign set: the sizes are in the other order

@@ -1,4 +1,4 @@
--- The whole part of an `f32` from 1 below 2 ^ 24 is the significand of its bit pattern, shifted down. Assumes nothing.
+-- The whole part of an `f32` from 1 below 2 ^ 24 is the significand of its bit pattern, shifted down.
 use mathlib.Core.Path.{_≡_, sym, ap, _∙_}
 use mathlib.Core.Bool.{Bool, true, false, not, cond}
 use Prim.Native.Nat.{ℕ, _+_, _-_, _*_, _/_, _%_, _^_, _≤_, _<_, min}

@@ -1,4 +1,4 @@
--- The value of a finite float from the fields of its bit pattern, in either format. Assumes nothing.
+-- The value of a finite float from the fields of its bit pattern, in either format.
 --   finite-no-nan          a finite float is no NaN
 --   significand-lt         a significand has no more digits than the format
 --   normal                 above the lowest exponent it has all of them

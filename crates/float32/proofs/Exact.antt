@@ -1,5 +1,5 @@
 -- x * y + z of three `f32` whose sum is exact in `f64`: of the fused operation only the rounding of that `f64` to an
--- `f32` is left, which is done on its bit pattern. Assumes nothing.
+-- `f32` is left, which is done on its bit pattern.
 --     even m                                 m / 2 ^ 29 to the nearest whole number, at a tie to the even one
 --     even-is b                              the nearest `f32`, from the pattern b of an `f64` within the normal `f32`
 --     ExactSum x y z a d c i j k             x, y and z are positive, and the sum has at most 53 digits

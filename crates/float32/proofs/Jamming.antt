@@ -1,4 +1,4 @@
--- The shift that keeps a trace of what it drops. Assumes nothing.
+-- The shift that keeps a trace of what it drops.
 use mathlib.Core.Path.{_≡_, refl, sym, ap, _∙_, subst}
 use mathlib.Core.Logic.{inr}
 use Prim.Native.Nat.{ℕ, _+_, _-_, _*_, _/_, _%_, _^_, _≤_, _<_}

@@ -1,5 +1,5 @@
 -- Laws of `clamp`, `max` and `min`: a number that is clamped lies between the ends, and which maxima and minima are
--- numbers. Assumes nothing.
+-- numbers.
 --   Between lo hi x                        lo ≤ x ≤ hi
 --   not-below, le-refl                     of numbers: what is not below is at or above, and x ≤ x
 --   le-left, le-right, lt-left, lt-right   what has an order is a number

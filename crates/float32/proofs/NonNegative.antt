@@ -1,5 +1,4 @@
 -- Floats with a clear sign, +infinity too: sums and products of them are such floats again, and none is below 0.
--- Assumes nothing.
 --   nonNegative x, number             the sign is clear; such a float is no NaN
 --   round-clear, whole-clear          what is rounded with a clear sign; a whole number
 --   add-clear, mul-clear, div-clear   a sum; a product with a finite number above 0, and a quotient by one

@@ -1,4 +1,4 @@
--- A word shifted up until its highest digit is at place 61, and the sums of which one term is 0. Assumes nothing.
+-- A word shifted up until its highest digit is at place 61, and the sums of which one term is 0.
 --   pow-lt-back                        powers of two in order have exponents in order
 --   z-le, n-over, n-under              the word has at most 60 digits; shifted up it is from 2 ^ 61 below 2 ^ 62
 --   n-fours, n-value                   it is then a multiple of 4, and the same value with a lower exponent

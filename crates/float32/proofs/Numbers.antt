@@ -1,4 +1,4 @@
--- The two patterns of specs/Numbers are the numbers that they are named for. Assumes nothing.
+-- The two patterns of specs/Numbers are the numbers that they are named for.
 use mathlib.Core.Path.{_≡_, refl}
 use mathlib.Core.Bool.{false}
 use lib.Ieee.{binary32, ofBits, ofFields, round}

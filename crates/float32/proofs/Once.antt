@@ -1,4 +1,4 @@
--- `mulAdd` of three finite `f32` from the `f64` sum, where its pattern is `RoundsOnce`. Assumes nothing.
+-- `mulAdd` of three finite `f32` from the `f64` sum, where its pattern is `RoundsOnce`.
 --   narrow-room                the exponent of the `f64` is at least the lowest of an `f32`
 --   narrow-is, narrow-no-nan   the `f32` made of its pattern, and that it is no NaN
 --   sum-no-nan                 the `f64` sum is no NaN

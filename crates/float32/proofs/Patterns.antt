@@ -1,5 +1,5 @@
 -- A float from its parts: the pattern with the sign s, and below it k * 2 ^ 23 + q, is q * 2 ^ k units of the smallest
--- value. Assumes nothing.
+-- value.
 --   odd-more                     below 2 ^ d `odd` finds no more trailing zeros after d digits
 --   pack-units, pack-no-nan      the pattern's value, and that it is no NaN
 --   infinity-no-nan, pack-over   an overflow: the infinity's pattern

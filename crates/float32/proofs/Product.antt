@@ -1,4 +1,4 @@
--- `mulAdd` of three finite floats from the fields of their bit patterns. Assumes nothing.
+-- `mulAdd` of three finite floats from the fields of their bit patterns.
 --   product-lt            a product of two significands has at most 48 digits
 --   left, right           the two terms of the sum, over 2 ^ 1074
 --   fma-is                of finite floats: `mulAdd` is the sum of these

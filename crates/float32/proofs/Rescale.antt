@@ -1,4 +1,4 @@
--- A machine word times a power of two, rounded to an `f32`: how many digits go, and what is kept. Assumes nothing.
+-- A machine word times a power of two, rounded to an `f32`: how many digits go, and what is kept.
 --   pow-split                  2 ^ i * 2 ^ j is 2 ^ (i + j)
 --   shift-room                 a shift up that keeps 24 digits is by less than 64
 --   shifted-up, shifted-down   m * 2 ^ e / 2 ^ g to the nearest whole number, by a shift up or down

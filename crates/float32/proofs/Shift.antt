@@ -1,5 +1,5 @@
 -- A shift that rounds: m / 2 ^ sh to the nearest, a tie to the even one, from h = m / 2 ^ (sh - 1), whose last digit is
--- the one that is rounded off. Assumes nothing.
+-- the one that is rounded off.
 --   two-pow                           2 ^ k is twice 2 ^ (k - 1)
 --   shift-even, shift-tie, shift-up   that digit is 0; it is 1 with nothing below it; it is 1 with more below it
 --   back-up                           the shift back up loses nothing

@@ -1,5 +1,4 @@
 -- Facts on single floats: which differ from themselves, which are finite, and what `abs` is by cases on the sign.
--- Assumes nothing.
 --   nan-test                           only a NaN differs from itself
 --   finite-under, finite-over          finite is between the infinities
 --   abs-negative, abs-zero, abs-rest   `abs` below 0, at a zero, and elsewhere

@@ -1,5 +1,5 @@
 -- `Ieee.sum` by the signs and the order of its two terms, at another denominator, and of two terms of which one is
--- shifted and jammed. Assumes nothing.
+-- shifted and jammed.
 --   sum-like                         two terms of one sign
 --   sum-over, sum-under, sum-level   of unlike signs, the first the larger, the smaller, or as large
 --   Order, order                     two numbers are less, the same or more

@@ -1,5 +1,5 @@
 -- Where rounding twice, first to an `f64` and then to an `f32`, is rounding once: the `f64` is normal, no power of two,
--- and not half way between two `f32`. Assumes nothing.
+-- and not half way between two `f32`.
 --   away q        q / 2 ^ 29 to the nearest whole number, a half up
 --   as-q          a number within a half of q goes there too
 --   one-value     a float has one sign and one size

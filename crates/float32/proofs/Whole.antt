@@ -1,4 +1,4 @@
--- `Float32.round` of a finite `f32` from the fields of its bit pattern. Assumes nothing.
+-- `Float32.round` of a finite `f32` from the fields of its bit pattern.
 --   not-finite-round             a float that is not finite stays as it is
 --   cross, half                  a fraction n / d as q * 2 ^ k / 2 ^ 149, and its whole part with a half added
 --   w-scaled, n-is, half-none    the same where it is a whole number

@@ -1,5 +1,4 @@
 -- x * y + z of three `f32`, in `f64`: the product is exact, so the sum is the exact value rounded once, to an `f64`.
--- Assumes nothing.
 --   widens                      a finite `f32` is an `f64`
 --   fraction                    a sum is one fraction, rounded, whatever the format
 --   add-at, mul-at              `add` and `mul` from the values of their operands

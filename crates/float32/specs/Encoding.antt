@@ -1,5 +1,5 @@
 -- The fields of a bit pattern b of the format f: where the pattern is a finite float's, its size is significand f b * 2
--- ^ exponent f b, in units of the format's smallest value. Definitions only. Assumes nothing.
+-- ^ exponent f b, in units of the format's smallest value. Definitions only.
 --   field f b, significand f b, exponent f b   the exponent's field, and the two of the size
 --   RoundsOnce b                               an f64 that is rounded to an f32 as the exact value is
 use mathlib.Core.Path.{_≡_}

@@ -1,5 +1,5 @@
 -- 0 and 1, by their bit patterns, as a literal of the code stands in a goal; `zero-is` and `one-is` (proofs/Numbers)
--- say that they are 0 / 1 and 1 / 1, rounded. Definitions only. Assumes nothing.
+-- say that they are 0 / 1 and 1 / 1, rounded. Definitions only.
 use lib.Ieee.{Float, binary32, ofBits}
 
 abbrev pub 0ᶠ : Float

@@ -1,4 +1,4 @@
--- Rust's operators on `f32`, as infix signs. Definitions only. Assumes nothing.
+-- Rust's operators on `f32`, as infix signs. Definitions only.
 use lib.Ieee as Ieee
 use lib.Ieee.{Float, binary32}
 

@@ -1,5 +1,5 @@
 -- A shift that keeps a trace of what it drops: r is x / 2 ^ d where that is whole. Otherwise r is the odd one of the
--- two whole numbers next to it. Definitions only. Assumes nothing.
+-- two whole numbers next to it. Definitions only.
 --   Odd x d r, Jammed x d r            r is the odd one; r is x shifted by d
 --   Ordered h e l d, Bounded p a       what a sum of two words asks, and a product's word
 use mathlib.Core.Path.{_≡_}

@@ -1,4 +1,4 @@
--- What entering changes, place by place, and what a search finds afterwards. Assumes nothing.
+-- What entering changes, place by place, and what a search finds afterwards.
 --     same-is, same-self                  two keys that are the same
 --     enter-places    entering leaves the length
 --     value-same, free-same, key-same     the place that is entered

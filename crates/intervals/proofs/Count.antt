@@ -1,4 +1,4 @@
--- How many keys are held goes by what is held alone. Assumes nothing.
+-- How many keys are held goes by what is held alone.
 --     same-count t t'                     two tables that hold the same hold as many, whatever their lengths
 --     twin-of t t'    so they are same-entries, if the second is no shorter
 use mathlib.Core.Path.{_≡_, refl, sym, _∙_, ap}

@@ -1,4 +1,4 @@
--- An emptied table is sound, holds nothing and has no key. Assumes nothing.
+-- An emptied table is sound, holds nothing and has no key.
 --   clear-places              it is as long as it was
 --   clear-sound, clear-held   it is sound, and nothing is held
 --   clear-count               no key is held

@@ -1,4 +1,4 @@
--- A key entered at the place that its lookup gave. Assumes nothing.
+-- A key entered at the place that its lookup gave.
 --   Takes, takes-within        a place that the lookup of a key gave, and it is one of the table's
 --   differ                     keys that are not the same fail the test of it
 --   enter-found, enter-sound   the key is found there, and the table stays sound

@@ -1,4 +1,4 @@
--- What a table holds under a key, and that a lookup gives it. Assumes nothing.
+-- What a table holds under a key, and that a lookup gives it.
 --   held-free, held-here, held-on, held-zero   what is held, place by place
 --   some-none                                  what is held is not nothing
 --   Answer, answer                             an answer, with what it is

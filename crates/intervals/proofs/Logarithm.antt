@@ -1,4 +1,4 @@
--- The bucket of a stability is within 0.53 of its exact logarithm in steps of 0.001. Assumes nothing.
+-- The bucket of a stability is within 0.53 of its exact logarithm in steps of 0.001.
 --     ln-bucket s         the bucket of any stability but +infinity
 use mathlib.Core.Path.{_≡_, refl, sym, ap, _∙_, subst}
 use mathlib.Core.Logic.{_⊎_, inl, inr}

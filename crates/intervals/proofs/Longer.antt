@@ -1,4 +1,4 @@
--- A table is a finite map, and a longer one is the same map. Assumes nothing.
+-- A table is a finite map, and a longer one is the same map.
 --   same-answer          two tables that hold the same under a key answer the same interval, or nothing
 --   SameEntries          two tables, the second at least as long, that hold the same
 --   same-clear           emptied tables are

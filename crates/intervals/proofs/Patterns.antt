@@ -1,4 +1,4 @@
--- The bit pattern of an i32, as the code finds it: of a negative one by a sum of 64 bits. Assumes nothing.
+-- The bit pattern of an i32, as the code finds it: of a negative one by a sum of 64 bits.
 --     itself, widened                     an i32 as 32 bits, and as 64
 --     below, above    its pattern by the code's sum, and as it is
 --     bucket-in value step                a bucket is an i32

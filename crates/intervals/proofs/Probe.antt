@@ -1,4 +1,4 @@
--- What a search finds is there: the key's place, a free place, or every place taken by another key. Assumes nothing.
+-- What a search finds is there: the key's place, a free place, or every place taken by another key.
 --     Case t s r p, caseOf                a place is free, the key's, or another key's
 --     at-free, at-full, free-full, true-false                   two answers that are not the same
 --     Stands t s r p  the key stands at the place, which is used

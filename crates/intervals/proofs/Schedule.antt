@@ -1,6 +1,5 @@
 -- One use of the table for a schedule: what it keeps, when it is refused, and that a longer table makes no difference
 -- to it.
--- Assumes nothing.
 --     held-is, anew-is, new-is, full-is   the slot by what the lookup found
 --     Origin, origin  where a slot's interval comes from
 --     slot-full-iff   there is no slot exactly where the key is not held and as many keys are held as the table is long

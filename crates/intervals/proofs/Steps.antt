@@ -1,4 +1,4 @@
--- One step of the search, and that each place of a search is a place of the table. Assumes nothing.
+-- One step of the search, and that each place of a search is a place of the table.
 --     home-lt, next-lt                    places of the table; next-wrap, next-on: the place after the last one, and
 --     after another
 --     step-free, step-here, step-on, step-none                  a search of suc m places, by its first one

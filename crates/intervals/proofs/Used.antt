@@ -1,4 +1,4 @@
--- How many places are used, which is how many keys are held, and when a table is full. Assumes nothing.
+-- How many places are used, which is how many keys are held, and when a table is full.
 --   count-free, count-used, count-zero   the count, place by place
 --   count-places                         no more keys are held than the table is long
 --   full-count, free-count               Full: as many as it is long; Free: fewer

@@ -1,4 +1,4 @@
--- How near the bucket of a stability is to its exact logarithm in steps of 0.001. Definitions only. Assumes nothing.
+-- How near the bucket of a stability is to its exact logarithm in steps of 0.001. Definitions only.
 --     signed s n          n, or - n where s is set
 --     IsLnBucket x b      b is the bit pattern of an i32 within 0.53 of 1000 ln x
 use mathlib.Core.Path.{_≡_}

@@ -1,4 +1,4 @@
--- The two buckets of a key, as the bit patterns of `bucket_index`. Assumes nothing.
+-- The two buckets of a key, as the bit patterns of `bucket_index`.
 --     pattern z       the bit pattern of an i32
 --     bucketIndex value step              how often the step goes into the value
 --     stabilityBucket stability, retentionBucket retention      the buckets

@@ -1,6 +1,5 @@
 -- `scheduled_interval`: what the table gives under a key, and when a held interval may be used. Of the memory model
--- it takes a curve, the chance of recall after so many days at the card's stability, and a fresh interval. Assumes
--- nothing.
+-- it takes a curve, the chance of recall after so many days at the card's stability, and a fresh interval.
 --     certifies curve stability retention interval most         `certifies_rounded_interval`; certifiesOne,
 --     certifiesRange: its two cases
 --     slotIn certified fresh t s r        the slot of a key: kept, to be entered, or none; slotBy: by what the lookup

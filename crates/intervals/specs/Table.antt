@@ -1,7 +1,6 @@
 -- The interval table as lists: where a key is looked for, what a lookup finds, what entering leaves, and the map that
 -- the table is.
--- A key is the bit patterns of two buckets: s of the logarithm of the stability, r of the desired retention. Assumes
--- nothing.
+-- A key is the bit patterns of two buckets: s of the logarithm of the stability, r of the desired retention.
 --     Table, table keys intervals         the table of two lists; places t: how many places both lists have
 --     isFree v        whether an interval marks a free place; freeAt t p, keyAt t p s r, valueAt t p: what stands at a
 --     place

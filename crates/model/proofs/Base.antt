@@ -1,4 +1,4 @@
--- 1 + factor t / s, as f32 operations compute it, is within three roundings of its exact value. Assumes nothing.
+-- 1 + factor t / s, as f32 operations compute it, is within three roundings of its exact value.
 --     exact f t s             the exact value
 --     base-near f t s         the bound
 --     base-fits, base-clear, base-least, base-most        a float from 1/2 to 2^126

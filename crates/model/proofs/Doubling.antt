@@ -1,5 +1,5 @@
 -- Sixteen doublings are enough: from 1 or more, the upper end of the bisection then stands at S_MAX, or the curve
--- there is not above the retention any more. Assumes nothing.
+-- there is not above the retention any more.
 --     doubled-enough f r h                from h of at least 1, for any curve f
 --     bisection-reaches f r top           in the bisection, whose upper end starts at 1 or more
 use mathlib.Core.Path.{_≡_, refl, sym, ap, _∙_, subst}

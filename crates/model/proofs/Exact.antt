@@ -1,5 +1,5 @@
 -- A retention from 10^-6 to 1 is squeezed without an error in `f64`: times `inner` it has at most 48 digits, and with
--- `edge` at most 52. Assumes nothing.
+-- `edge` at most 52.
 --     least                         10^-6
 --     finite-there r                such an r is finite
 --     squeezed-sum r                r * inner + edge is exact, as float32's laws ask

@@ -1,5 +1,5 @@
 -- Fractions, and how many roundings apart two of them are: a rounding to an f32 is a factor of at most 1 + 2^-24, up or
--- down, so k of them are one of at most (1 + 2^-24)^k. Sums, products and quotients keep such factors. Assumes nothing.
+-- down, so k of them are one of at most (1 + 2^-24)^k. Sums, products and quotients keep such factors.
 --     x ⊕ y, x ⊗ y, quotient x y, x ⊑ y   sum, product, quotient, order
 --     AtMost k x y            x ≤ y (1 + 2^-24)^k
 --     Toward s k x y          the same, or y ≤ x (1 + 2^-24)^k where s is set

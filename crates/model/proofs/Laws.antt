@@ -1,4 +1,4 @@
--- What the run asks of the model. Assumes nothing.
+-- What the run asks of the model.
 --     interval-number curves s r          the interval is never a NaN
 --     scheduled-between curves s r maxIvl the interval that is scheduled lies between 1 and the largest, by any curves
 --     stability-between p s d r rating    the stability after a rating lies between S_MIN and S_MAX, if the one before

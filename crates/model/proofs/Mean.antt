@@ -1,6 +1,6 @@
 -- The weighted mean of two powers, squeezed, as f32 operations compute it: within so many roundings of the exact one.
 -- What is lost below the normal numbers is lost in the 0.00001 that the squeeze adds: 0.99998 m + 0.00001 is
--- 0.99998 (m + 1 / 99998), and each sum has its part of the 1 / 99998 added on both sides. Assumes nothing.
+-- 0.99998 (m + 1 / 99998), and each sum has its part of the 1 / 99998 added on both sides.
 --     Terms w1 w2 p1 p2 total     what is asked of the weights, the powers and the sum of the weights
 --     sum, sum-pos            the exact sum of the weights
 --     ratio, exactInner       1 / 99998 and 0.99998

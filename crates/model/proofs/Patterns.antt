@@ -1,4 +1,4 @@
--- The bit pattern of a finite float. Assumes nothing.
+-- The bit pattern of a finite float.
 --     finite-bits x           below the infinity's, but for the sign
 --     clear-bits x, bits-pos x    with a clear sign below the infinity's, and above 0 where x is not 0
 use mathlib.Core.Path.{_≡_, refl, sym, ap, _∙_, subst}

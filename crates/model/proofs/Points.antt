@@ -1,5 +1,5 @@
 -- The range of the bound on a retention holds a curve that a run meets: all parameters 0.5, a card of stability 0.5 and
--- difficulty 5, on its tenth day (`tenth-day`). Assumes nothing.
+-- difficulty 5, on its tenth day (`tenth-day`).
 use mathlib.Core.Path.{_≡_, refl, subst}
 use mathlib.Core.Bool.{false}
 use mathlib.Core.List.{List}

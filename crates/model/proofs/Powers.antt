@@ -1,5 +1,5 @@
 -- x^y for y from -1 to 0, computed by powf from a base that is itself rounded: within so many roundings of the exact
--- power of the exact base. Assumes nothing.
+-- power of the exact base.
 --     IsPower k a b n m p     p is within k roundings of (a / b)^(- n / m)
 --     power-of-exact x y k z  powf's x^y is, with five roundings more than x is off the exact base z
 use mathlib.Core.Path.{_≡_, sym, ap, _∙_, subst}

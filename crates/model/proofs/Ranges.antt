@@ -1,4 +1,4 @@
--- What of the range of the bound on a retention holds by itself. Assumes nothing.
+-- What of the range of the bound on a retention holds by itself.
 --     stability-in-range s    any stability but +infinity, as a curve takes it
 --     decay-in-range x        any decay but a NaN
 --     curve-in-range w x t    a curve of parameters, where its factors, its weights and the time are in range

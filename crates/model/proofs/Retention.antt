@@ -1,4 +1,4 @@
--- A CURVE'S RETENTION IS WITHIN A MILLIONTH OF ITS EXACT VALUE. Assumes nothing.
+-- A CURVE'S RETENTION IS WITHIN A MILLIONTH OF ITS EXACT VALUE.
 --     retention-near c t      where the curve and the time are in range
 --     retention-ordered c t   the definition of the exact value speaks of one number
 -- The roundings: three in the base of a power, five for the two steps of powf, one in each product with a weight, in

@@ -1,6 +1,5 @@
 -- What an f32 operation on finite floats from 0 up does to their exact values: it rounds, by a factor of at most
--- 1 + 2^-24 up or down. Below 2^-126 the factor can be larger, but not once 2^-126 is added on both sides. Assumes
--- nothing.
+-- 1 + 2^-24 up or down. Below 2^-126 the factor can be larger, but not once 2^-126 is added on both sides.
 --     Clear x, val x          x is finite with a clear sign; its value
 --     smallest, largest       2^-126 and 2^127
 --     Rounded x r             r is x, rounded

@@ -1,4 +1,4 @@
--- What is kept of the parameters gives what the model's definitions give of them. Assumes nothing.
+-- What is kept of the parameters gives what the model's definitions give of them.
 --     init-stability-is w rating          the stability of a new card
 --     curve-is w x    THE CURVE of a state
 --     curves-are w    the curves of all states, as one function: what the model's other functions take

@@ -1,4 +1,4 @@
--- One turn of each of the solver's loops, counted down. Assumes nothing.
+-- One turn of each of the solver's loops, counted down.
 --     newton-on, newton-off, newton-still, newton-end     a finite step, one not finite, one that changes nothing; none
 --     left
 --     doubled-on, doubled-off, doubled-end                a doubling, its stop, none left

@@ -1,4 +1,4 @@
--- HOW NEAR A CURVE'S RETENTION IS TO ITS EXACT VALUE. Definitions only. Assumes nothing.
+-- HOW NEAR A CURVE'S RETENTION IS TO ITS EXACT VALUE. Definitions only.
 --
 -- The exact retention of a curve after t days is the real number 0.99998 (w1 B1^d1 + w2 B2^d2) / (w1 + w2) + 0.00001,
 -- where B1 is 1 + factor1 t / fast, B2 is 1 + rate2 t / stability, and w1, w2, d1, d2 are the weights and the decays,

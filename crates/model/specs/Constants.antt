@@ -1,5 +1,5 @@
 -- The model's limits and the numbers of its formulas: each is the f32 nearest to the decimal beside it. Definitions
--- only. Assumes nothing.
+-- only.
 --     sMin, sMax, dMin, dMax, drMin, drMax      the ends of a stability in days, a difficulty, a desired retention
 --     minT                                      the shortest time
 --     initShare, currentShare, againShift       difficulty: mean reversion, and the change at rating 1

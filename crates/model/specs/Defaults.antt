@@ -1,5 +1,5 @@
 -- The tables of the default configuration, from their decimals: each entry is the f32 nearest to it. Definitions
--- only. Assumes nothing.
+-- only.
 --     over d ns       numerators over one denominator
 --     learningStepTransitions, relearningStepTransitions        by the rating before, three rows of four
 --     stateRatingCosts                    seconds, by learning, review and relearning

@@ -1,4 +1,4 @@
--- FSRS-7 as model_v7.rs has it, in f32, operation by operation and in its order. Definitions only. Assumes nothing.
+-- FSRS-7 as model_v7.rs has it, in f32, operation by operation and in its order. Definitions only.
 -- Letters: w the parameters; x a memory state; s, d, r a stability, a difficulty and a chance of recall; t days; c a
 -- curve; u the logarithm of t.
 --

@@ -1,7 +1,7 @@
 -- WHAT IS KEPT OF THE PARAMETERS, the Rust's `Fsrs7Runtime`: the numbers that they alone decide, and the curve of a
 -- memory state from these.
 -- Of `runtimeOf w` each is what specs/Model gives of w (proofs/Runtime: `curve-is`, `init-stability-is`). Definitions
--- only. Assumes nothing.
+-- only.
 --   firstOf w, difficultyOf w, curveParametersOf w   its parts; the fourth is `setOf w 7` of specs/Model
 --   runtimeOf w                       the whole
 --   SameRead w w′                     the same parameters where they are read

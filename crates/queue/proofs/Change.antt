@@ -1,4 +1,4 @@
--- The first card's key changes: the queue stays sound, and the same cards are queued. Assumes nothing.
+-- The first card's key changes: the queue stays sound, and the same cards are queued.
 --   Changed, change-law                          what a change of the first card's key leaves
 --   rekeyed-first, rekeyed-other, rekeyed-card   the rows with the new key: the first, the others, and each row's card
 --   change-queued                                a change of key leaves the same cards queued

@@ -1,4 +1,4 @@
--- The queue after cards 0, 1, .. have joined in order. Assumes nothing.
+-- The queue after cards 0, 1, .. have joined in order.
 --   Filled                            each has its key; the places beyond are as in rows₀
 --   fill-none, fill-same, fill-next   none has joined; keys that agree on the cards will do; one more joins
 use mathlib.Core.Path.{_≡_, refl, sym, _∙_}

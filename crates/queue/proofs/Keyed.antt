@@ -1,4 +1,4 @@
--- Each card stands with its key, after each operation too. Assumes nothing.
+-- Each card stands with its key, after each operation too.
 --   keyed-same                  keys that agree on the cards will do
 --   queued-named, keyed-least   a queued card is one of the cards, and the first has the least key
 --   requeue, unqueue, enqueue   each operation leaves each card with its key

@@ -1,4 +1,4 @@
--- The order of keys is that of day, reviews before new cards, and priority. Assumes nothing.
+-- The order of keys is that of day, reviews before new cards, and priority.
 --   widened                                  an i32 is itself at 64 bits
 --   shifted-lt, shifted-sum, shifted-order   a shifted i32 fits 32 bits, is the sum that the code takes, keeps order
 --   packed-order, packed-day                 the order of keys by their parts, and what it says of the days

@@ -1,5 +1,5 @@
 -- One turn of each of the heap's loops as equations of the definitions. The code keeps the moving row aside and writes
--- one row a level; put at the place that is left, it makes each such write an exchange. Assumes nothing.
+-- one row a level; put at the place that is left, it makes each such write an exchange.
 --   rise-stop, rise-more                          a row rests, or goes up one level
 --   bubble-turn, bubble-end                       the same of bubble_up's loop
 --   lesser-yes, lesser-no, least-two, least-one   the least of a place and its children, case by case

@@ -1,6 +1,5 @@
 -- Heap order, of the keys by place alone: K x is the key at place x. What one exchange of a place with its parent, or
 -- with its least child, keeps, and what each loop leaves.
--- Assumes nothing.
 --   Ordered K len                         each key is at least its parent's
 --   Rising K len pos, Sinking K len pos   the same but between pos and its parent, or its children
 --   Swapped K K′ a b                      two keys exchanged

@@ -1,4 +1,4 @@
--- The first card leaves: the queue stays sound, and no other card leaves. Assumes nothing.
+-- The first card leaves: the queue stays sound, and no other card leaves.
 --   Popped, pop-law        what is left without the first card
 --   pop-other, pop-front   the first card leaves, and no other
 use mathlib.Core.Path.{_≡_, refl, sym, ap, _∙_}

@@ -1,4 +1,4 @@
--- A card joins: the queue stays sound, and the card is queued with those before. Assumes nothing.
+-- A card joins: the queue stays sound, and the card is queued with those before.
 --   Pushed, push-law                a card joins as the last row, and what that leaves
 --   last-card, last-key, same-row   the last row's card and key, and the rows before it
 --   push-queued                     the card is queued then, and so are those before

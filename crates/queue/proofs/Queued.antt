@@ -1,4 +1,4 @@
--- Which cards are queued, and which of them is first. Assumes nothing.
+-- Which cards are queued, and which of them is first.
 --   stands-here, stands-where   a card is queued where a place holds it, and only there
 --   bool-eq                     two tests that pass in the same cases are one
 --   card-same, key-same         two rows alike hold the same card, with the same key

@@ -1,4 +1,4 @@
--- The heap's loops put the first len rows in heap order, and change nothing but their order. Assumes nothing.
+-- The heap's loops put the first len rows in heap order, and change nothing but their order.
 --   Mixed len rows₀ rows              the same rows in another order
 --   mixed-none                        rows with no card twice are so of themselves
 --   Settled len rows₀ rows            the same rows, in heap order

@@ -1,6 +1,5 @@
 -- What holds before each loop and is kept by each of its exchanges holds after it: `rise-keeps` and `sink-keeps` carry
 -- every law of the heap.
--- Assumes nothing.
 --   swap-first, swap-second, swap-other, swapped   the rows after an exchange, and their keys
 --   rise-keeps                                     a law that each exchange upwards keeps, and where bubble_up ends
 --   least-below, least-child                       the place chosen has the least key, and is a child if it is not pos

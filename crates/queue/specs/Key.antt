@@ -1,4 +1,4 @@
--- A card's order key: one number whose order is that of (day, reviews before new cards, priority). Assumes nothing.
+-- A card's order key: one number whose order is that of (day, reviews before new cards, priority).
 --   shifted z                         an i32 counted from the least
 --   priorityOf difficulty             the priority of a difficulty
 --   packed day new priority           the three in one number

@@ -1,7 +1,6 @@
 -- The card queue as functions on its list of rows: a binary heap, the smallest key first. A row is an order key and a
 -- card number.
 -- Comparisons and exchanges are those of `CardPriorityQueue`, so cards with equal keys are served in the same order.
--- Assumes nothing.
 --   keyAt rows i, cardIndexAt rows i        the key and the card of the row at a place
 --   parent i, swap rows i j                 the place above i, and the list with two rows exchanged
 --   rise n rows pos, bubbleUp rows pos      a row goes up while its parent's key is greater

@@ -1,4 +1,4 @@
--- What a queue keeps, and which cards it holds. Assumes nothing.
+-- What a queue keeps, and which cards it holds.
 --   Sound q                        its cards lie within the list, none twice, in heap order
 --   stands rows n c, queued q c    whether a card stands in the first n rows, and in the queue
 --   Keyed cards k q                it is sound, and each card stands with its own key

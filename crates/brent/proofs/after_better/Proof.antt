@@ -1,4 +1,3 @@
--- `brent::after_better` meets its contract.
 use borrow.Author.Needs.{needs}
 use Rattle.brent.specs.Step.{afterBetter}
 use Rattle.brent.proofs.after_better.Statement.{statement}

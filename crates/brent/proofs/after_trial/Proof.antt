@@ -1,4 +1,3 @@
--- `brent::after_trial` meets its contract.
 use borrow.Author.Needs.{needs}
 use Rattle.brent.specs.Step.{afterTrial}
 use Rattle.brent.proofs.after_trial.Statement.{statement}

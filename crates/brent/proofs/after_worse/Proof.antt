@@ -1,4 +1,3 @@
--- `brent::after_worse` meets its contract.
 use borrow.Author.Needs.{needs}
 use Rattle.brent.specs.Step.{afterWorse}
 use Rattle.brent.proofs.after_worse.Statement.{statement}

@@ -1,4 +1,3 @@
--- `brent::answer` meets its contract.
 use borrow.Author.Needs.{needs}
 use Rattle.brent.specs.Stepping.{answer}
 use Rattle.brent.proofs.answer.Statement.{statement}

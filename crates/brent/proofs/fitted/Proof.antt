@@ -1,4 +1,3 @@
--- `brent::fitted` meets its contract.
 use borrow.Author.Needs.{needs}
 use Rattle.brent.specs.Step.{fitted}
 use Rattle.brent.proofs.fitted.Statement.{statement}

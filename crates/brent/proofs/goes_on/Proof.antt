@@ -1,4 +1,3 @@
--- `brent::goes_on` meets its contract.
 use borrow.Author.Needs.{needs}
 use borrow.Author.Tests.{lt-ltb, le-ltb}
 use Rattle.brent.specs.Stepping.{goesOn}

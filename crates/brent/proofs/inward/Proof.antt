@@ -1,4 +1,3 @@
--- `brent::inward` meets its contract.
 use borrow.Author.Needs.{needs}
 use Rattle.brent.specs.Step.{inward}
 use Rattle.brent.proofs.inward.Statement.{statement}

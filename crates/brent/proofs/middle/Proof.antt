@@ -1,4 +1,3 @@
--- `brent::middle` meets its contract.
 use mathlib.Core.Path.{refl}
 use lib.Ieee.{ofBits, ofFields, round}
 use Rattle.brent.specs.Step.{middle}

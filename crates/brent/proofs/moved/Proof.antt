@@ -1,4 +1,3 @@
--- `brent::moved` meets its contract.
 use borrow.Author.Needs.{needs}
 use Rattle.brent.specs.Step.{moved}
 use Rattle.brent.proofs.moved.Statement.{statement}

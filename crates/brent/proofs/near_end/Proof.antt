@@ -1,4 +1,3 @@
--- `brent::near_end` meets its contract.
 use borrow.Author.Needs.{needs}
 use Rattle.brent.specs.Step.{nearEnd}
 use Rattle.brent.proofs.near_end.Statement.{statement}

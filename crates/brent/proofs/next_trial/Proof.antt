@@ -1,4 +1,3 @@
--- `brent::next_trial` meets its contract.
 use borrow.Author.Needs.{needs}
 use Rattle.brent.specs.Step.{trial, trialOf}
 use Rattle.brent.proofs.next_trial.Statement.{statement}

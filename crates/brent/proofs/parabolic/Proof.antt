@@ -1,4 +1,3 @@
--- `brent::parabolic` meets its contract.
 use borrow.Author.Needs.{needs}
 use Rattle.brent.specs.Step.{parabolic}
 use Rattle.brent.proofs.parabolic.Statement.{statement}

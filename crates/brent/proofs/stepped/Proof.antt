@@ -1,4 +1,3 @@
--- `brent::stepped` meets its contract.
 use borrow.Author.Needs.{needs}
 use Rattle.brent.specs.Step.{stepped}
 use Rattle.brent.proofs.stepped.Statement.{statement}

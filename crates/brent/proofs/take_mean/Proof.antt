@@ -1,4 +1,3 @@
--- `brent::take_mean` meets its contract.
 use borrow.Author.Needs.{needs}
 use Rattle.brent.specs.Stepping.{takeMean}
 use Rattle.brent.proofs.take_mean.Statement.{statement}

@@ -1,4 +1,3 @@
--- `brent::taken` meets its contract.
 use borrow.Author.Needs.{needs}
 use Rattle.brent.proofs.taken.Statement.{statement}
 use Rattle.brent.proofs.taken.Tie as tie

@@ -1,4 +1,3 @@
--- `brent::to_end` meets its contract.
 use borrow.Author.Needs.{needs}
 use Rattle.brent.specs.Step.{toEnd}
 use Rattle.brent.proofs.to_end.Statement.{statement}

@@ -1,4 +1,3 @@
--- `brent::useful` meets its contract.
 use lib.Ieee.{ofBits, ofFields, round}
 use borrow.Author.Needs.{needs}
 use Rattle.brent.specs.Step.{useful}

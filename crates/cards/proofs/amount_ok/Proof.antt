@@ -1,4 +1,3 @@
--- `cards::amount_ok` meets its contract.
 use Rattle.cards.specs.Config.{amountOk}
 use Rattle.cards.proofs.amount_ok.Statement.{statement}
 use Rattle.cards.proofs.amount_ok.Tie as tie

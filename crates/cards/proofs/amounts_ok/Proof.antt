@@ -1,4 +1,3 @@
--- `cards::amounts_ok` meets its contract.
 use Rattle.turns.proofs.Logic.{not-true, not-false, and-true}
 use borrow.Author.Needs.{needs}
 use Rattle.cards.proofs.amounts_ok.Statement.{statement}

@@ -1,4 +1,3 @@
--- `cards::card_at` meets its contract.
 use Rattle.cards.specs.Cards.{cardAt}
 use borrow.Author.Needs.{needs}
 use Rattle.cards.proofs.card_at.Statement.{statement}

@@ -1,4 +1,3 @@
--- `cards::card_ok` meets its contract.
 use Rattle.turns.proofs.Logic.{not-true, not-false}
 use Rattle.cards.specs.Cards.{cardOk}
 use Rattle.cards.proofs.card_ok.Statement.{statement}

@@ -1,4 +1,3 @@
--- `cards::config_ok` meets its contract.
 use Rattle.turns.proofs.Logic.{not-true, not-false}
 use Rattle.cards.specs.Config.{configOk}
 use Rattle.cards.proofs.config_ok.Statement.{statement}

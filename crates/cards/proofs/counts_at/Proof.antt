@@ -1,4 +1,3 @@
--- `cards::counts_at` meets its contract.
 use lib.ListN.{List·getD-eq-default}
 use mathlib.Core.Path.{sym}
 use Rattle.turns.proofs.Logic.{getD-any}

@@ -1,4 +1,3 @@
--- `cards::date_ok` meets its contract.
 use lib.Ieee.{ofBits, ofFields, round}
 use Rattle.cards.proofs.date_ok.Statement.{statement}
 use Rattle.cards.proofs.date_ok.Tie as tie

@@ -1,4 +1,3 @@
--- `cards::day_of` meets its contract.
 use mathlib.Core.Path.{sym, _∙_}
 use Rattle.cards.proofs.Later.{day-cut}
 use Rattle.cards.proofs.day_of.Statement.{statement}

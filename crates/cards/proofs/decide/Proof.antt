@@ -1,4 +1,3 @@
--- `cards::decide` meets its contract.
 use Rattle.cards.specs.Choices.{choiceOf}
 use Rattle.cards.proofs.decide.Statement.{statement}
 use Rattle.cards.proofs.decide.Tie as tie

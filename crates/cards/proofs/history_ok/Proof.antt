@@ -1,4 +1,3 @@
--- `cards::history_ok` meets its contract.
 use Rattle.cards.proofs.history_ok.Statement.{statement}
 use Rattle.cards.proofs.history_ok.Tie as tie
 

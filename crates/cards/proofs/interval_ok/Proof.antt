@@ -1,4 +1,3 @@
--- `cards::interval_ok` meets its contract.
 use lib.Ieee.{ofBits, ofFields, ofInt, round}
 use Rattle.cards.specs.Config.{intervalOk}
 use Rattle.cards.proofs.interval_ok.Statement.{statement}

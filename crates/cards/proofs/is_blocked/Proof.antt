@@ -1,4 +1,3 @@
--- `cards::is_blocked` meets its contract.
 use borrow.Author.Tests.{le-leb, lt-leb}
 use Rattle.cards.specs.Choices.{blocked}
 use borrow.Author.Needs.{needs}

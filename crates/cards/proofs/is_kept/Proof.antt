@@ -1,4 +1,3 @@
--- `cards::is_kept` meets its contract.
 use mathlib.Core.Path.{refl}
 use lib.Ieee.{ofBits, ofFields, round}
 use Rattle.cards.specs.Cards.{isKept}

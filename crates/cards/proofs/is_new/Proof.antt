@@ -1,4 +1,3 @@
--- `cards::is_new` meets its contract.
 use lib.Ieee.{ofBits, ofFields, div, neg, eq}
 use mathlib.Core.Path.{refl}
 use Rattle.cards.specs.Day.{isNew}

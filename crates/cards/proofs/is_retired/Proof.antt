@@ -1,4 +1,3 @@
--- `cards::is_retired` meets its contract.
 use Rattle.cards.specs.Choices.{retires}
 use Rattle.cards.proofs.is_retired.Statement.{statement}
 use Rattle.cards.proofs.is_retired.Tie as tie

@@ -1,4 +1,3 @@
--- `cards::row_of` meets its contract.
 use lib.Ieee.{ofBits, ofFields, div, nan}
 use Prim.Native.Nat.{_+_, _*_, _≤_}
 use lib.ListN.{length, List·getD-eq-default}

@@ -1,4 +1,3 @@
--- `cards::sum_ok` meets its contract.
 use Rattle.cards.proofs.sum_ok.Statement.{statement}
 use Rattle.cards.proofs.sum_ok.Tie as tie
 

@@ -1,4 +1,3 @@
--- `cards::three_weights_ok` meets its contract.
 use Rattle.turns.proofs.Logic.{not-true, not-false}
 use Rattle.cards.specs.Config.{weightsOk}
 use Rattle.draws.specs.Draws.{sumFrom}

@@ -1,4 +1,3 @@
--- `cards::transitions_ok` meets its contract.
 use mathlib.Core.List.{List}
 use lib.Ieee.{Float}
 use mathlib.Core.Path.{ap, _∙_}

@@ -1,4 +1,3 @@
--- `cards::weights_ok` meets its contract.
 use Rattle.cards.specs.Config.{weightsOk}
 use Rattle.draws.specs.Draws.{sumFrom}
 use borrow.Author.Needs.{needs}

@@ -1,4 +1,3 @@
--- `cards::write_floats` meets its contract.
 use lib.Seq.{set-out}
 use mathlib.Core.Path.{refl, sym}
 use Rattle.cards.specs.Cards.{writeFloats}

@@ -1,4 +1,3 @@
--- `days::add_due_at` meets its contract.
 use borrow.Author.Tests.{lt-ltb, le-ltb}
 use Rattle.days.specs.Due.{addDue}
 use borrow.Author.Needs.{needs}

@@ -1,4 +1,3 @@
--- `days::count_event` meets its contract.
 use Rattle.days.specs.Counts.{addEvent}
 use borrow.Author.Needs.{needs}
 use Rattle.days.proofs.add_event.Statement.{statement}

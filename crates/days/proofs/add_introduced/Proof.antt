@@ -1,4 +1,3 @@
--- `days::introduce_on` meets its contract.
 use lib.Seq.{set-out}
 use mathlib.Core.Path.{sym}
 use Rattle.days.specs.Counts.{addIntroduced}

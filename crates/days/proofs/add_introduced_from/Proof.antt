@@ -1,4 +1,4 @@
--- `days::introduce_from` meets its contract.
+-- The invariant of its loop: counting on from day d gives what the whole count gives. The measure is the days left.
 use Prim.Native.Nat.{_-_}
 use lib.ListN.{length}
 use native.Mathlib.Omega.{arith}

@@ -1,4 +1,3 @@
--- `days::move_due` meets its contract.
 use Rattle.days.specs.Due.{moveDue}
 use borrow.Author.Needs.{needs}
 use Rattle.days.proofs.move_due.Statement.{statement}

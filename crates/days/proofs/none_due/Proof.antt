@@ -1,4 +1,3 @@
--- `days::none_due` meets its contract.
 use Rattle.days.specs.Due.{noneDue}
 use borrow.Author.Needs.{needs}
 use Rattle.days.proofs.none_due.Statement.{statement}

@@ -1,4 +1,3 @@
--- `days::put_due` meets its contract.
 use lib.Seq.{set-out}
 use mathlib.Core.Path.{sym}
 use borrow.Author.Needs.{needs}

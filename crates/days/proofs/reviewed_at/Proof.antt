@@ -1,4 +1,3 @@
--- `days::reviewed_at` meets its contract.
 use lib.ListN.{List·getD-eq-default}
 use mathlib.Core.Path.{refl}
 use borrow.Author.Needs.{needs}

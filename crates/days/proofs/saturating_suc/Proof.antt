@@ -1,4 +1,3 @@
--- `days::raise` meets its contract.
 use borrow.Author.Tests.{lt-ltb, le-ltb}
 use Rattle.days.specs.Counts.{saturatingSuc}
 use borrow.Author.Needs.{needs}

@@ -1,4 +1,3 @@
--- `days::raise_if` meets its contract.
 use borrow.Author.Needs.{needs}
 use Rattle.days.proofs.saturating_suc_if.Statement.{statement}
 use Rattle.days.proofs.saturating_suc_if.Tie as tie

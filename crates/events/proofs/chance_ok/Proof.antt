@@ -1,4 +1,3 @@
--- `events::chance_ok` meets its contract.
 use Rattle.events.proofs.chance_ok.Statement.{statement}
 use Rattle.events.proofs.chance_ok.Tie as tie
 

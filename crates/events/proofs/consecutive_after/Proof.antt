@@ -1,4 +1,3 @@
--- `events::consecutive_after` meets its contract.
 use borrow.Author.Tests.{lt-ltb, le-ltb, eq-eqb, ne-eqb}
 use Rattle.events.specs.Events.{consecutiveAfter}
 use borrow.Author.Needs.{needs}

@@ -1,4 +1,3 @@
--- `events::drawn_rating` meets its contract.
 use borrow.Author.Needs.{needs}
 use Rattle.events.proofs.drawn_rating.Statement.{statement}
 use Rattle.events.proofs.drawn_rating.Tie as tie

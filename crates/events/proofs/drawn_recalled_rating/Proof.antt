@@ -1,4 +1,3 @@
--- `events::drawn_recalled_rating` meets its contract.
 use borrow.Author.Needs.{needs}
 use Rattle.events.proofs.drawn_recalled_rating.Statement.{statement}
 use Rattle.events.proofs.drawn_recalled_rating.Tie as tie

@@ -1,4 +1,3 @@
--- `events::event_at` meets its contract.
 use Rattle.events.specs.Events.{eventAt}
 use borrow.Author.Needs.{needs}
 use Rattle.events.proofs.event_at.Statement.{statement}

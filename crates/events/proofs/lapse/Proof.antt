@@ -1,4 +1,3 @@
--- `events::lapse` meets its contract.
 use native.Mathlib.Omega.{arith}
 use Rattle.events.specs.Events.{lapse}
 use borrow.Author.Needs.{needs}

@@ -1,4 +1,3 @@
--- `events::learning_limit` meets its contract.
 use borrow.Author.Tests.{lt-ltb, le-ltb}
 use borrow.Author.Needs.{needs}
 use Rattle.events.proofs.learning_limit.Statement.{statement}

@@ -1,4 +1,3 @@
--- `events::reviewing` meets its contract.
 use Prim.Native.Nat.{ℕ}
 use mathlib.Core.Path.{_≡_, sym, ap, _∙_}
 use Rattle.draws.specs.Draws.{advance, mix, word, recalled}

@@ -1,4 +1,3 @@
--- `events::short_step` meets its contract.
 use native.Mathlib.Omega.{arith}
 use Rattle.events.specs.Events.{shortStep}
 use borrow.Author.Needs.{needs}

@@ -1,4 +1,3 @@
--- `events::success` meets its contract.
 use native.Mathlib.Omega.{arith}
 use Rattle.events.specs.Events.{success}
 use borrow.Author.Needs.{needs}

@@ -1,4 +1,3 @@
--- `float32::abs` meets its contract. Assumes nothing.
 use mathlib.Core.Path.{sym, subst}
 use lib.Dec.{T}
 use lib.Ieee.{ofBits}

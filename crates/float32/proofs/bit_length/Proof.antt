@@ -1,4 +1,3 @@
--- `float32::bit_length` meets its contract. Assumes nothing.
 use mathlib.Core.Path.{_∙_}
 use borrow.Author.Needs.{needs}
 use lib.Count.{leading-le}

@@ -1,4 +1,3 @@
--- `float32::clamp` meets its contract. Assumes nothing.
 use Rattle.float32.specs.Float32.{clamp}
 use Rattle.float32.proofs.clamp.Statement.{statement}
 use Rattle.float32.proofs.clamp.Tie as tie

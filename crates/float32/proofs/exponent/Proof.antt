@@ -1,4 +1,3 @@
--- `float32::exponent` meets its contract. Assumes nothing.
 use native.Mathlib.Omega.{arith}
 use borrow.Author.Needs.{needs}
 use Rattle.float32.specs.Encoding.{exponent}

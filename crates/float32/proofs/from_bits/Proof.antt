@@ -1,4 +1,3 @@
--- `float32::from_bits` meets its contract. Assumes nothing.
 use mathlib.Core.Path.{_≡_, refl, sym, _∙_}
 use mathlib.Core.Bool.{true, false, true≢false}
 use borrow.Author.Tests.{lt-ltb, le-ltb}

@@ -1,4 +1,3 @@
--- `float32::from_u32` meets its contract.
 use borrow.Author.Needs.{needs}
 use lib.Dec.{le→leb}
 use lib.Ieee.{inFloat}

@@ -1,4 +1,4 @@
--- `float32::from_units` meets its contract: `proofs/Patterns.antt` says what the pattern is. Assumes nothing.
+-- `float32::from_units` meets its contract: `proofs/Patterns.antt` says what the pattern is.
 use mathlib.Core.Path.{sym, ap, _∙_, subst}
 use mathlib.Core.Bool.{Bool, true, false, not, cond}
 use Prim.Native.Nat.{ℕ, _+_, _*_, _^_, _≤_, _<_}

@@ -1,4 +1,3 @@
--- `float32::half_up` meets its contract. Assumes nothing.
 use mathlib.Core.Path.{ap, _∙_}
 use Prim.Native.Nat.{ℕ, _+_, _*_, _/_, _^_}
 use native.Mathlib.Nat.{div-div-eq-div-mul}

@@ -1,5 +1,4 @@
 -- `float32::is_finite` meets its contract: 1.0 / 0.0 is an infinity, and a finite float lies strictly between the two.
--- Assumes nothing.
 use lib.Ieee.{ofBits, div, neg}
 use Rattle.float32.proofs.Simple.{finite-under, finite-over}
 use Rattle.float32.proofs.is_finite.Statement.{statement}

@@ -1,4 +1,3 @@
--- `float32::is_nan` meets its contract. Assumes nothing.
 use Rattle.float32.proofs.Simple.{nan-test}
 use Rattle.float32.proofs.is_nan.Statement.{statement}
 use Rattle.float32.proofs.is_nan.Tie as tie

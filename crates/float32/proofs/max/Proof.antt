@@ -1,5 +1,4 @@
 -- `float32::max` meets its contract: each arm returns what the definition's two `cond` pick under the arm's tests.
--- Assumes nothing.
 use Rattle.float32.specs.Float32.{max}
 use Rattle.float32.proofs.Simple.{nan-test}
 use Rattle.float32.proofs.max.Statement.{statement}

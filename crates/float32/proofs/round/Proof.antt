@@ -1,5 +1,4 @@
--- `float32::round` meets its contract: `proofs/Whole.antt` says what the shifted digits of x's pattern are. Assumes
--- nothing.
+-- `float32::round` meets its contract: `proofs/Whole.antt` says what the shifted digits of x's pattern are.
 use mathlib.Core.Path.{_≡_, sym, ap, _∙_, subst}
 use Prim.Native.Nat.{ℕ, _+_, _-_, _*_, _/_, _^_, _≤_, _<_}
 use borrow.Author.Needs.{needs}

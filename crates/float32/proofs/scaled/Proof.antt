@@ -1,4 +1,3 @@
--- `float32::scaled` meets its contract. Assumes nothing.
 use mathlib.Core.Path.{_≡_, _∙_, subst}
 use Prim.Native.Nat.{ℕ, _+_, _*_, _^_, _<_}
 use native.Mathlib.Nat.{le-of-lt}

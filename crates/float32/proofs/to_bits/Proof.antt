@@ -1,4 +1,3 @@
--- `float32::to_bits` meets its contract. Assumes nothing.
 use mathlib.Core.Path.{_≡_, refl, sym, ap, _∙_}
 use lib.Ieee.{Float, nan, binary32, toBits}
 use lib.Ieee.Compare.{differs-from-itself}

@@ -1,4 +1,4 @@
--- `float32::to_i32` meets its contract: `proofs/Casts.antt` has each range of x. Assumes nothing.
+-- `float32::to_i32` meets its contract: `proofs/Casts.antt` has each range of x.
 use mathlib.Core.Path.{_≡_, sym, ap, _∙_, subst}
 use lib.IntN.{ℤ}
 use lib.Ieee.{Float, ofBits, neg, toSigned}

@@ -1,4 +1,4 @@
--- `float32::to_u32` meets its contract: `proofs/Cut.antt` has the quick path. Assumes nothing.
+-- `float32::to_u32` meets its contract: `proofs/Cut.antt` has the quick path.
 use mathlib.Core.Path.{_∙_}
 use borrow.Author.Needs.{needs}
 use lib.Dec.{T}

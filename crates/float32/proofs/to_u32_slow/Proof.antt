@@ -1,4 +1,4 @@
--- `float32::to_u32_slow` meets its contract: `proofs/Casts.antt` has each range of x. Assumes nothing.
+-- `float32::to_u32_slow` meets its contract: `proofs/Casts.antt` has each range of x.
 use mathlib.Core.Path.{_≡_, sym, _∙_, subst}
 use Prim.Native.Nat.{ℕ, _^_, _<_}
 use lib.Ieee.{ofBits, neg, toUnsigned}

@@ -1,5 +1,3 @@
--- `intervals::after` meets its contract.
--- Assumes nothing.
 use borrow.Author.Needs.{needs}
 use borrow.Author.Tests.{eq-eqb, ne-eqb}
 use Rattle.intervals.specs.Table.{nextOf}

@@ -1,5 +1,4 @@
 -- `intervals::clear` meets its contract. The loop's invariant: the first i places are 0 and the others as they came.
--- Assumes nothing.
 use mathlib.Core.Path.{_≡_, refl, _∙_, ap}
 use mathlib.Core.List.{List, _++_}
 use Prim.Native.Nat.{_≤_, _-_}

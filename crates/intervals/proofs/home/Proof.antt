@@ -1,4 +1,3 @@
--- `intervals::home` meets its contract.
 use native.Mathlib.Omega.{arith}
 use borrow.Author.Needs.{needs}
 use Rattle.intervals.specs.Table.{homeOf}

@@ -1,6 +1,6 @@
 -- `intervals::lookup` meets its contract. The loop's invariant: what the search finds from here is what the whole
 -- search finds.
--- The measure is how many places are left. Assumes nothing.
+-- The measure is how many places are left.
 use mathlib.Core.Path.{_≡_, sym, _∙_, ap}
 use Prim.Native.Nat.{ℕ, _≤_, _<_, _-_}
 use native.Mathlib.Omega.{arith}

@@ -1,4 +1,3 @@
--- `intervals::mixed` meets its contract.
 use borrow.Author.Needs.{needs}
 use Rattle.intervals.specs.Table.{mixOf}
 use Rattle.intervals.proofs.mixed.Statement.{statement}

@@ -1,5 +1,4 @@
 -- `intervals::pattern` meets its contract: 2 ^ 32 and a negative i32 make a sum of 64 bits that is its pattern.
--- Assumes nothing.
 use native.Mathlib.Omega.{arith}
 use mir.Syntax.{w64}
 use mir.ValLaws.{toZ-pos}

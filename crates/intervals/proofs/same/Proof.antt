@@ -1,5 +1,3 @@
--- `intervals::same` meets its contract.
--- Assumes nothing.
 use borrow.Author.Tests.{eq-eqb, ne-eqb}
 use Rattle.intervals.specs.Table.{sameKey}
 use Rattle.intervals.proofs.same.Statement.{statement}

@@ -1,4 +1,4 @@
--- `queue::shifted` meets its contract: an i32 and 2 ^ 31 make a sum of 64 bits that is not negative. Assumes nothing.
+-- `queue::shifted` meets its contract: an i32 and 2 ^ 31 make a sum of 64 bits that is not negative.
 use mathlib.Core.Path.{refl}
 use native.Mathlib.Omega.{arith}
 use mir.Syntax.{w32, w64}

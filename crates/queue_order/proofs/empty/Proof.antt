@@ -1,3 +1,4 @@
+-- The invariant of its loop: the lists keep their lengths. The measure is the rounds left.
 use mathlib.Core.Path.{_≡_}
 use Prim.Native.Nat.{_-_}
 use lib.ListN.{length}

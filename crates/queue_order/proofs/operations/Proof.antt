@@ -1,3 +1,5 @@
+-- The invariant of its loop: the generator's state is below 2^31, and the lists keep their lengths. The measure is the
+-- rounds left.
 use mathlib.Core.Path.{_≡_}
 use Prim.Native.Nat.{_-_, _<_}
 use lib.ListN.{length}

@@ -1,4 +1,3 @@
--- `capi::memory::state_of` meets its contract. Assumes nothing.
 use Rattle.capi.proofs.memory.state_of.Statement.{statement}
 use Rattle.capi.proofs.memory.state_of.Tie as tie
 use mathlib.Core.Path.{refl}

@@ -1,4 +1,3 @@
--- `capi::numbers::drill_next` meets its contract. Assumes nothing.
 use borrow.Author.Needs.{needs}
 use Rattle.capi.proofs.numbers.drill_next.Statement.{statement}
 use Rattle.capi.proofs.numbers.drill_next.Tie as tie

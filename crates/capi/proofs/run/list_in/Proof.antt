@@ -1,4 +1,3 @@
--- `capi::run::list_in` meets its contract.
 use borrow.Author.Tests.{eq-eqb, ne-eqb}
 use Rattle.capi.proofs.run.list_in.Statement.{statement}
 use Rattle.capi.proofs.run.list_in.Tie as tie

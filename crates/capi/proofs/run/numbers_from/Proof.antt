@@ -1,4 +1,3 @@
--- `capi::run::numbers_from` meets its contract.
 use borrow.Author.Needs.{needs}
 use Rattle.capi.proofs.run.numbers_from.Statement.{statement}
 use Rattle.capi.proofs.run.numbers_from.Tie as tie

@@ -1,4 +1,3 @@
--- `capi::search::asked` meets its contract.
 use Rattle.capi.specs.Search.{asked}
 use lib.Ieee.{ofBits, ofFields, div}
 use borrow.Author.Needs.{needs}

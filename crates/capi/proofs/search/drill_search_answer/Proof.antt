@@ -1,4 +1,3 @@
--- `capi::search::drill_search_answer` meets its contract.
 use borrow.Author.Needs.{needs}
 use Rattle.capi.proofs.search.drill_search_answer.Statement.{statement}
 use Rattle.capi.proofs.search.drill_search_answer.Tie as tie

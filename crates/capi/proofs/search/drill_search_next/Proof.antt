@@ -1,4 +1,3 @@
--- `capi::search::drill_search_next` meets its contract.
 use borrow.Author.Needs.{needs}
 use Rattle.capi.proofs.search.drill_search_next.Statement.{statement}
 use Rattle.capi.proofs.search.drill_search_next.Tie as tie

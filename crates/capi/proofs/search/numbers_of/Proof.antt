@@ -1,4 +1,3 @@
--- `capi::search::numbers_of` meets its contract.
 use borrow.Author.Needs.{needs}
 use Rattle.capi.proofs.search.numbers_of.Statement.{statement}
 use Rattle.capi.proofs.search.numbers_of.Tie as tie

@@ -1,4 +1,3 @@
--- `capi::search::verdict_number` meets its contract.
 use Rattle.capi.specs.Search.{verdictNumber}
 use borrow.Author.Needs.{needs}
 use Rattle.capi.proofs.search.verdict_number.Statement.{statement}

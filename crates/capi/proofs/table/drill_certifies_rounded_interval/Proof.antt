@@ -1,4 +1,3 @@
--- `capi::table::drill_certifies_rounded_interval` meets its contract. Assumes nothing.
 use Rattle.model.proofs.Runtime.{curve-is}
 use borrow.Author.Needs.{needs}
 use Rattle.capi.proofs.table.drill_certifies_rounded_interval.Statement.{statement}

@@ -1,4 +1,3 @@
--- `capi::table::drill_scheduled_interval` meets its contract. Assumes nothing.
 use Rattle.model.proofs.Runtime.{curves-are}
 use borrow.Author.Needs.{needs}
 use Rattle.capi.proofs.table.drill_scheduled_interval.Statement.{statement}

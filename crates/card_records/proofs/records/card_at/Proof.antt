@@ -1,6 +1,5 @@
 -- `thin::card_at` meets its contract: a walk of its MIR, by hand. The place of `cards[i]` is 32 * i past the slice's
 -- pointer, and the whole record is read there.
--- Assumes nothing.
 use mathlib.Core.Path.{refl, sym}
 use Prim.Native.Nat.{ℕ, _<_, _*_, _^_}
 use native.Mathlib.Omega.{arith}

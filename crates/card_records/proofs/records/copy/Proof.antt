@@ -4,7 +4,6 @@
 -- At i the context before a turn, where i cards are copied. The invariant at t, the variant, is At (n - t): so it holds
 -- no ∃
 --     more, ends   a turn that copies a card, and the turn that leaves the loop, with the rest of the body
--- Assumes nothing.
 use mathlib.Core.Path.{_≡_, refl, sym, _∙_, ap, subst}
 use mathlib.Core.Logic.{_⊎_, inl, inr}
 use Prim.Native.Nat.{ℕ, _<_, _≤_, _+_, _-_, _^_}

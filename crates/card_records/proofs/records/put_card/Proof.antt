@@ -1,4 +1,3 @@
--- `card_records::records::put_card` meets its contract.
 use Rattle.cards.specs.Cards.{writeFloats, writeCounts}
 use borrow.Author.Needs.{needs}
 use Rattle.card_records.proofs.records.put_card.Statement.{statement}

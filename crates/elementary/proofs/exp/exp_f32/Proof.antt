@@ -1,4 +1,3 @@
--- `exp::exp_f32` meets its contract.
 use mathlib.Core.Path.{_≡_, sym, ap, subst, _∙_}
 use lib.Dec.{T}
 use lib.Ieee.{Float, nan, isNan}

@@ -1,4 +1,3 @@
--- `exp::limit_of` meets its contract.
 use Prim.Native.Nat.{_^_}
 use mathlib.Core.Path.{sym, ap}
 use borrow.Author.Tests.{lt-ltb, le-ltb}

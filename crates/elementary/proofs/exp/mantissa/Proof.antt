@@ -1,4 +1,3 @@
--- `exp::mantissa` meets its contract.
 use mathlib.Core.Path.{ap₂}
 use Prim.Native.Nat.{ℕ, _*_, _/_, _%_, _^_, _≤_}
 use native.Mathlib.Nat.{le-trans, le-of-eq, le-of-lt, mul-le-mul}

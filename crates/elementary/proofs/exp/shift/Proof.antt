@@ -1,4 +1,3 @@
--- `exp::shift` meets its contract.
 use Prim.Native.Nat.{_^_}
 use mathlib.Core.Path.{sym, ap}
 use mathlib.Core.Bool.{Bool}

@@ -1,4 +1,3 @@
--- `exp::to_fixed` meets its contract.
 use native.Mathlib.Nat.{mod-eq-of-lt, lt-of-lt-of-le}
 use borrow.Author.Needs.{needs}
 use lib.Dec.{lit≤}

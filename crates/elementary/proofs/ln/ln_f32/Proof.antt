@@ -1,4 +1,3 @@
--- `ln::ln_f32` meets its contract.
 use mathlib.Core.Path.{_≡_, refl, sym, ap, subst, _∙_}
 use mathlib.Core.Bool.{true}
 use Prim.Native.Nat.{ℕ, _%_, _^_, _≤_, _<_}

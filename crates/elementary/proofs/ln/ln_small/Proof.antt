@@ -1,4 +1,3 @@
--- `ln::ln_small` meets its contract.
 use mathlib.Core.Path.{refl}
 use native.Mathlib.Omega.{arith}
 use Rattle.elementary.specs.Ln.{lnSmall}

@@ -1,4 +1,3 @@
--- `ln::sign_of` meets its contract.
 use Prim.Native.Nat.{_^_}
 use mathlib.Core.Path.{sym, ap}
 use mathlib.Core.Bool.{Bool, cond}

@@ -1,4 +1,3 @@
--- `ln::significand_of` meets its contract.
 use mathlib.Core.Path.{sym, _∙_}
 use native.Mathlib.Nat.{mod-eq-of-lt, lt-of-lt-of-le}
 use native.Mathlib.Omega.{arith}

@@ -1,4 +1,3 @@
--- `ln::size_of` meets its contract.
 use mathlib.Core.Path.{sym, ap}
 use mathlib.Core.Bool.{Bool, cond}
 use Prim.Native.Nat.{_-_}

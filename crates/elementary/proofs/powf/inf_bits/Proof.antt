@@ -1,4 +1,3 @@
--- `powf::inf_bits` meets its contract.
 use mathlib.Core.Path.{sym}
 use Rattle.elementary.proofs.powf.Cases.{inf-plus, inf-minus}
 use Rattle.elementary.proofs.powf.inf_bits.Statement.{statement}

@@ -1,4 +1,3 @@
--- `powf::special` meets its contract.
 use mathlib.Core.Path.{_≡_, refl, sym, ap, subst, _∙_}
 use Prim.Native.Nat.{ℕ, _%_, _^_, _≤_}
 use lib.Dec.{lit≤}

@@ -1,4 +1,3 @@
--- `powf::to_inf_bits` meets its contract.
 use mathlib.Core.Path.{sym, _∙_}
 use borrow.Author.Needs.{needs}
 use Rattle.elementary.proofs.powf.Cases.{to-inf-low, to-inf-high}

@@ -1,4 +1,3 @@
--- `powf::zero_size` meets its contract.
 use mathlib.Core.Path.{sym}
 use Rattle.elementary.proofs.powf.Cases.{size-plus, size-minus}
 use Rattle.elementary.proofs.powf.zero_size.Statement.{statement}

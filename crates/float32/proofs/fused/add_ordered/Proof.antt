@@ -1,4 +1,3 @@
--- `fused::add_ordered` meets its contract. Assumes nothing.
 use mathlib.Core.Path.{sym, ap, _∙_}
 use mathlib.Core.Bool.{false}
 use Prim.Native.Nat.{ℕ, _-_, _*_, _^_}

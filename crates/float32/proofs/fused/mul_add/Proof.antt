@@ -1,4 +1,4 @@
--- `fused::mul_add` meets its contract: `proofs/Once.antt` has the quick path. Assumes nothing.
+-- `fused::mul_add` meets its contract: `proofs/Once.antt` has the quick path.
 use mathlib.Core.Path.{sym, _∙_}
 use borrow.Author.Needs.{needs}
 use lib.Dec.{T}

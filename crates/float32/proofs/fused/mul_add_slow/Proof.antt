@@ -1,4 +1,3 @@
--- `fused::mul_add_slow` meets its contract. Assumes nothing.
 use mathlib.Core.Path.{sym, _∙_}
 use borrow.Author.Needs.{needs}
 use lib.Dec.{T, leb}

@@ -1,4 +1,4 @@
--- `fused::narrowed` meets its contract: `proofs/Once.antt` says what the pattern is. Assumes nothing.
+-- `fused::narrowed` meets its contract: `proofs/Once.antt` says what the pattern is.
 use Prim.Native.Nat.{_^_, _<_}
 use native.Mathlib.Omega.{arith}
 use borrow.Author.Needs.{needs}

@@ -1,4 +1,3 @@
--- `fused::rounds_once` meets its contract. Assumes nothing.
 use mathlib.Core.Bool.{false≢true}
 use borrow.Author.Needs.{needs}
 use Rattle.float32.proofs.fused.rounds_once.Statement.{statement}

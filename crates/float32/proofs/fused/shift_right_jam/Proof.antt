@@ -1,4 +1,3 @@
--- `fused::shift_right_jam` meets its contract. Assumes nothing.
 use mathlib.Core.Path.{_≡_, sym, _∙_}
 use mathlib.Core.Logic.{inl}
 use Prim.Native.Nat.{_*_, _/_, _^_}

@@ -1,4 +1,3 @@
--- `fused::unlike` meets its contract. Assumes nothing.
 use mathlib.Core.Path.{_≡_, refl, sym, ap, _∙_}
 use mathlib.Core.Bool.{Bool, true, false}
 use lib.Ieee as Ieee

@@ -1,4 +1,3 @@
--- `retention::sizes::factor_of` meets its contract.
 use lib.Ieee.{ofBits, ofFields, round}
 use borrow.Author.Needs.{needs}
 use Rattle.retention.specs.SampleSize.{factorOf}

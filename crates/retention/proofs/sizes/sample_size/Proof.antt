@@ -1,4 +1,3 @@
--- `retention::sizes::sample_size` meets its contract.
 use borrow.Author.Needs.{needs}
 use borrow.Author.Tests.{lt-ltb, le-ltb, le-leb, lt-leb}
 use Rattle.retention.specs.SampleSize.{sampleSize}

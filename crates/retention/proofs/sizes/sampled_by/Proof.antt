@@ -1,4 +1,3 @@
--- `retention::sizes::sampled_by` meets its contract.
 use lib.Ieee.{ofBits, ofFields, round}
 use borrow.Author.Needs.{needs}
 use Rattle.retention.specs.SampleSize.{sampledBy}

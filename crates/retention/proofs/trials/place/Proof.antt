@@ -1,4 +1,3 @@
--- `retention::trials::place` meets its contract.
 use lib.Ieee.{ofBits, ofFields, div}
 use lib.ListN.{List·getD-eq-default}
 use mathlib.Core.Path.{sym}

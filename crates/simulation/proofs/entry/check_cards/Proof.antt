@@ -1,4 +1,3 @@
--- `simulation::entry::check_cards` meets its contract.
 use Rattle.simulation.specs.Entry.{checkFirst}
 use Rattle.simulation.proofs.entry.check_cards.Statement.{statement}
 use Rattle.simulation.proofs.entry.check_cards.Tie as tie

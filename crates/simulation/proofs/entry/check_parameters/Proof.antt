@@ -1,4 +1,3 @@
--- `simulation::entry::check_parameters` meets its contract.
 use Rattle.simulation.specs.Entry.{checkParameters}
 use Rattle.simulation.proofs.entry.check_parameters.Statement.{statement}
 use Rattle.simulation.proofs.entry.check_parameters.Tie as tie

@@ -1,4 +1,3 @@
--- `simulation::entry::fail_if` meets its contract.
 use borrow.Author.Needs.{needs}
 use Rattle.simulation.proofs.entry.fail_if.Statement.{statement}
 use Rattle.simulation.proofs.entry.fail_if.Tie as tie

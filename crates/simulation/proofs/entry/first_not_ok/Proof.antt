@@ -1,4 +1,4 @@
--- `simulation::entry::first_not_ok` meets its contract.
+-- The invariant of its loop: the search from card i on finds what the whole search finds. The measure is the cards left.
 use mathlib.Core.Bool.{true, false}
 use Prim.Native.Nat.{ℕ, _-_, _≤_}
 use native.Mathlib.Omega.{arith}

@@ -1,4 +1,3 @@
--- `simulation::entry::is_bad` meets its contract.
 use Rattle.simulation.proofs.entry.is_bad.Statement.{statement}
 use Rattle.simulation.proofs.entry.is_bad.Tie as tie
 

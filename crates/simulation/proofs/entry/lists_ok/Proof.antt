@@ -1,4 +1,3 @@
--- `simulation::entry::lists_ok` meets its contract.
 use Rattle.simulation.specs.Entry.{lengthsOk}
 use borrow.Author.Needs.{needs}
 use Rattle.simulation.proofs.entry.lists_ok.Statement.{statement}

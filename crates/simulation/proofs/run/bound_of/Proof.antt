@@ -1,4 +1,3 @@
--- `simulation::run::bound_of` meets its contract.
 use native.Mathlib.Omega.{arith}
 use Rattle.simulation.proofs.run.Answer.{bound-fits}
 use borrow.Author.Needs.{needs}

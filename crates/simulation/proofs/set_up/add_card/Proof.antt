@@ -1,4 +1,3 @@
--- `simulation::set_up::join` meets its contract.
 use borrow.Author.Needs.{needs}
 use Rattle.simulation.proofs.set_up.add_card.Statement.{statement}
 use Rattle.simulation.proofs.set_up.add_card.Tie as tie

@@ -1,4 +1,3 @@
--- `simulation::set_up::retain_card` meets its contract.
 use Rattle.simulation.proofs.set_up.Loops.{retained-is, dropped-is}
 use borrow.Author.Needs.{needs}
 use Rattle.simulation.proofs.set_up.add_existing_card.Statement.{statement}

@@ -1,4 +1,4 @@
--- `simulation::set_up::retain` meets its contract.
+-- The invariant of its loop: the lists are those of the first i existing cards joined. The measure is the cards left.
 use Prim.Native.Nat.{ℕ, _-_, _≤_}
 use lib.ListN.{length}
 use native.Mathlib.Omega.{arith}

@@ -1,4 +1,4 @@
--- `simulation::set_up::create` meets its contract.
+-- The invariant of its loop: the lists are those of the first i new cards joined. The measure is the cards left.
 use mathlib.Core.List.{[]}
 use Prim.Native.Nat.{ℕ, _-_, _≤_}
 use lib.ListN.{length}

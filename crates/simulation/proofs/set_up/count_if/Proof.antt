@@ -1,4 +1,3 @@
--- `simulation::set_up::one_more_if` meets its contract.
 use native.Mathlib.Omega.{arith}
 use borrow.Author.Needs.{needs}
 use Rattle.simulation.proofs.set_up.count_if.Statement.{statement}

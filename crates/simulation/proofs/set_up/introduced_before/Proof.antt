@@ -1,4 +1,5 @@
--- `simulation::set_up::known` meets its contract.
+-- The invariant of its loop: `count` is the number of introduced ones among the first i cards. The measure is the cards
+-- left.
 use Prim.Native.Nat.{ℕ, _-_, _≤_}
 use native.Mathlib.Omega.{arith}
 use mathlib.Core.Path.{_≡_, refl, ap, _∙_}

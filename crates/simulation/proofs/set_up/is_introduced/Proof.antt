@@ -1,4 +1,3 @@
--- `simulation::set_up::is_known` meets its contract.
 use Rattle.simulation.proofs.set_up.is_introduced.Statement.{statement}
 use Rattle.simulation.proofs.set_up.is_introduced.Tie as tie
 

@@ -1,4 +1,3 @@
--- `simulation::set_up::new_card` meets its contract.
 use lib.Ieee.{ofBits, ofFields, div, neg}
 use Rattle.simulation.specs.SetUp.{newCard}
 use Rattle.simulation.proofs.set_up.new_card.Statement.{statement}

@@ -1,4 +1,3 @@
--- `simulation::set_up::new_cards` meets its contract.
 use borrow.Author.Tests.{eq-eqb, ne-eqb}
 use native.Mathlib.Omega.{arith}
 use Rattle.simulation.specs.SetUp.{newCardCount}

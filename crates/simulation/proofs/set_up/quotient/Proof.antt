@@ -1,4 +1,3 @@
--- `simulation::set_up::quotient` meets its contract.
 use mathlib.Core.Path.{sym}
 use native.Mathlib.Nat.{div-zero}
 use borrow.Author.Needs.{needs}

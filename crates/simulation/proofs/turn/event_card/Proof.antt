@@ -1,4 +1,3 @@
--- `simulation::turn::event_card` meets its contract.
 use Rattle.simulation.specs.Turn.{cardAfterEvent}
 use Rattle.simulation.proofs.turn.event_card.Statement.{statement}
 use Rattle.simulation.proofs.turn.event_card.Tie as tie

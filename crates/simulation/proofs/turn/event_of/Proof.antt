@@ -1,4 +1,3 @@
--- `simulation::turn::event_of` meets its contract.
 use Rattle.events.specs.Events.{chanceOn, eventOf}
 use Rattle.simulation.proofs.turn.event_of.Statement.{statement}
 use Rattle.simulation.proofs.turn.event_of.Tie as tie

@@ -1,4 +1,3 @@
--- `simulation::turn::event_step` meets its contract.
 use Rattle.events.specs.Scalars.{kept}
 use Rattle.simulation.specs.State.{lent}
 use Rattle.simulation.specs.Rules.{rulesOf}

@@ -1,4 +1,3 @@
--- `simulation::turn::key_of` meets its contract.
 use Rattle.simulation.proofs.turn.key_of.Statement.{statement}
 use Rattle.simulation.proofs.turn.key_of.Tie as tie
 

@@ -1,4 +1,3 @@
--- `simulation::turn::lapses_after` meets its contract.
 use Rattle.simulation.proofs.turn.lapses_after.Statement.{statement}
 use Rattle.simulation.proofs.turn.lapses_after.Tie as tie
 

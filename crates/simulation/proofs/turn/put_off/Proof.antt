@@ -1,4 +1,3 @@
--- `simulation::turn::put_off` meets its contract.
 use Rattle.simulation.specs.Turn.{cardAfterPutOff}
 use borrow.Author.Needs.{needs}
 use Rattle.simulation.proofs.turn.put_off.Statement.{statement}

@@ -1,4 +1,3 @@
--- `simulation::turn::put_off_card` meets its contract.
 use Rattle.simulation.specs.Turn.{cardAfterPutOff}
 use Rattle.simulation.proofs.turn.put_off_card.Statement.{statement}
 use Rattle.simulation.proofs.turn.put_off_card.Tie as tie

@@ -1,4 +1,3 @@
--- `simulation::turn::put_off_step` meets its contract.
 use Rattle.simulation.proofs.turn.Calls.{put-off-refused, put-off-done}
 use borrow.Author.Needs.{needs}
 use Rattle.simulation.proofs.turn.put_off_step.Statement.{statement}

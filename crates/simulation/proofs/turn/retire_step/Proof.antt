@@ -1,4 +1,3 @@
--- `simulation::turn::retire_step` meets its contract.
 use mathlib.Core.Path.{ap}
 use Rattle.queue.specs.Queue.{Queue}
 use Rattle.simulation.specs.declared.Outcome.the-variants as outcome

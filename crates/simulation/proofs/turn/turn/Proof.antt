@@ -1,4 +1,3 @@
--- `simulation::turn::turn` meets its contract.
 use mathlib.Core.Path.{refl}
 use Rattle.events.specs.Scalars.{kept}
 use Rattle.simulation.specs.Rules.{rulesOf}

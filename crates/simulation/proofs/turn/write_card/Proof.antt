@@ -1,4 +1,3 @@
--- `simulation::turn::write_card` meets its contract.
 use borrow.Author.Needs.{needs}
 use Rattle.simulation.proofs.turn.write_card.Statement.{statement}
 use Rattle.simulation.proofs.turn.write_card.Tie as tie

@@ -1,5 +1,5 @@
 -- The loop's invariant: the doublings that are left come from `high` to what all sixteen come to from the start. The
--- measure is how many are left. Assumes nothing.
+-- measure is how many are left.
 use mathlib.Core.Path.{_≡_, refl, sym, _∙_}
 use native.Mathlib.Omega.{arith}
 use borrow.Author.Needs.{needs}

@@ -1,5 +1,5 @@
 -- The loop's invariant: the halvings that are left come from `low` and `high` to what all fifty come to from 0 and
--- the end. The measure is how many are left. Assumes nothing.
+-- the end. The measure is how many are left.
 use mathlib.Core.Path.{_≡_, refl, sym, _∙_}
 use native.Mathlib.Omega.{arith}
 use borrow.Author.Needs.{needs}

@@ -1,6 +1,6 @@
 -- The loop's invariant: the steps that are left come from u to what all seven come to from the start. A step that is
 -- not finite ends them by their definition, and one that changes nothing is what every later one would give. The
--- measure is how many are left. Assumes nothing.
+-- measure is how many are left.
 use mathlib.Core.Path.{_≡_, refl, sym, ap, _∙_}
 use mathlib.Core.Bool.{Bool}
 use Prim.Native.Nat.{ℕ, _-_}
