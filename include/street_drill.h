@@ -172,9 +172,9 @@ struct drill_found {
     uint32_t list;
     uint32_t rounds; /* done; 0 where nothing was found */
     float retention; /* 0 where nothing was found */
-    float mean; /* the seconds it costs for each card memorized: look at it. A NaN or an infinity says that a trial
-                   memorized no card, or that its cost or what it memorized is no finite number, and then the retention
-                   means nothing; 0 where nothing was found */
+    float mean; /* the seconds it costs for each card memorized: look at it. A NaN, an infinity or a number below
+                   0 says that a trial memorized nothing or less, or that its cost or what it memorized is no finite
+                   number, and then the retention means nothing; 0 where nothing was found */
 };
 
 /* Arguments as of drill_simulate; rounds is 1 to DRILL_MOST_ROUNDS. The lists are left as by the last run. */

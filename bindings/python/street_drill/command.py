@@ -102,9 +102,9 @@ def _cheapest(options: argparse.Namespace) -> None:
                                   workers=options.workers, progress=progress)
     except Refusal as refusal:
         raise places.placed(given, known, refusal) from refusal
-    if not math.isfinite(found.mean):
-        raise Mistake(given.path, "a trial cost no finite time for each street held, as where none is held in the end: "
-                      "no retention is the cheapest")
+    if not 0 <= found.mean < math.inf:
+        raise Mistake(given.path, "what a trial costs for each street held is no time, as where none is held at its "
+                      "end: no retention is the cheapest")
     print(f"{given.name}: retention {shortest(found.retention)} costs least, "
           f"{shortest(found.mean)} seconds for each street held ({found.rounds} rounds)")
 

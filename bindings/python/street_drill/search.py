@@ -19,8 +19,8 @@ FIRST_SEED = 42
 class Optimum:
     """The retention found, its mean cost for each street held, and the rounds that it took.
 
-    Look at the mean: a NaN or an infinity says that some trial held nothing, or that its cost or what it held is no
-    finite number, and then the retention means nothing.
+    Look at the mean: a NaN, an infinity or a number below 0 says that some trial held nothing or less, or that its cost
+    or what it held is no finite number, and then the retention means nothing.
     """
 
     retention: float

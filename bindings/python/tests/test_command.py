@@ -113,6 +113,14 @@ class Command(unittest.TestCase):
             self.assertEqual(main(["cheapest", str(EXAMPLE)]), 0)
         self.assertRegex(errors.getvalue(), r"^(trial \d: retention 0\.\d+, mean \d+\.\d\d, \d+\.\d s\n){4}$")
 
+    def test_cheapest_of_no_street(self) -> None:
+        with tempfile.TemporaryDirectory() as folder:
+            path = Path(folder, "none.toml")
+            path.write_text(EXAMPLE.read_text().replace("learn_limit = 8", "learn_limit = 0"))
+            status, said, errors = run("cheapest", path)
+        self.assertEqual((status, said), (2, ""))
+        self.assertIn("no retention is the cheapest", errors)
+
     def test_nothing_is_written(self) -> None:
         rows, blocked = self.folder / "rows.csv", self.folder / "no folder" / "cards.csv"
         for other in [blocked, self.folder, rows, "/dev/null", f"{self.folder}/../{self.folder.name}/rows.csv"]:

@@ -18,9 +18,9 @@ const FIRST_SEED: u64 = 42;
 pub struct Optimum {
     /// The retention, from 0.70 to 0.95.
     pub retention: f32,
-    /// Its mean cost: seconds of the span for each card memorized on the last day. **Look at it**: a NaN or an infinity
-    /// says that some trial memorized nothing, or that its cost or what it memorized is no finite number, and then the
-    /// retention means nothing.
+    /// Its mean cost: seconds of the span for each card memorized on the last day. **Look at it**: a NaN, an
+    /// infinity or a number below 0 says that some trial memorized nothing or less, or that its cost or what it
+    /// memorized is no finite number, and then the retention means nothing.
     pub mean: f32,
     /// The rounds done.
     pub rounds: u32,
