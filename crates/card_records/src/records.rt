@@ -34,7 +34,7 @@ fn good_after(good: usize, i: usize, card: Card) -> usize
 }
 
 // The first record that is kept and not as it must be, or their number.
-pub fn first_not_ok(records: &[Card]) -> usize
+pub(crate) fn first_not_ok(records: &[Card]) -> usize
     ensures { λ r. ⌜ r ≡ firstWhere (recordBad (now (records .entry))) (length (now (records .entry))) 0 ⌝ }
 {
     let n = records.len();
@@ -59,7 +59,12 @@ fn put_card(existing: &mut [[f32; 6]], existing_counts: &mut [[u32; 2]], i: usiz
 }
 
 // The first n records, each to its row.
-pub fn copy(records: &[Card], existing: &mut [[f32; 6]], existing_counts: &mut [[u32; 2]], n: usize)
+pub(crate) fn copy(
+    records: &[Card],
+    existing: &mut [[f32; 6]],
+    existing_counts: &mut [[u32; 2]],
+    n: usize,
+)
     requires { ⌜ (n ≤ length (now records)) × (n < 4294967296) ⌝ }
     ensures { λ _. ⌜ (now (existing .exit) ≡ filled (floatsAt (now (records .entry))) n (now (existing .entry)))
         × (now («existing_counts» .exit) ≡ filled (countsAt (now (records .entry))) n (now («existing_counts» .entry)))

@@ -145,7 +145,7 @@ fn named_at(s: &[u8], i: usize, set: Settings) -> LineResult
 }
 
 // A line: blanks, or one form.
-pub fn read_line(s: &[u8], set: Settings) -> LineResult
+pub(crate) fn read_line(s: &[u8], set: Settings) -> LineResult
     ensures { λ r. ⌜ r ≡ line (parts (now (s .entry))) set ⌝ }
 {
     match part_at(s, 0) {

@@ -48,14 +48,14 @@ fn number_of(w: &[u8], base: u64, most: u64) -> Parsed64
     Parsed64::Is(v)
 }
 
-pub fn decimal64(w: &[u8]) -> Parsed64
+pub(crate) fn decimal64(w: &[u8]) -> Parsed64
     ensures { λ r. ⌜ r ≡ number64 (now (w .entry)) ⌝ }
 {
     number_of(w, 10, 18446744073709551615)
 }
 
 // The number as 32 bits, which are enough for all that is read with such a bound.
-pub fn decimal32(w: &[u8]) -> Parsed32
+pub(crate) fn decimal32(w: &[u8]) -> Parsed32
     ensures { λ r. ⌜ r ≡ as32 (number32 (now (w .entry))) ⌝ }
 {
     match number_of(w, 10, 4294967295) {
@@ -65,7 +65,7 @@ pub fn decimal32(w: &[u8]) -> Parsed32
 }
 
 // W, as bits.
-pub fn bits_of(w: &[u8]) -> Parsed32
+pub(crate) fn bits_of(w: &[u8]) -> Parsed32
     ensures { λ r. ⌜ r ≡ as32 (bits (now (w .entry))) ⌝ }
 {
     if w.len() != 8 {

@@ -29,7 +29,7 @@ fn is_letter(b: u8) -> bool
 }
 
 // The first place from i on that is no blank, or the end.
-pub fn skip_blanks(s: &[u8], i: usize) -> usize
+pub(crate) fn skip_blanks(s: &[u8], i: usize) -> usize
     ensures { λ r. ⌜ r ≡ firstNot blank (now (s .entry)) i ⌝ }
 {
     let mut j = i;
@@ -43,7 +43,7 @@ pub fn skip_blanks(s: &[u8], i: usize) -> usize
 }
 
 // The first place from i on that is no byte of a word, or the end.
-pub fn word_end(s: &[u8], i: usize) -> usize
+pub(crate) fn word_end(s: &[u8], i: usize) -> usize
     ensures { λ r. ⌜ r ≡ firstNot letter (now (s .entry)) i ⌝ }
 {
     let mut j = i;
@@ -57,7 +57,7 @@ pub fn word_end(s: &[u8], i: usize) -> usize
 }
 
 // The first line feed from i on, or the end.
-pub fn line_end(s: &[u8], i: usize) -> usize
+pub(crate) fn line_end(s: &[u8], i: usize) -> usize
     ensures { λ r. ⌜ r ≡ firstNot inLine (now (s .entry)) i ⌝ }
 {
     let mut j = i;
@@ -71,7 +71,7 @@ pub fn line_end(s: &[u8], i: usize) -> usize
 }
 
 // The part of a line that stands first from i on.
-pub fn part_at(s: &[u8], i: usize) -> Token
+pub(crate) fn part_at(s: &[u8], i: usize) -> Token
     ensures { λ r. ⌜ r ≡ partAt (now (s .entry)) i ⌝ }
 {
     let j = skip_blanks(s, i);
@@ -90,7 +90,7 @@ pub fn part_at(s: &[u8], i: usize) -> Token
 }
 
 // The bytes from a up to e, or none where that is no part of s.
-pub fn part_of(s: &[u8], a: usize, e: usize) -> &[u8]
+pub(crate) fn part_of(s: &[u8], a: usize, e: usize) -> &[u8]
     ensures { λ r. ⌜ now r ≡ partOf (now (s .entry)) a e ⌝ }
 {
     if a <= e {
@@ -101,7 +101,7 @@ pub fn part_of(s: &[u8], a: usize, e: usize) -> &[u8]
 }
 
 // Whether two words have the same bytes.
-pub fn is_word(w: &[u8], name: &[u8]) -> bool
+pub(crate) fn is_word(w: &[u8], name: &[u8]) -> bool
     ensures { λ r. ⌜ r ≡ same (now (w .entry)) (now (name .entry)) ⌝ }
 {
     if w.len() != name.len() {

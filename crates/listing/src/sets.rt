@@ -59,7 +59,7 @@ fn with_number(mut set: Settings, name: Name, v: u32) -> Settings
     }
 }
 
-pub fn take_number(name: Name, x: Parsed32, set: Settings) -> LineResult
+pub(crate) fn take_number(name: Name, x: Parsed32, set: Settings) -> LineResult
     ensures { λ r. ⌜ r ≡ setsNumber name (as64 x) set ⌝ }
 {
     match x {
@@ -74,7 +74,7 @@ pub fn take_number(name: Name, x: Parsed32, set: Settings) -> LineResult
     }
 }
 
-pub fn take_seed(x: Parsed64, mut set: Settings) -> LineResult
+pub(crate) fn take_seed(x: Parsed64, mut set: Settings) -> LineResult
     ensures { λ r. ⌜ r ≡ setsNumber Name.Seed x set ⌝ }
 {
     match x {
@@ -92,7 +92,7 @@ pub fn take_seed(x: Parsed64, mut set: Settings) -> LineResult
     }
 }
 
-pub fn take_first(w: Words, mut set: Settings) -> LineResult
+pub(crate) fn take_first(w: Words, mut set: Settings) -> LineResult
     requires { ⌜ length (w .values) ≡ 34 ⌝ }
     ensures { λ r. ⌜ r ≡ setsFirst (asSeveral 4 w) set ⌝ }
 {
@@ -110,7 +110,7 @@ pub fn take_first(w: Words, mut set: Settings) -> LineResult
     }
 }
 
-pub fn take_parameters(x: Parsed32, w: Words, mut set: Settings) -> LineResult
+pub(crate) fn take_parameters(x: Parsed32, w: Words, mut set: Settings) -> LineResult
     requires { ⌜ length (w .values) ≡ 34 ⌝ }
     ensures { λ r. ⌜ r ≡ setsParameters (allOr (as64 x) (asSeveral 34 w)) set ⌝ }
 {

@@ -43,7 +43,7 @@ fn closes_at(s: &[u8], i: usize) -> bool
 }
 
 // One N of 32 bits.
-pub fn one_number32(s: &[u8], i: usize) -> Parsed32
+pub(crate) fn one_number32(s: &[u8], i: usize) -> Parsed32
     ensures { λ r. ⌜ r ≡ as32 (one number32 (parts (drop i (now (s .entry))))) ⌝ }
 {
     match part_at(s, i) {
@@ -60,7 +60,7 @@ pub fn one_number32(s: &[u8], i: usize) -> Parsed32
 }
 
 // One N of 64 bits.
-pub fn one_number64(s: &[u8], i: usize) -> Parsed64
+pub(crate) fn one_number64(s: &[u8], i: usize) -> Parsed64
     ensures { λ r. ⌜ r ≡ one number64 (parts (drop i (now (s .entry)))) ⌝ }
 {
     match part_at(s, i) {
@@ -77,7 +77,7 @@ pub fn one_number64(s: &[u8], i: usize) -> Parsed64
 }
 
 // One W.
-pub fn one_bits(s: &[u8], i: usize) -> Parsed32
+pub(crate) fn one_bits(s: &[u8], i: usize) -> Parsed32
     ensures { λ r. ⌜ r ≡ as32 (one bits (parts (drop i (now (s .entry))))) ⌝ }
 {
     match part_at(s, i) {
@@ -94,7 +94,7 @@ pub fn one_bits(s: &[u8], i: usize) -> Parsed32
 }
 
 // The word all and one W.
-pub fn all_bits(s: &[u8], i: usize) -> Parsed32
+pub(crate) fn all_bits(s: &[u8], i: usize) -> Parsed32
     ensures { λ r. ⌜ r ≡ as32 (all (parts (drop i (now (s .entry))))) ⌝ }
 {
     match part_at(s, i) {
@@ -126,7 +126,7 @@ fn next_bits(s: &[u8], i: usize) -> Found
 }
 
 // k Ws from i on, and the closing bracket.
-pub fn words(s: &[u8], i: usize, k: usize) -> Words
+pub(crate) fn words(s: &[u8], i: usize, k: usize) -> Words
     requires { ⌜ k ≤ 34 ⌝ }
     ensures { λ r. ⌜ (length (r .values) ≡ 34) × (asSeveral k r ≡ several k (parts (drop i (now (s .entry))))) ⌝ }
 {

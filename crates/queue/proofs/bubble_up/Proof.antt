@@ -1,5 +1,5 @@
--- The invariant of its loop: with the row put into the hole, rising from there gives what rising from the start gives. The
--- measure is the hole's place.
+-- The invariant of its loop: with the row put into the hole, rising from there gives what rising from the start gives.
+-- The measure is the hole's place.
 use mathlib.Core.Path.{_≡_, refl}
 use mathlib.Core.Logic.{⊎-elim}
 use Prim.Native.Nat.{_≤_}

@@ -1,4 +1,5 @@
--- The invariant of its loop: the search from parameter i on finds what the whole search finds. The measure is those left.
+-- The invariant of its loop: the search from parameter i on finds what the whole search finds. The measure is
+-- those left.
 use mathlib.Core.Bool.{true, false, not}
 use Prim.Native.Nat.{ℕ, _-_, _≤_}
 use native.Mathlib.Omega.{arith}

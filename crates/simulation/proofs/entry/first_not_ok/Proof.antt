@@ -1,4 +1,5 @@
--- The invariant of its loop: the search from card i on finds what the whole search finds. The measure is the cards left.
+-- The invariant of its loop: the search from card i on finds what the whole search finds. The measure is
+-- the cards left.
 use mathlib.Core.Bool.{true, false}
 use Prim.Native.Nat.{ℕ, _-_, _≤_}
 use native.Mathlib.Omega.{arith}

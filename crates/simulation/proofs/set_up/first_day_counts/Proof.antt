@@ -1,4 +1,5 @@
--- The invariant of its loop: the first i rows are those of set-up, and the others as lent. The measure is the days left.
+-- The invariant of its loop: the first i rows are those of set-up, and the others as lent. The measure is
+-- the days left.
 use Prim.Native.Nat.{ℕ, _-_, _≤_}
 use lib.ListN.{length}
 use native.Mathlib.Omega.{arith}
