@@ -1,11 +1,11 @@
 // e^x. |x| becomes a fixed point number in units of 2^-48; x + 127 ln 2 is divided by ln 2 into n and a rest r below ln
-// 2, and e^x = 2^(n - 127) e^r. e^r is the product of a table entry (powers.rt) and 1 + s (1 + s / 2) for the last s
-// below 2^-9.
+// 2, and e^x = 2^(n - 127) e^r. e^r is the product of two entries of tables (exp_tables.rt) and 1 + s (1 + s / 2)
+// for the last s below 2^-9.
 ghost use mathlib.Core.Path.{_≡_};
 ghost use lib.Dec.{ltb};
 ghost use Prim.Native.Nat.{_<_, _≤_};
 ghost use lib.Ieee.{binary32, ofBits};
-ghost use Rattle.elementary.specs.Exp.{small, mant, fixed, packed, shifted, limit, expBits, expOf};
+ghost use Rattle.elementary.specs.Exp.{power, small, mant, fixed, packed, shifted, limit, expBits, expOf};
 ghost use Rattle.elementary.specs.Accuracy.{IsExp};
 
 // e^(p / 2^48) in units of 2^-31.
@@ -17,17 +17,24 @@ fn small_exp(p: u64) -> u64
     2147483648 + s * (2147483648 + s / 1024) / 1099511627776
 }
 
+// e^(i / 512) in units of 2^-31.
+fn power_at(i: u64) -> u64
+    requires { ⌜ i < 355 ⌝ }
+    ensures { λ r. ⌜ r ≡ power i ⌝ }
+{
+    super::exp_tables::coarse_at(i / 32 % 16) * super::exp_tables::fine_at(i % 32) / 2147483648
+}
+
 // e^(r / 2^48) in units of 2^-31.
 fn mantissa(r: u64) -> u64
     requires { ⌜ r < 195103586505168 ⌝ }
     ensures { λ m. ⌜ m ≡ mant r ⌝ }
 {
-    super::powers::power_at(r / 549755813888) * small_exp(r % 549755813888) / 2147483648
+    power_at(r / 549755813888) * small_exp(r % 549755813888) / 2147483648
 }
 
-// 2^(e - 127) e^(r / 2^48), rounded to the nearest f32: the last step of exp and of powf. At e = 0 the unit is that of
-// a subnormal.
-pub(crate) fn pack(e: u64, r: u64) -> f32
+// 2^(e - 127) e^(r / 2^48), rounded to the nearest f32. At e = 0 the unit is that of a subnormal.
+fn pack(e: u64, r: u64) -> f32
     requires { ⌜ (e < 255) × (r < 195103586505168) ⌝ }
     ensures { λ x. ⌜ x ≡ ofBits binary32 (packed e r) ⌝ }
 {

@@ -4,12 +4,12 @@
 mod blocks;
 mod exp;
 mod exp2;
+mod exp_tables;
 mod large;
 mod ln;
 mod ln_tables;
 mod log2;
 mod power;
-mod powers;
 mod powf;
 
 pub use blocks::powers_of;

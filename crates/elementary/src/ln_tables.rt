@@ -1,5 +1,5 @@
 // The two tables of ln. An entry holds a reciprocal and its logarithm: the first reciprocal brings m / 2^23 near 1, and
-// the second brings the product nearer. A table is a `match`, as in powers.rt.
+// the second brings the product nearer. A table is a `match`, as in exp_tables.rt.
 ghost use mathlib.Core.Path.{_≡_};
 ghost use Prim.Native.Nat.{_<_};
 ghost use lib.ListN.{getD};
