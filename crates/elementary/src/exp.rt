@@ -3,14 +3,27 @@
 // for the last s below 2^-9.
 ghost use mathlib.Core.Path.{_≡_};
 ghost use lib.Dec.{ltb};
-ghost use Prim.Native.Nat.{_<_, _≤_};
+ghost use Prim.Native.Nat.{_+_, _-_, _*_, _^_, _<_, _≤_};
 ghost use lib.Ieee.{binary32, ofBits};
+ghost use Rattle.series.specs.Exp.{ln2};
 ghost use Rattle.elementary.specs.Exp.{power, small, mant, fixed, packed, shifted, limit, expBits, expOf};
 ghost use Rattle.elementary.specs.Accuracy.{IsExp};
 
+// ln 2 in units of 2^-48, cut up, and what is added to x there.
+const LN2: u64 = 195103586505168;
+
+const ADDED: u64 = 127 * LN2 - 128;
+
+// Bit patterns of |x|: below the first e^x is 1; from the others on it is +infinity, and 0.
+const PATTERN_ONE: u32 = 0x33000000;
+
+const PATTERN_INFINITE: u32 = 0x42B17218;
+
+const PATTERN_ZERO: u32 = 0x42AEAC50;
+
 // e^(p / 2^48) in units of 2^-31.
 fn small_exp(p: u64) -> u64
-    requires { ⌜ p < 549755813888 ⌝ }
+    requires { ⌜ p < 2 ^ 39 ⌝ }
     ensures { λ r. ⌜ r ≡ small p ⌝ }
 {
     let s = p / 256;
@@ -27,7 +40,7 @@ fn power_at(i: u64) -> u64
 
 // e^(r / 2^48) in units of 2^-31.
 fn mantissa(r: u64) -> u64
-    requires { ⌜ r < 195103586505168 ⌝ }
+    requires { ⌜ r < ln2 + 1 ⌝ }
     ensures { λ m. ⌜ m ≡ mant r ⌝ }
 {
     power_at(r / 549755813888) * small_exp(r % 549755813888) / 2147483648
@@ -35,7 +48,7 @@ fn mantissa(r: u64) -> u64
 
 // 2^(e - 127) e^(r / 2^48), rounded to the nearest f32. At e = 0 the unit is that of a subnormal.
 fn pack(e: u64, r: u64) -> f32
-    requires { ⌜ (e < 255) × (r < 195103586505168) ⌝ }
+    requires { ⌜ (e < 255) × (r < ln2 + 1) ⌝ }
     ensures { λ x. ⌜ x ≡ ofBits binary32 (packed e r) ⌝ }
 {
     let m = mantissa(r);
@@ -55,13 +68,13 @@ fn to_fixed(a: u32) -> u64
 
 // x + 127 ln 2, from the bit pattern of x and |x|, less what makes it a lower bound.
 fn shift(b: u32, x: u64) -> u64
-    requires { ⌜ (x < 36028797018963968) × (0x80000000 ≤ b → x ≤ 24778155486156208) ⌝ }
+    requires { ⌜ (x < 2 ^ 55) × (0x80000000 ≤ b → x ≤ 127 * (ln2 + 1) - 128) ⌝ }
     ensures { λ r. ⌜ r ≡ shifted (ltb b 0x80000000) x ⌝ }
 {
     if b < 0x80000000 {
-        return 24778155486156208 + x;
+        return ADDED + x;
     }
-    24778155486156208 - x
+    ADDED - x
 }
 
 // The pattern of |x| from which on e^x is +infinity, or 0.
@@ -69,9 +82,9 @@ fn limit_of(b: u32) -> u32
     ensures { λ r. ⌜ r ≡ limit (ltb b 0x80000000) ⌝ }
 {
     if b < 0x80000000 {
-        return 0x42B17218;
+        return PATTERN_INFINITE;
     }
-    0x42AEAC50
+    PATTERN_ZERO
 }
 
 // e^x from the bit pattern of a number x.
@@ -79,12 +92,12 @@ fn exp_at(b: u32) -> f32
     ensures { λ r. ⌜ r ≡ ofBits binary32 (expBits b) ⌝ }
 {
     let a = b % 0x80000000;
-    if a < 0x33000000 {
+    if a < PATTERN_ONE {
         return 1.0;
     }
     if a < limit_of(b) {
         let z = shift(b, to_fixed(a));
-        return pack(z / 195103586505168, z % 195103586505168);
+        return pack(z / LN2, z % LN2);
     }
     if b < 0x80000000 {
         return f32::from_bits(0x7F800000);

@@ -2,10 +2,19 @@
 // 2^-14; then ln x is n ln 2, the two logarithms from the tables, and d - d^2 / 2. The tables are in
 // ln_tables.rt.
 ghost use mathlib.Core.Path.{_≡_};
-ghost use Prim.Native.Nat.{_+_, _*_, _<_, _≤_};
+ghost use Prim.Native.Nat.{_+_, _-_, _*_, _^_, _<_, _≤_};
+ghost use Rattle.series.specs.Exp.{ln2Fine};
 ghost use Rattle.elementary.specs.Ln.{lnSmall, lnRest, lnMant, exponent, significand, lnWide};
 ghost use Rattle.elementary.specs.Ln.{lnSize, lnSign, rounded, lnRounded, lnOf};
 ghost use Rattle.elementary.specs.Accuracy.{IsLn};
+
+// ln 2 in units of 2^-52, cut down, and 159 ln 2.
+const LN2: u64 = 3121657384082679;
+
+const LN2_159: u64 = 159 * LN2;
+
+// The same less 1320, the most by which a sum is too low.
+const LN2_159_LESS: u64 = LN2_159 - 1320;
 
 // ln (1 + d / 2^45) in units of 2^-45, from below.
 fn ln_small(d: u64) -> u64
@@ -17,7 +26,7 @@ fn ln_small(d: u64) -> u64
 
 // ln (t / 2^38) in units of 2^-52, from below, by the second reciprocal.
 fn ln_rest(t: u64, j: u64) -> u64
-    requires { ⌜ (j < 128) × (274877906944 + j * 16777216 ≤ t) × (t ≤ 274877906944 + (j + 1) * 16777216) ⌝ }
+    requires { ⌜ (j < 128) × (2 ^ 38 + j * 2 ^ 24 ≤ t) × (t ≤ 2 ^ 38 + (j + 1) * 2 ^ 24) ⌝ }
     ensures { λ r. ⌜ r ≡ lnRest t j ⌝ }
 {
     let e = super::ln_tables::second_at(j);
@@ -27,7 +36,7 @@ fn ln_rest(t: u64, j: u64) -> u64
 
 // ln (m / 2^23) in units of 2^-52, from below.
 fn ln_mant(m: u64) -> u64
-    requires { ⌜ (8388608 ≤ m) × (m < 16777216) ⌝ }
+    requires { ⌜ (2 ^ 23 ≤ m) × (m < 2 ^ 24) ⌝ }
     ensures { λ r. ⌜ r ≡ lnMant m ⌝ }
 {
     let e = super::ln_tables::first_at(m / 65536 % 128);
@@ -59,28 +68,28 @@ pub(crate) fn significand_of(b: u32) -> u64
 
 // ln x + 159 ln 2 in units of 2^-52, from below.
 pub(crate) fn ln_wide(n: u64, m: u64) -> u64
-    requires { ⌜ (n ≤ 286) × (8388608 ≤ m) × (m < 16777216) ⌝ }
+    requires { ⌜ (n ≤ 286) × (2 ^ 23 ≤ m) × (m < 2 ^ 24) ⌝ }
     ensures { λ r. ⌜ r ≡ lnWide n m ⌝ }
 {
-    n * 3121657384082679 + ln_mant(m)
+    n * LN2 + ln_mant(m)
 }
 
 // |ln x| in units of 2^-52, from below.
 fn size_of(w: u64) -> u64
-    requires { ⌜ (w < 496343524069145961 → w ≤ 496343524069144641) ⌝ }
+    requires { ⌜ (w < 159 * ln2Fine → w ≤ 159 * ln2Fine - 1320) ⌝ }
     ensures { λ r. ⌜ r ≡ lnSize w ⌝ }
 {
-    if w < 496343524069145961 {
-        return 496343524069144641 - w;
+    if w < LN2_159 {
+        return LN2_159_LESS - w;
     }
-    w - 496343524069145961
+    w - LN2_159
 }
 
 // The sign's bit of ln x.
 fn sign_of(w: u64) -> u32
     ensures { λ r. ⌜ r ≡ lnSign w ⌝ }
 {
-    if w < 496343524069145961 {
+    if w < LN2_159 {
         return 0x80000000;
     }
     0
@@ -97,7 +106,7 @@ fn round_fixed(w: u64) -> u32
 
 // The bit pattern of ln x.
 fn ln_rounded(w: u64) -> u32
-    requires { ⌜ (w < 496343524069145961 → w ≤ 496343524069144641) ⌝ }
+    requires { ⌜ (w < 159 * ln2Fine → w ≤ 159 * ln2Fine - 1320) ⌝ }
     ensures { λ r. ⌜ r ≡ lnRounded w ⌝ }
 {
     let s = size_of(w);
