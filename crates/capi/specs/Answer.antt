@@ -12,9 +12,10 @@ use lib.Ieee.{Float}
 use Rattle.simulation.specs.declared.Progress.{Progress}
 use Rattle.simulation.specs.declared.Answer.{Answer}
 use Rattle.simulation.specs.declared.Answer.the-variants as answer
-use Rattle.simulation.specs.Refusals.{numberOf, secondOf}
+use Rattle.entry.specs.Refusals.{numberOf, secondOf}
 use Rattle.simulation.specs.State.{State, Lent}
-use Rattle.simulation.specs.Entry.{Inputs, lengthsOf, shortList}
+use Rattle.entry.specs.Entry.{Inputs, shortList}
+use Rattle.simulation.specs.Checked.{lengthsOf}
 use Rattle.simulation.specs.Demands.{RunContract}
 use Rattle.capi.specs.declared.run.RunNumbers.{RunNumbers}
 

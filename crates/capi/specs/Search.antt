@@ -12,7 +12,7 @@ use Rattle.brent.specs.declared.Next.the-variants as next
 use Rattle.brent.specs.declared.Verdict.{Verdict}
 use Rattle.brent.specs.declared.Verdict.the-variants as verdict
 use Rattle.simulation.specs.State.{Lent, state}
-use Rattle.simulation.specs.Entry.{Inputs}
+use Rattle.entry.specs.Entry.{Inputs}
 use Rattle.retention.specs.declared.SearchAnswer.{SearchAnswer}
 use Rattle.retention.specs.declared.SearchAnswer.the-variants as said
 use Rattle.retention.specs.Retention.{numberOf, secondOf, SearchContract}

@@ -1,11 +1,11 @@
 // The run over lists of numbers.
 use cards::SimulatorConfig;
+use entry::Lengths;
+use entry::refusals;
 use simulation::Answer;
-use simulation::Lengths;
 use simulation::Progress;
-use simulation::refusals;
 ghost use Rattle.simulation.specs.State.{lent, state};
-ghost use Rattle.simulation.specs.Entry.{inputs};
+ghost use Rattle.entry.specs.Entry.{inputs};
 ghost use Rattle.capi.specs.Answer.{listIn, numbersFrom, numbersOf, CallContract};
 ghost use mathlib.Core.Path.{_≡_};
 
@@ -95,7 +95,7 @@ pub extern "C" fn drill_simulate(
         keys: keys.len(),
         intervals: intervals.len(),
     };
-    let list = simulation::short_list(config, existing.len(), existing_counts.len(), lengths);
+    let list = entry::short_list(config, existing.len(), existing_counts.len(), lengths);
     let told = simulation::simulate(
         cards,
         counts,

@@ -4,8 +4,8 @@ use brent::Next;
 use brent::Stepper;
 use brent::Verdict;
 use cards::SimulatorConfig;
+use entry::Lengths;
 use retention::SearchAnswer;
-use simulation::Lengths;
 ghost use mathlib.Core.Path.{_≡_};
 ghost use Rattle.brent.specs.Stepping.{started, nextRetention, takeMean, answer};
 ghost use Rattle.simulation.specs.State.{lent};
@@ -97,7 +97,7 @@ pub extern "C" fn drill_optimal_retention(
         keys: keys.len(),
         intervals: intervals.len(),
     };
-    let list = simulation::short_list(config, existing.len(), existing_counts.len(), lengths);
+    let list = entry::short_list(config, existing.len(), existing_counts.len(), lengths);
     let told = retention::optimal_retention(
         cards,
         counts,

@@ -23,16 +23,18 @@ use Rattle.elementary.proofs.Filled.{fill-length}
 use Rattle.cards.specs.declared.SimulatorConfig.{SimulatorConfig}
 use Rattle.cards.specs.declared.Card.{Card}
 use Rattle.cards.specs.Cards.{cardAt, floatsOf, countsOf}
-use Rattle.simulation.specs.declared.Refusal.{Refusal}
-use Rattle.simulation.specs.declared.Refusal.the-variants as refusal
-use Rattle.simulation.specs.declared.Check.{Check}
-use Rattle.simulation.specs.declared.Check.the-variants as check
+use Rattle.entry.specs.declared.Refusal.{Refusal}
+use Rattle.entry.specs.declared.Refusal.the-variants as refusal
+use Rattle.entry.specs.declared.Check.{Check}
+use Rattle.entry.specs.declared.Check.the-variants as check
 use Rattle.simulation.specs.declared.Progress.{Progress}
 use Rattle.simulation.specs.declared.Answer.{Answer}
 use Rattle.simulation.specs.declared.Answer.the-variants as answer
 use Rattle.simulation.specs.State.{State, Lent, state}
-use Rattle.simulation.specs.Entry.{Inputs, inputs, firstWhere, notOk, failIf, lengthsOf, lengthsOk}
-use Rattle.simulation.specs.Entry.{listsOk, checkFirst, checkSettings, checked}
+use Rattle.entry.specs.Entry.{Inputs, inputs, firstWhere, notOk, failIf, lengthsOk}
+use Rattle.simulation.specs.Checked.{lengthsOf}
+use Rattle.entry.specs.Entry.{checkFirst, checkSettings}
+use Rattle.simulation.specs.Checked.{listsOk, checked}
 use Rattle.simulation.specs.Simulate.{IsResult, progress, rulesFor, afterCheck, simulatedBy}
 use Rattle.simulation.specs.Demands.{RunContract}
 use Rattle.simulation.proofs.Contract.{SettingsOk, settings-passed}

@@ -18,13 +18,13 @@ use borrow.Author.Tests.{lt-ltb, le-ltb, leb-true, leb-false}
 use Rattle.elementary.specs.Filled.{filled}
 use lib.Ieee.{Float}
 use Rattle.turns.proofs.Logic.{not-one}
-use Rattle.simulation.specs.declared.Refusal.{Refusal}
-use Rattle.simulation.specs.declared.Check.{Check}
-use Rattle.simulation.specs.declared.Check.the-variants as check
+use Rattle.entry.specs.declared.Refusal.{Refusal}
+use Rattle.entry.specs.declared.Check.{Check}
+use Rattle.entry.specs.declared.Check.the-variants as check
 use Rattle.simulation.specs.declared.Answer.{Answer}
 use Rattle.simulation.specs.declared.Answer.the-variants as answer
 use Rattle.simulation.specs.State.{State, Lent, listsOf}
-use Rattle.simulation.specs.Entry.{Inputs, firstWhere}
+use Rattle.entry.specs.Entry.{Inputs, firstWhere}
 use Rattle.simulation.specs.Simulate.{progress}
 use Rattle.simulation.specs.Demands.{RunContract}
 use Rattle.card_records.specs.Records.{RowsContract}

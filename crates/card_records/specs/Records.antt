@@ -18,14 +18,15 @@ use lib.ListN.{length, getD, drop}
 use Rattle.float32.specs.Float32.{isFinite}
 use Rattle.cards.specs.declared.Card.{Card}
 use Rattle.cards.specs.Cards.{cardOf, noFloats, noCounts, floatsOf, countsOf}
-use Rattle.simulation.specs.declared.Refusal.{Refusal}
-use Rattle.simulation.specs.declared.Check.{Check}
-use Rattle.simulation.specs.declared.Check.the-variants as check
+use Rattle.entry.specs.declared.Refusal.{Refusal}
+use Rattle.entry.specs.declared.Check.{Check}
+use Rattle.entry.specs.declared.Check.the-variants as check
 use Rattle.simulation.specs.declared.Progress.{Progress}
 use Rattle.simulation.specs.declared.Answer.{Answer}
 use Rattle.simulation.specs.declared.Answer.the-variants as answer
 use Rattle.simulation.specs.State.{State, Lent, listsOf}
-use Rattle.simulation.specs.Entry.{Inputs, isBad, listsOk, checkFirst, checkSettings}
+use Rattle.entry.specs.Entry.{Inputs, isBad, checkFirst, checkSettings}
+use Rattle.simulation.specs.Checked.{listsOk}
 use Rattle.simulation.specs.Simulate.{IsResult, progress, rulesFor, afterCheck}
 use Rattle.simulation.specs.Demands.{DemandThree, RunContract}
 

@@ -5,21 +5,21 @@
 // record of a place.
 use cards::Card;
 use cards::SimulatorConfig;
+use entry::Check;
+use entry::Lengths;
+use entry::Refusal;
 use simulation::Answer;
-use simulation::Check;
-use simulation::Lengths;
 use simulation::Progress;
-use simulation::Refusal;
 ghost use mathlib.Core.Path.{_≡_};
 ghost use mathlib.Core.Bool.{_&&_};
 ghost use Prim.Native.Nat.{_≤_};
 ghost use lib.Dec.{ltb};
 ghost use lib.ListN.{length, take};
 ghost use Rattle.float32.specs.Float32.{isFinite};
-ghost use Rattle.simulation.specs.declared.Refusal.the-variants as refusal;
-ghost use Rattle.simulation.specs.declared.Check.the-variants as check;
+ghost use Rattle.entry.specs.declared.Refusal.the-variants as refusal;
+ghost use Rattle.entry.specs.declared.Check.the-variants as check;
 ghost use Rattle.simulation.specs.State.{lent, state};
-ghost use Rattle.simulation.specs.Entry.{inputs, failIf, lengthsOk, checkSettings};
+ghost use Rattle.entry.specs.Entry.{inputs, failIf, lengthsOk, checkSettings};
 ghost use Rattle.card_records.specs.Records.{hasRoom, copied, floatRows, countRows, RowsContract};
 ghost use Rattle.card_records.specs.Records.{RecordsContract};
 
@@ -43,8 +43,8 @@ fn check_records(
         (failIf (ltb good n) (refusal.ExistingCard good) check.Passed) ⌝ }
 {
     let room = (n <= existing) & (n <= existing_counts);
-    let long = simulation::lists_ok(config, n, n, lengths) & room;
-    let settings = simulation::check_settings(
+    let long = entry::lists_ok(config, n, n, lengths) & room;
+    let settings = entry::check_settings(
         parameters,
         config,
         float32::is_finite(retention),

@@ -9,7 +9,7 @@ ghost use lib.Dec.{leb, ltb};
 ghost use lib.ListN.{length, getD, set};
 ghost use Rattle.elementary.specs.Filled.{filled};
 ghost use Rattle.cards.specs.Cards.{cardAt, floatsOf, countsOf};
-ghost use Rattle.simulation.specs.Entry.{firstWhere, isBad};
+ghost use Rattle.entry.specs.Entry.{firstWhere, isBad};
 ghost use Rattle.card_records.specs.Records.{blank, recordBad, floatsAt, countsAt};
 
 fn card_at(records: &[Card], i: usize) -> Card
@@ -27,7 +27,7 @@ fn good_after(good: usize, i: usize, card: Card) -> usize
     if good < i {
         return good;
     }
-    if simulation::is_bad(card) {
+    if entry::is_bad(card) {
         return i;
     }
     i + 1

@@ -14,7 +14,7 @@ use Rattle.listing.specs.declared.Verdict.the-variants.{Read, Refused}
 use Rattle.listing.specs.Forms.{reading}
 use Rattle.report.specs.Lines.{refusedLine}
 use Rattle.report.proofs.WriteLaws.{refused-short, cheapest-short}
-use Rattle.simulation.specs.Refusals.{numberOf, secondOf}
+use Rattle.entry.specs.Refusals.{numberOf, secondOf}
 use Rattle.simulation.specs.State.{Lent}
 use Rattle.retention.specs.declared.SearchAnswer.{SearchAnswer}
 use Rattle.retention.specs.declared.SearchAnswer.the-variants as said

@@ -11,8 +11,8 @@ use Rattle.listing.specs.declared.Verdict.{Verdict}
 use Rattle.listing.specs.declared.Verdict.the-variants.{Read, Refused}
 use Rattle.listing.specs.Forms.{reading}
 use Rattle.report.specs.Lines.{refusedLine, cheapestLine}
-use Rattle.simulation.specs.declared.Refusal.{Refusal}
-use Rattle.simulation.specs.Refusals.{numberOf, secondOf}
+use Rattle.entry.specs.declared.Refusal.{Refusal}
+use Rattle.entry.specs.Refusals.{numberOf, secondOf}
 use Rattle.simulation.specs.State.{Lent}
 use Rattle.brent.specs.Search.{Searched}
 use Rattle.retention.specs.declared.SearchAnswer.{SearchAnswer}

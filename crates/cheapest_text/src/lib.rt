@@ -1,10 +1,10 @@
 // The cheapest retention of a text: its settings read, the search made, the answer written.
+use entry::refusals;
 use forecast_text::settings;
 use listing::Settings;
 use listing::Verdict;
 use report::Placed;
 use retention::SearchAnswer;
-use simulation::refusals;
 ghost use mathlib.Core.Path.{_≡_};
 ghost use Rattle.report.specs.Lines.{placed, written};
 ghost use Rattle.retention.specs.Retention.{answerOf};

@@ -13,7 +13,7 @@ use Rattle.cards.specs.declared.SimulatorConfig.{SimulatorConfig}
 use Rattle.listing.specs.declared.Settings.{Settings}
 use Rattle.simulation.specs.declared.Answer.{Answer}
 use Rattle.simulation.specs.State.{Lent, state}
-use Rattle.simulation.specs.Entry.{inputs}
+use Rattle.entry.specs.Entry.{inputs}
 use Rattle.simulation.specs.Demands.{RunContract}
 use Rattle.forecast_text.specs.Settings.{within, configOf, parametersOf, inputsOf}
 use Rattle.forecast_text.specs.Forecast.{lists, runWith, RunDays}

@@ -17,13 +17,14 @@ use Rattle.report.specs.Lines.{forecastLine, refusedLine}
 use Rattle.report.specs.Rows.{dayLines}
 use Rattle.report.proofs.WriteLaws.{forecast-short, refused-short}
 use Rattle.report.proofs.RowLaws.{days-short}
-use Rattle.simulation.specs.declared.Refusal.{Refusal}
-use Rattle.simulation.specs.declared.Check.the-variants as check
+use Rattle.entry.specs.declared.Refusal.{Refusal}
+use Rattle.entry.specs.declared.Check.the-variants as check
 use Rattle.simulation.specs.declared.Answer.{Answer}
 use Rattle.simulation.specs.declared.Answer.the-variants as answer
-use Rattle.simulation.specs.Refusals.{numberOf, secondOf}
-use Rattle.simulation.specs.State.{mostCards, mostDays}
-use Rattle.simulation.specs.Entry.{firstWhere, lengthsOk, listsOk, checkFirst, checkSettings, checked}
+use Rattle.entry.specs.Refusals.{numberOf, secondOf}
+use Rattle.entry.specs.Entry.{mostCards, mostDays}
+use Rattle.entry.specs.Entry.{firstWhere, lengthsOk, checkFirst, checkSettings}
+use Rattle.simulation.specs.Checked.{listsOk, checked}
 use Rattle.simulation.specs.Simulate.{simulatedBy}
 use Rattle.forecast_text.specs.Settings.{mostDeck, mostSpan, within, configOf, inputsOf, defaultSettings}
 use Rattle.forecast_text.specs.Forecast.{lists, lentLists, runWith, forecastRun, room, answerText, runText}

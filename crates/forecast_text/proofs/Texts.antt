@@ -27,8 +27,8 @@ use Rattle.listing.specs.Forms.{reading}
 use Rattle.simulation.specs.declared.Answer.{Answer}
 use Rattle.simulation.specs.declared.Answer.the-variants as answer
 use Rattle.simulation.specs.declared.Progress.{Progress}
-use Rattle.simulation.specs.declared.Refusal.{Refusal}
-use Rattle.simulation.specs.Refusals.{numberOf, secondOf}
+use Rattle.entry.specs.declared.Refusal.{Refusal}
+use Rattle.entry.specs.Refusals.{numberOf, secondOf}
 use Rattle.forecast_text.specs.Settings.{mostSpan, within, defaultSettings, configOf}
 use Rattle.forecast_text.specs.Forecast.{room, Printed, RunDays, forecastRun, answerText, runText, verdictText}
 use Rattle.forecast_text.specs.Forecast.{forecastText, printed, left}

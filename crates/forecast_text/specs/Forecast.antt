@@ -23,7 +23,7 @@ use Rattle.report.specs.Lines.{forecastLine, refusedLine}
 use Rattle.report.specs.Rows.{dayLines}
 use Rattle.simulation.specs.declared.Answer.{Answer}
 use Rattle.simulation.specs.declared.Answer.the-variants as answer
-use Rattle.simulation.specs.Refusals.{numberOf, secondOf}
+use Rattle.entry.specs.Refusals.{numberOf, secondOf}
 use Rattle.simulation.specs.State.{State, Lent, lent, state}
 use Rattle.simulation.specs.Simulate.{Result, simulated}
 use Rattle.forecast_text.specs.Settings.{mostDeck, mostSpan, defaultSettings, configOf, inputsOf}

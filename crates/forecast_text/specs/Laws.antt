@@ -13,12 +13,13 @@ use Rattle.float32.specs.Float32.{isFinite}
 use Rattle.cards.specs.Config.{configOk}
 use Rattle.listing.specs.declared.Settings.{Settings}
 use Rattle.report.specs.Lines.{refusedLine}
-use Rattle.simulation.specs.declared.Refusal.{Refusal}
-use Rattle.simulation.specs.declared.Refusal.the-variants as refusal
-use Rattle.simulation.specs.declared.Check.{Check}
-use Rattle.simulation.specs.declared.Check.the-variants as check
-use Rattle.simulation.specs.Refusals.{numberOf, secondOf}
-use Rattle.simulation.specs.Entry.{failIf, checkParameters, checked}
+use Rattle.entry.specs.declared.Refusal.{Refusal}
+use Rattle.entry.specs.declared.Refusal.the-variants as refusal
+use Rattle.entry.specs.declared.Check.{Check}
+use Rattle.entry.specs.declared.Check.the-variants as check
+use Rattle.entry.specs.Refusals.{numberOf, secondOf}
+use Rattle.entry.specs.Entry.{failIf, checkParameters}
+use Rattle.simulation.specs.Checked.{checked}
 use Rattle.forecast_text.specs.Settings.{mostDeck, mostSpan, configOf, parametersOf, inputsOf}
 use Rattle.forecast_text.specs.Forecast.{room, lentLists, runText, forecastText}
 

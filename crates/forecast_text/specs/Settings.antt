@@ -14,7 +14,7 @@ use lib.Ieee.{Float, binary32, round, toBits, ofBits}
 use Rattle.model.specs.Defaults as Defaults
 use Rattle.cards.specs.declared.SimulatorConfig.{SimulatorConfig}
 use Rattle.listing.specs.declared.Settings.{Settings}
-use Rattle.simulation.specs.Entry.{Inputs, inputs}
+use Rattle.entry.specs.Entry.{Inputs, inputs}
 
 -- `SimulatorConfig::default`; 4294967295 is no limit
 unfoldable pub defaultConfig : SimulatorConfig

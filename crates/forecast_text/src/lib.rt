@@ -1,9 +1,9 @@
 // What a text forecasts: its settings read, the run made, the answer written.
+use entry::refusals;
 use listing::Settings;
 use listing::Verdict;
 use report::Placed;
 use simulation::Answer;
-use simulation::refusals;
 ghost use mathlib.Core.Path.{_≡_};
 ghost use mathlib.Core.List.{_++_};
 ghost use Prim.Native.Nat.{_≤_};

@@ -72,8 +72,8 @@ fn show(answer: Answer, day: [u32; 4], cost: f32, memorized: f32) {
         }
         Answer::Refused(refusal, _) => {
             io::write_all(1, b"refused");
-            number(simulation::refusals::number_of(refusal));
-            number(simulation::refusals::second_of(refusal));
+            number(entry::refusals::number_of(refusal));
+            number(entry::refusals::second_of(refusal));
         }
     }
     io::write_all(1, b"\n");

@@ -12,10 +12,10 @@ use lib.ListN.{take}
 use lib.Seq.{getD-take}
 use lib.Ieee.{Float, nan}
 use Rattle.draws.specs.Draws.{splitMix}
-use Rattle.simulation.specs.declared.Refusal.{Refusal}
-use Rattle.simulation.specs.declared.Check.the-variants as check
+use Rattle.entry.specs.declared.Refusal.{Refusal}
+use Rattle.entry.specs.declared.Check.the-variants as check
 use Rattle.simulation.specs.State.{State, Lent, state, listsOf}
-use Rattle.simulation.specs.Entry.{Inputs}
+use Rattle.entry.specs.Entry.{Inputs}
 use Rattle.simulation.specs.Frame.{SameLengths}
 use Rattle.simulation.specs.Simulate.{simulated}
 use Rattle.simulation.proofs.Contract.{lists-and-span}

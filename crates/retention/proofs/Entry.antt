@@ -15,15 +15,16 @@ use Rattle.float32.specs.Numbers.{0ᶠ}
 use Rattle.float32.specs.Ops.{_+ᶠ_}
 use Rattle.turns.proofs.Logic.{both}
 use Rattle.draws.specs.Draws.{splitMix}
-use Rattle.simulation.specs.declared.Refusal.{Refusal}
-use Rattle.simulation.specs.declared.Check.{Check}
-use Rattle.simulation.specs.declared.Check.the-variants as check
+use Rattle.entry.specs.declared.Refusal.{Refusal}
+use Rattle.entry.specs.declared.Check.{Check}
+use Rattle.entry.specs.declared.Check.the-variants as check
 use Rattle.simulation.specs.declared.Answer.{Answer}
 use Rattle.simulation.specs.declared.Progress.{Progress}
 use Rattle.simulation.specs.declared.Answer.the-variants as answer
 use Rattle.simulation.specs.State.{Lent, state, listsOf}
-use Rattle.simulation.specs.Entry.{Inputs, inputs, lengthsOk, checkSettings, checkedWith, checked}
-use Rattle.simulation.specs.Refusals.{numberOf}
+use Rattle.entry.specs.Entry.{Inputs, inputs, lengthsOk, checkSettings}
+use Rattle.simulation.specs.Checked.{checkedWith, checked}
+use Rattle.entry.specs.Refusals.{numberOf}
 use Rattle.simulation.specs.Frame.{beyond, SameLengths}
 use Rattle.simulation.specs.Simulate.{rulesFor, simulated}
 use Rattle.simulation.specs.Demands.{endOf}

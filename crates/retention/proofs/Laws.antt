@@ -8,13 +8,13 @@ use mathlib.Core.Bool.{false}
 use lib.Dec.{T}
 use lib.ListN.{length}
 use lib.Ieee.{Float, isNan}
-use Rattle.simulation.specs.declared.Refusal.{Refusal}
-use Rattle.simulation.specs.declared.Check.{Check}
-use Rattle.simulation.specs.declared.Check.the-variants as check
+use Rattle.entry.specs.declared.Refusal.{Refusal}
+use Rattle.entry.specs.declared.Check.{Check}
+use Rattle.entry.specs.declared.Check.the-variants as check
 use Rattle.simulation.specs.State.{Lent}
-use Rattle.simulation.specs.Entry.{Inputs}
+use Rattle.entry.specs.Entry.{Inputs}
 use Rattle.simulation.specs.Frame.{SameLengths}
-use Rattle.simulation.specs.Refusals as Refusals
+use Rattle.entry.specs.Refusals as Refusals
 use Rattle.brent.specs.Search.{Answer, found, notFound, refused, Searched, ended, search, Each, NotBelow}
 use Rattle.brent.specs.Search.{WasTried, FoundWithin, OneMore, OnlySpent, NeverTen, RefusedBy}
 use Rattle.brent.specs.Step.{within}

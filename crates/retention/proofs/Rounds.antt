@@ -10,9 +10,9 @@ use types.Run.{OneOf}
 use denote.Enum.Declared.{tagOf}
 use lib.Ieee.{Float}
 use Rattle.turns.proofs.Logic.{not-one}
-use Rattle.simulation.specs.declared.Refusal.{Refusal}
+use Rattle.entry.specs.declared.Refusal.{Refusal}
 use Rattle.simulation.specs.State.{Lent}
-use Rattle.simulation.specs.Entry.{Inputs}
+use Rattle.entry.specs.Entry.{Inputs}
 use Rattle.brent.specs.declared.Stepper.{Stepper}
 use Rattle.brent.specs.declared.Next.{Next}
 use Rattle.brent.specs.declared.Next.the-variants as next

@@ -8,11 +8,11 @@ use mathlib.Core.Path.{_≡_}
 use lib.Dec.{T}
 use lib.ListN.{length}
 use lib.Ieee.{Float, isNan}
-use Rattle.simulation.specs.declared.Refusal.{Refusal}
-use Rattle.simulation.specs.declared.Check.the-variants as check
+use Rattle.entry.specs.declared.Refusal.{Refusal}
+use Rattle.entry.specs.declared.Check.the-variants as check
 use Rattle.simulation.specs.State.{Lent, state}
-use Rattle.simulation.specs.Entry.{Inputs}
-use Rattle.simulation.specs.Refusals as Refusals
+use Rattle.entry.specs.Entry.{Inputs}
+use Rattle.entry.specs.Refusals as Refusals
 use Rattle.brent.specs.Step.{within}
 use Rattle.brent.specs.Search.{refused, ended, Each, NotBelow, WasTried, FoundWithin, OneMore, OnlySpent, NeverTen}
 use Rattle.brent.specs.Search.{RefusedBy}

@@ -11,13 +11,14 @@ use mathlib.Core.Bool.{Bool, _&&_}
 use mathlib.Core.Path.{_≡_}
 use lib.Dec.{leb}
 use lib.Ieee.{Float}
-use Rattle.simulation.specs.declared.Refusal.{Refusal}
-use Rattle.simulation.specs.declared.Refusal.the-variants as refusal
-use Rattle.simulation.specs.declared.Check.{Check}
-use Rattle.simulation.specs.declared.Check.the-variants as check
+use Rattle.entry.specs.declared.Refusal.{Refusal}
+use Rattle.entry.specs.declared.Refusal.the-variants as refusal
+use Rattle.entry.specs.declared.Check.{Check}
+use Rattle.entry.specs.declared.Check.the-variants as check
 use Rattle.simulation.specs.State.{Lent, state}
-use Rattle.simulation.specs.Entry.{Inputs, checkedWith}
-use Rattle.simulation.specs.Refusals as Refusals
+use Rattle.entry.specs.Entry.{Inputs}
+use Rattle.simulation.specs.Checked.{checkedWith}
+use Rattle.entry.specs.Refusals as Refusals
 use Rattle.brent.specs.Search.{Answer, found, notFound, refused, Searched, ended, search}
 use Rattle.retention.specs.declared.Trial.{Trial}
 use Rattle.retention.specs.declared.Trial.the-variants as trial

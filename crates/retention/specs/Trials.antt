@@ -18,11 +18,11 @@ use lib.Ieee.{Float, binary32, nan, neg, ofInt}
 use Rattle.float32.specs.Numbers.{0ᶠ}
 use Rattle.float32.specs.Ops.{_+ᶠ_, _/ᶠ_}
 use Rattle.cards.specs.declared.SimulatorConfig.{SimulatorConfig}
-use Rattle.simulation.specs.declared.Refusal.{Refusal}
+use Rattle.entry.specs.declared.Refusal.{Refusal}
 use Rattle.simulation.specs.declared.Answer.{Answer}
 use Rattle.simulation.specs.declared.Answer.the-variants as answer
 use Rattle.simulation.specs.State.{Lent, state, listsOf}
-use Rattle.simulation.specs.Entry.{Inputs, inputs}
+use Rattle.entry.specs.Entry.{Inputs, inputs}
 use Rattle.simulation.specs.Simulate.{simulated}
 use Rattle.brent.specs.Step.{rMin}
 use Rattle.brent.specs.Search.{Sampled, gives, refuses}

@@ -3,10 +3,10 @@ use brent::Next;
 use brent::Stepper;
 use brent::Verdict;
 use cards::SimulatorConfig;
-use simulation::Check;
-use simulation::Lengths;
-use simulation::Refusal;
-use simulation::refusals;
+use entry::Check;
+use entry::Lengths;
+use entry::Refusal;
+use entry::refusals;
 ghost use mathlib.Core.Path.{_≡_};
 ghost use Prim.Native.Nat.{_≤_};
 ghost use Rattle.brent.specs.Search.{search};
@@ -189,7 +189,7 @@ pub fn optimal_retention(
         keys: keys.len(),
         intervals: intervals.len(),
     };
-    let entry = simulation::check_entry(
+    let entry = entry::check_entry(
         lengths,
         parameters,
         existing,

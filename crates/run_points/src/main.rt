@@ -1,9 +1,9 @@
 // Runs small forecasts: the case of two streets and one day, a deck of eight over ten days, and calls at the entry's
 // limits.
 use cards::SimulatorConfig;
+use entry::Refusal;
 use simulation::Answer;
 use simulation::Progress;
-use simulation::Refusal;
 
 fn wide(x: u32) -> u64 {
     x as u64
@@ -57,8 +57,8 @@ fn show(progress: Progress) {
 
 fn show_refusal(refusal: Refusal) {
     io::write_all(1, b"refused");
-    number(simulation::refusals::number_of(refusal));
-    number(simulation::refusals::second_of(refusal));
+    number(entry::refusals::number_of(refusal));
+    number(entry::refusals::second_of(refusal));
     io::write_all(1, b"\n");
 }
 

@@ -16,20 +16,21 @@ use Rattle.draws.specs.Draws.{splitMix}
 use Rattle.model.specs.Runtime as Runtime
 use Rattle.events.specs.Scalars.{Scalars, kept}
 use Rattle.events.proofs.Loops.{kept-is}
-use Rattle.simulation.specs.declared.Refusal.{Refusal}
-use Rattle.simulation.specs.declared.Check.{Check}
-use Rattle.simulation.specs.declared.Check.the-variants as check
+use Rattle.entry.specs.declared.Refusal.{Refusal}
+use Rattle.entry.specs.declared.Check.{Check}
+use Rattle.entry.specs.declared.Check.the-variants as check
 use Rattle.simulation.specs.declared.Progress.{Progress}
 use Rattle.simulation.specs.declared.Answer.{Answer}
 use Rattle.simulation.specs.declared.Answer.the-variants as answer
 use Rattle.simulation.specs.State.{State, Lent, listsOf, withDraws}
 use Rattle.simulation.specs.Rules.{rulesOf}
-use Rattle.simulation.specs.Entry.{Inputs, inputs, listsOk, checkedWith, checked}
+use Rattle.entry.specs.Entry.{Inputs, inputs}
+use Rattle.simulation.specs.Checked.{listsOk, checkedWith, checked}
 use Rattle.simulation.specs.Simulate.{progress, rulesFor, resultFrom, simulatedBy, simulated, IsResult}
 use Rattle.simulation.specs.Steps.{InnerContract}
 use Rattle.simulation.specs.Demands.{startOf, RunContract}
-use Rattle.simulation.proofs.entry.Accepted.{accepted}
-pub use Rattle.simulation.proofs.entry.Settings.{SettingsOk, settings-pass, settings-fail, settings-passed}
+use Rattle.simulation.proofs.Accepted.{accepted}
+pub use Rattle.entry.proofs.Settings.{SettingsOk, settings-pass, settings-fail, settings-passed}
 use Rattle.simulation.proofs.run.Suits.{suits}
 use Rattle.simulation.proofs.run.DemandThree.{has-stopped, stops-so}
 use Rattle.simulation.proofs.run.Answers.{ok-demand}

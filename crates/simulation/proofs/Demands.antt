@@ -11,22 +11,23 @@ use Rattle.model.specs.Runtime.{SameRead}
 use Rattle.model.proofs.Runtime.{runtime-same}
 use Rattle.events.specs.Scalars.{Scalars, plain, kept}
 use Rattle.events.proofs.Loops.{kept-is}
-use Rattle.simulation.specs.declared.Refusal.{Refusal}
-use Rattle.simulation.specs.declared.Refusal.the-variants as refusal
-use Rattle.simulation.specs.declared.Check.the-variants as check
+use Rattle.entry.specs.declared.Refusal.{Refusal}
+use Rattle.entry.specs.declared.Refusal.the-variants as refusal
+use Rattle.entry.specs.declared.Check.the-variants as check
 use Rattle.simulation.specs.declared.Progress.{Progress}
 use Rattle.simulation.specs.declared.Answer.the-variants as answer
 use Rattle.simulation.specs.declared.Stop.{Stop}
 use Rattle.simulation.specs.declared.Stop.the-variants as stop
 use Rattle.simulation.specs.State.{State}
 use Rattle.simulation.specs.Rules.{Rules, rulesWith}
-use Rattle.simulation.specs.Entry.{Inputs, checked}
-use Rattle.simulation.specs.Refusals.{numberOf}
+use Rattle.entry.specs.Entry.{Inputs}
+use Rattle.simulation.specs.Checked.{checked}
+use Rattle.entry.specs.Refusals.{numberOf}
 use Rattle.simulation.specs.SetUp.{emptyDeck, addAllCards, setUp}
 use Rattle.simulation.specs.RunRefusals.{StopCondition}
 use Rattle.simulation.specs.Simulate.{progress, answerOf, resultFrom, simulatedBy}
 use Rattle.simulation.specs.Demands.{Demands, UnreadParameters, startOf, endOf, progressOf}
-use Rattle.simulation.proofs.entry.Accepted.{accepted}
+use Rattle.simulation.proofs.Accepted.{accepted}
 use Rattle.simulation.proofs.turn.Stops.{stops-iff}
 use Rattle.simulation.proofs.run.Suits.{suits}
 use Rattle.simulation.proofs.run.Table.{end-sound}

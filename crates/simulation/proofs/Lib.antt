@@ -1,3 +1,4 @@
+pub mod Accepted
 pub mod Lent
 pub mod Contract
 pub mod Demands

@@ -24,9 +24,9 @@ use Rattle.draws.specs.Draws.{DrawRule}
 use Rattle.model.specs.Runtime.{SameRead}
 use Rattle.events.specs.Scalars.{plain}
 use Rattle.events.specs.Drawn.{Drawn}
-use Rattle.simulation.specs.declared.Refusal.{Refusal}
-use Rattle.simulation.specs.declared.Refusal.the-variants as refusal
-use Rattle.simulation.specs.declared.Check.the-variants as check
+use Rattle.entry.specs.declared.Refusal.{Refusal}
+use Rattle.entry.specs.declared.Refusal.the-variants as refusal
+use Rattle.entry.specs.declared.Check.the-variants as check
 use Rattle.simulation.specs.declared.Stop.{Stop}
 use Rattle.simulation.specs.declared.Progress.{Progress}
 use Rattle.simulation.specs.declared.Answer.{Answer}
@@ -36,9 +36,10 @@ use Rattle.simulation.specs.Invariant.{lapsesIn, DueBounds}
 use Rattle.simulation.specs.Rules.{Rules, rulesWith}
 use Rattle.simulation.specs.Turn.{next}
 use Rattle.simulation.specs.RunRefusals.{StopCondition}
-use Rattle.simulation.specs.Entry.{Inputs, withParameters, listsOk, checked}
+use Rattle.entry.specs.Entry.{Inputs, withParameters}
+use Rattle.simulation.specs.Checked.{listsOk, checked}
 use Rattle.simulation.specs.Frame.{firstPlaces, beyond, SameLengths}
-use Rattle.simulation.specs.Refusals.{numberOf}
+use Rattle.entry.specs.Refusals.{numberOf}
 use Rattle.simulation.specs.SetUp.{keptCards, introducedBefore, newCardCount, setUp}
 use Rattle.simulation.specs.Simulate.{IsResult, progress, answerOf, rulesFor, runFrom, simulatedBy, simulated}
 

@@ -20,7 +20,8 @@ use Rattle.queue.specs.Key.{cardPriority}
 use Rattle.queue.specs.Queue.{Queue}
 use Rattle.queue.specs.Sound.{Keyed, queued}
 use Rattle.intervals.specs.Table.{Table, places, freeAt, valueAt}
-use Rattle.simulation.specs.State.{State, mostCards, mostDays}
+use Rattle.entry.specs.Entry.{mostCards, mostDays}
+use Rattle.simulation.specs.State.{State}
 
 -- ---- of the card at place c, by the lists of rows
 abbrev pub difficultyIn : List (List Float) → ℕ → Float

@@ -3,9 +3,8 @@ pub mod Invariant
 pub mod Model
 pub mod Rules
 pub mod Turn
-pub mod Refusals
 pub mod RunRefusals
-pub mod Entry
+pub mod Checked
 pub mod SetUp
 pub mod Simulate
 pub mod Frame

@@ -21,7 +21,7 @@ use Rattle.days.specs.Due.{dueDays, addDue}
 use Rattle.queue.specs.Queue.{Queue, queue, pushed}
 use Rattle.intervals.specs.Table.{clearIn}
 use Rattle.simulation.specs.State.{State, keyOf}
-use Rattle.simulation.specs.Entry.{Inputs}
+use Rattle.entry.specs.Entry.{Inputs}
 
 -- a list with x at each of its first n places
 unfoldable pub filled : {A : Type 0} → A → ℕ → List A → List A

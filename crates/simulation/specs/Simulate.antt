@@ -16,15 +16,16 @@ use Rattle.events.specs.Scalars.{plain}
 use Rattle.events.specs.Drawn.{Drawn}
 use Rattle.simulation.specs.declared.Stop.{Stop}
 use Rattle.simulation.specs.declared.Stop.the-variants as stop
-use Rattle.simulation.specs.declared.Check.{Check}
-use Rattle.simulation.specs.declared.Check.the-variants as check
+use Rattle.entry.specs.declared.Check.{Check}
+use Rattle.entry.specs.declared.Check.the-variants as check
 use Rattle.simulation.specs.declared.Progress.{Progress}
 use Rattle.simulation.specs.declared.Answer.{Answer}
 use Rattle.simulation.specs.declared.Answer.the-variants as answer
 use Rattle.simulation.specs.State.{State, Lent, listsOf}
 use Rattle.simulation.specs.Rules.{Rules, rulesOf}
 use Rattle.simulation.specs.Turn.{next}
-use Rattle.simulation.specs.Entry.{Inputs, checked}
+use Rattle.entry.specs.Entry.{Inputs}
+use Rattle.simulation.specs.Checked.{checked}
 use Rattle.simulation.specs.SetUp.{setUp}
 
 -- an answer, and the state that is left; a run that its bound cuts off has no answer, and the contract of a call

@@ -1,5 +1,4 @@
 -- The state of a run: the lent lists, the queue's length and the state of the draws. Definitions only.
---   mostCards, mostDays       the largest deck and the longest span
 --   State C, Lent C           the state of a run, and the lists as a caller has them
 --   state, listsOf            the one from the other
 --   keyOf k, cardIn s c       a card's order key; the card at place c
@@ -13,13 +12,6 @@ use Rattle.cards.specs.Cards.{cardAt}
 use Rattle.queue.specs.Key.{cardPriority}
 use Rattle.queue.specs.Queue.{Queue, queue}
 use Rattle.intervals.specs.Table.{Table, table}
-
--- the largest deck, and the longest span
-abbrev pub mostCards : ℕ
-mostCards = 65536
-
-abbrev pub mostDays : ℕ
-mostDays = 36500
 
 -- `C` is what a cost is
 pub record State (C : Type 0) : Type 0 where

@@ -31,7 +31,7 @@ use Rattle.simulation.specs.declared.Outcome.{Outcome}
 use Rattle.simulation.specs.declared.RunEnd.{RunEnd}
 use Rattle.simulation.specs.declared.Stop.{Stop}
 use Rattle.simulation.specs.declared.Stop.the-variants as stop
-use Rattle.simulation.specs.declared.Refusal.the-variants as refusal
+use Rattle.entry.specs.declared.Refusal.the-variants as refusal
 use Rattle.simulation.specs.declared.Outcome.the-variants as outcome
 use Rattle.simulation.specs.State.{State, Lent, listsOf, keyOf}
 use Rattle.simulation.specs.Rules.{Rules}

@@ -1,55 +1,15 @@
-// The run: the types of its answer, and the entry. Its parts are entry (the tests), set_up, turn and run; refusals has
-// the numbers.
+// The run: the types of its answer, and the call. Its parts are the entry's tests (crate `entry`), set_up, turn and run.
 use cards::SimulatorConfig;
+use entry::Check;
+use entry::Lengths;
+use entry::Refusal;
 ghost use Rattle.simulation.specs.State.{lent, state};
-ghost use Rattle.simulation.specs.Entry.{inputs};
+ghost use Rattle.entry.specs.Entry.{inputs};
 ghost use Rattle.simulation.specs.Demands.{RunContract};
 
-mod entry;
-pub mod refusals;
 mod run;
 mod set_up;
 mod turn;
-
-pub use entry::check_entry;
-pub use entry::check_settings;
-pub use entry::is_bad;
-pub use entry::lists_ok;
-pub use entry::short_list;
-
-// Why a call is turned away; `refusals::number_of` and `second_of` give the numbers of each.
-pub enum Refusal {
-    Parameters(u32),
-    DeckSize,
-    LearnSpan,
-    Config,
-    Lists,
-    TooManyCards,
-    ExistingCard(u32),
-    ChanceOutOfRange(u32),
-    TableFull(u32),
-    DueCount(u32),
-    NotFound(u32),
-}
-
-// The entry's tests: all passed, or the first that failed.
-pub enum Check {
-    Passed,
-    Failed(Refusal),
-}
-
-// The lengths of the lists that a call writes: refusal 6 looks at no more of them.
-pub struct Lengths {
-    pub cards: usize,
-    pub counts: usize,
-    pub rows: usize,
-    pub days: usize,
-    pub costs: usize,
-    pub memorized: usize,
-    pub due: usize,
-    pub keys: usize,
-    pub intervals: usize,
-}
 
 // How far a run came: the turns taken, refused ones left out, the run's cards, how many of them are still queued, and
 // the state of the draws.

@@ -11,11 +11,13 @@ ghost use Prim.Native.Nat.{suc, _*_, _≤_};
 ghost use Rattle.float32.specs.Numbers.{0ᶠ};
 ghost use Rattle.model.specs.Runtime as Runtime;
 ghost use Rattle.events.specs.Scalars.{kept};
-ghost use Rattle.simulation.specs.State.{lent, state, mostCards, mostDays};
+ghost use Rattle.entry.specs.Entry.{mostCards, mostDays};
+ghost use Rattle.simulation.specs.State.{lent, state};
 ghost use Rattle.simulation.specs.Rules.{rulesOf};
 ghost use Rattle.simulation.specs.Steps.{stopIn, RunTurns, InnerContract};
-ghost use Rattle.simulation.specs.declared.Check.the-variants as check;
-ghost use Rattle.simulation.specs.Entry.{inputs, checked};
+ghost use Rattle.entry.specs.declared.Check.the-variants as check;
+ghost use Rattle.entry.specs.Entry.{inputs};
+ghost use Rattle.simulation.specs.Checked.{checked};
 ghost use Rattle.simulation.specs.SetUp.{setUp};
 ghost use Rattle.simulation.specs.Simulate.{progress, answerOf};
 

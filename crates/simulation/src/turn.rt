@@ -1,10 +1,10 @@
 // A turn: what the queue's first card does, and what that writes. A refusal comes before the turn's first write.
 use super::Outcome;
-use super::Refusal;
 use super::Stop;
 use cards::Card;
 use cards::Choice;
 use cards::SimulatorConfig;
+use entry::Refusal;
 use events::Event;
 use events::Memory;
 use model::Curve;

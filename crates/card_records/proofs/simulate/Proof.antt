@@ -54,21 +54,21 @@ use denote.Exit.{yes}
 use Rattle.elementary.proofs.Filled.{fill-length}
 use Rattle.cards.specs.declared.Card.{Card}
 use Rattle.cards.specs.declared.SimulatorConfig.{SimulatorConfig}
-use Rattle.simulation.specs.declared.Check.{Check}
-use Rattle.simulation.specs.declared.Lengths.{Lengths}
+use Rattle.entry.specs.declared.Check.{Check}
+use Rattle.entry.specs.declared.Lengths.{Lengths}
 use Rattle.simulation.specs.declared.Answer.{Answer}
 use Rattle.simulation.specs.State.{Lent, lent, state}
-use Rattle.simulation.specs.Entry.{lengthsOf}
+use Rattle.simulation.specs.Checked.{lengthsOf}
 use Rattle.card_records.specs.Records.{floatsAt, countsAt}
 use Rattle.card_records.proofs.Again.{LentAgain, lends-again, comes-back}
 use Rattle.card_records.proofs.Call.{good, tests, many, rowsIn, countsIn, many-fits, rows-fit, Said, records-is}
 use Rattle.cards.proofs.Card as T
 use Rattle.cards.proofs.SimulatorConfig as G
 use Rattle.cards.proofs.SimulatorConfig.Laws as G′
-use Rattle.simulation.proofs.Lengths as X
-use Rattle.simulation.proofs.Lengths.Laws as X′
-use Rattle.simulation.proofs.Check as K
-use Rattle.simulation.proofs.Check.Laws as K′
+use Rattle.entry.proofs.Lengths as X
+use Rattle.entry.proofs.Lengths.Laws as X′
+use Rattle.entry.proofs.Check as K
+use Rattle.entry.proofs.Check.Laws as K′
 use Rattle.simulation.proofs.Answer as S
 use Rattle.simulation.proofs.Answer.Laws as S′
 use Rattle.card_records.proofs.records.first_not_ok as first

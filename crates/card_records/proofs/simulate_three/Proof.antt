@@ -59,7 +59,7 @@ use Rattle.cards.specs.declared.Card.{Card}
 use Rattle.cards.specs.declared.SimulatorConfig.{SimulatorConfig}
 use Rattle.simulation.specs.declared.Answer.{Answer}
 use Rattle.simulation.specs.State.{lent, state}
-use Rattle.simulation.specs.Entry.{inputs}
+use Rattle.entry.specs.Entry.{inputs}
 use Rattle.card_records.specs.Records.{floatRows, countRows, RecordsContract}
 use Rattle.card_records.proofs.Local.{lies-in, lies-out}
 use Rattle.cards.proofs.Card as T

@@ -13,11 +13,11 @@ use lib.Ieee.{Float, neg}
 use Rattle.float32.specs.Numbers.{0ᶠ}
 use Rattle.float32.specs.Ops.{_+ᶠ_}
 use Rattle.turns.proofs.Logic.{not-one}
-use Rattle.simulation.specs.declared.Refusal.{Refusal}
+use Rattle.entry.specs.declared.Refusal.{Refusal}
 use Rattle.simulation.specs.declared.Answer.{Answer}
 use Rattle.simulation.specs.declared.Answer.the-variants as answer
 use Rattle.simulation.specs.State.{Lent, state}
-use Rattle.simulation.specs.Entry.{Inputs, inputs}
+use Rattle.entry.specs.Entry.{Inputs, inputs}
 use Rattle.simulation.specs.Demands.{RunContract}
 use Rattle.brent.specs.Search.{Sampled, gives, refuses}
 use Rattle.retention.proofs.Trial as trial-type

@@ -4,15 +4,16 @@ use mathlib.Core.Path.{_≡_, ap, subst}
 use Prim.Native.Nat.{ℕ, _+_, _*_, _≤_}
 use native.Mathlib.Nat.{mul-le-mul}
 use native.Mathlib.Omega.{arith}
-use Rattle.simulation.specs.declared.Check.the-variants as check
+use Rattle.entry.specs.declared.Check.the-variants as check
 use Rattle.simulation.specs.declared.RunEnd.{RunEnd}
 use Rattle.simulation.specs.State.{State, Lent}
 use Rattle.simulation.specs.Rules.{Rules}
 use Rattle.simulation.specs.Steps.{RunTurns, InnerContract}
-use Rattle.simulation.specs.Entry.{Inputs, checked}
+use Rattle.entry.specs.Entry.{Inputs}
+use Rattle.simulation.specs.Checked.{checked}
 use Rattle.simulation.specs.SetUp.{setUp}
 use Rattle.simulation.specs.Simulate.{progress, answerOf, bound, runFrom}
-use Rattle.simulation.proofs.entry.Accepted.{accepted}
+use Rattle.simulation.proofs.Accepted.{accepted}
 use Rattle.simulation.proofs.set_up.Invariant.{set-up-few}
 
 -- ---- the answer of a run from that state

@@ -6,9 +6,9 @@
 use mathlib.Core.Path.{_≡_, refl, sym, ap, _∙_}
 use mathlib.Core.Option.{Option, none, some}
 use Rattle.turns.specs.Run.{stops}
-use Rattle.simulation.specs.declared.Refusal.{Refusal}
-use Rattle.simulation.specs.declared.Check.{Check}
-use Rattle.simulation.specs.declared.Check.the-variants as check
+use Rattle.entry.specs.declared.Refusal.{Refusal}
+use Rattle.entry.specs.declared.Check.{Check}
+use Rattle.entry.specs.declared.Check.the-variants as check
 use Rattle.simulation.specs.declared.Progress.{Progress}
 use Rattle.simulation.specs.declared.Answer.{Answer}
 use Rattle.simulation.specs.declared.Answer.the-variants as answer
@@ -17,10 +17,11 @@ use Rattle.simulation.specs.declared.Stop.the-variants as stop
 use Rattle.simulation.specs.State.{State, Lent, listsOf}
 use Rattle.simulation.specs.Rules.{Rules}
 use Rattle.simulation.specs.Turn.{next}
-use Rattle.simulation.specs.Entry.{Inputs, checked}
+use Rattle.entry.specs.Entry.{Inputs}
+use Rattle.simulation.specs.Checked.{checked}
 use Rattle.simulation.specs.Simulate.{Result, progress, answerOf, answerIf, resultFrom, afterCheck, simulatedBy}
 use Rattle.simulation.specs.Demands.{startOf, endOf, progressOf, DemandThree}
-use Rattle.simulation.proofs.entry.Accepted.{accepted}
+use Rattle.simulation.proofs.Accepted.{accepted}
 use Rattle.simulation.proofs.run.Suits.{Suits}
 use Rattle.simulation.proofs.run.DemandThree.{has-stopped, stops-so, daily-rules, rows-are}
 use Rattle.simulation.proofs.run.Frame.{longer-table}

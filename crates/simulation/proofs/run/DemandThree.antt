@@ -17,13 +17,13 @@ use Rattle.simulation.specs.declared.Stop.{Stop}
 use Rattle.simulation.specs.State.{State, Lent, listsOf}
 use Rattle.simulation.specs.Rules.{Rules}
 use Rattle.simulation.specs.Turn.{next}
-use Rattle.simulation.specs.Entry.{Inputs}
+use Rattle.entry.specs.Entry.{Inputs}
 use Rattle.simulation.specs.SetUp.{introducedBefore}
 use Rattle.simulation.specs.Simulate.{bound, runFrom}
 use Rattle.simulation.specs.Demands.{startOf, cardsOf, endOf, turnsOf, RowsOf}
 use Rattle.simulation.specs.Invariant.{RunBounds, StateInvariant}
 use Rattle.simulation.proofs.turn.Views.{columns}
-use Rattle.simulation.proofs.entry.Accepted.{Accepted}
+use Rattle.simulation.proofs.Accepted.{Accepted}
 use Rattle.simulation.proofs.run.Suits.{Suits}
 use Rattle.simulation.proofs.set_up.Invariant.{set-up-few, set-up-start, set-up-good}
 use Rattle.simulation.proofs.turn.Lawful.{turns-demand, turns-rows, ends}

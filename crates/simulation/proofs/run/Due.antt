@@ -18,12 +18,12 @@ use Rattle.queue.specs.Queue.{front}
 use Rattle.queue.proofs.Queued.{front-queued}
 use Rattle.simulation.specs.State.{State}
 use Rattle.simulation.specs.Rules.{Rules}
-use Rattle.simulation.specs.Entry.{Inputs}
+use Rattle.entry.specs.Entry.{Inputs}
 use Rattle.simulation.specs.Invariant.{dayIn, newIn, RunBounds, StateInvariant, DueBounds}
 use Rattle.simulation.specs.RunRefusals.{DueRefused}
 use Rattle.simulation.specs.Simulate.{bound, runFrom}
 use Rattle.simulation.specs.Demands.{startOf, cardsOf, endOf, stateAfter}
-use Rattle.simulation.proofs.entry.Accepted.{Accepted}
+use Rattle.simulation.proofs.Accepted.{Accepted}
 use Rattle.simulation.proofs.turn.Due.{due-few, waits-one}
 use Rattle.simulation.proofs.turn.Invariant.{is-card, in-span}
 use Rattle.simulation.proofs.turn.Lawful.{keeps}

@@ -23,19 +23,20 @@ use Rattle.intervals.specs.Table.{Table, places}
 use Rattle.intervals.proofs.Emptied.{clear-places}
 use Rattle.intervals.proofs.Longer.{same-clear}
 use Rattle.events.specs.Drawn.{Drawn}
-use Rattle.simulation.specs.declared.Check.the-variants as check
+use Rattle.entry.specs.declared.Check.the-variants as check
 use Rattle.simulation.specs.declared.Stop.{Stop}
 use Rattle.simulation.specs.declared.Stop.the-variants as stop
 use Rattle.simulation.specs.State.{State, Lent, listsOf, withTable}
 use Rattle.simulation.specs.Rules.{Rules}
 use Rattle.simulation.specs.Turn.{next}
-use Rattle.simulation.specs.Entry.{Inputs, listsOk, checkSettings, checked}
+use Rattle.entry.specs.Entry.{Inputs, checkSettings}
+use Rattle.simulation.specs.Checked.{listsOk, checked}
 use Rattle.simulation.specs.SetUp.{keptCount, newCardCount}
 use Rattle.simulation.specs.Simulate.{progress, answerOf, bound, runFrom, resultFrom, simulatedBy}
 use Rattle.simulation.specs.Invariant.{RunBounds, StateInvariant}
 use Rattle.simulation.specs.Frame.{firstPlaces, beyond, extended, SameLengths}
 use Rattle.simulation.specs.Demands.{startOf, cardsOf, endOf, turnsOf, LongerTable, SameRun}
-use Rattle.simulation.proofs.entry.Accepted.{accepted}
+use Rattle.simulation.proofs.Accepted.{accepted}
 use Rattle.simulation.proofs.turn.Slots.{Slots}
 use Rattle.simulation.proofs.turn.Lawful.{law}
 use Rattle.simulation.proofs.turn.Frame.{Exact, Framed, framed}

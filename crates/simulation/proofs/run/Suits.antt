@@ -17,9 +17,9 @@ use Rattle.events.specs.Scalars.{plain}
 use Rattle.cards.specs.Day.{longestInterval, IntervalInRange}
 use Rattle.simulation.specs.State.{State}
 use Rattle.simulation.specs.Rules.{Rules, rulesWith}
-use Rattle.simulation.specs.Entry.{Inputs}
+use Rattle.entry.specs.Entry.{Inputs}
 use Rattle.simulation.proofs.turn.Slots.{Slots, table-slots}
-use Rattle.simulation.proofs.entry.Accepted.{Accepted}
+use Rattle.simulation.proofs.Accepted.{Accepted}
 use Rattle.turns.proofs.Logic.{both}
 
 -- ---- a scheduled interval is 1 to 36,500

@@ -31,12 +31,12 @@ use Rattle.intervals.specs.Schedule.{entered}
 use Rattle.intervals.proofs.Emptied.{clear-sound}
 use Rattle.intervals.specs.Table.{Table, Sound}
 use Rattle.events.specs.Drawn.{Drawn}
-use Rattle.simulation.specs.declared.Refusal.the-variants as refusal
+use Rattle.entry.specs.declared.Refusal.the-variants as refusal
 use Rattle.simulation.specs.declared.Stop.{Stop}
 use Rattle.simulation.specs.declared.Stop.the-variants as stop
 use Rattle.simulation.specs.State.{State, cardIn}
 use Rattle.simulation.specs.Rules.{Rules}
-use Rattle.simulation.specs.Entry.{Inputs}
+use Rattle.entry.specs.Entry.{Inputs}
 use Rattle.simulation.specs.SetUp.{setUp}
 use Rattle.simulation.specs.Simulate.{bound, runFrom}
 use Rattle.simulation.specs.Demands.{startOf, endOf}

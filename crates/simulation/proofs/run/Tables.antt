@@ -27,7 +27,7 @@ use Rattle.intervals.specs.Table.{Table, places}
 use Rattle.intervals.specs.Schedule.{isFull, intervalOf, entered}
 use Rattle.intervals.proofs.Longer.{SameEntries}
 use Rattle.events.specs.Drawn.{Drawn}
-use Rattle.simulation.specs.declared.Refusal.the-variants as refusal
+use Rattle.entry.specs.declared.Refusal.the-variants as refusal
 use Rattle.simulation.specs.declared.Stop.{Stop}
 use Rattle.simulation.specs.declared.Stop.the-variants as stop
 use Rattle.simulation.specs.State.{State, cardIn, withTable}

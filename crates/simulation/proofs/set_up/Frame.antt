@@ -30,8 +30,8 @@ use Rattle.float32.specs.Numbers.{0ᶠ}
 use Rattle.intervals.specs.Table.{Table, clearIn}
 use Rattle.simulation.specs.Frame.{beyond, extended}
 use Rattle.simulation.proofs.turn.Frame.{Exact}
-use Rattle.simulation.specs.Entry.{Inputs}
-use Rattle.simulation.proofs.entry.Accepted.{Accepted}
+use Rattle.entry.specs.Entry.{Inputs}
+use Rattle.simulation.proofs.Accepted.{Accepted}
 use Rattle.simulation.specs.SetUp.{filled, newCard, Deck, addCard, addKeptCard, addExistingCard, addExistingCards}
 use Rattle.simulation.specs.SetUp.{keptCount, addNewCards, newCardCount, emptyDeck, addAllCards, firstDayCounts}
 use Rattle.simulation.specs.SetUp.{setUp}

@@ -40,7 +40,7 @@ use Rattle.queue.proofs.Filled.{Filled, fill-none, fill-same, fill-next}
 use Rattle.intervals.specs.Table.{Table, places, freeAt, clearIn}
 use Rattle.events.specs.Drawn.{Drawn}
 use Rattle.simulation.specs.State.{State}
-use Rattle.simulation.specs.Entry.{Inputs}
+use Rattle.entry.specs.Entry.{Inputs}
 use Rattle.simulation.specs.SetUp.{Deck, filled, newCard, addCard, addKeptCard, addExistingCard, addExistingCards}
 use Rattle.simulation.specs.SetUp.{introducedBefore, addNewCards, newCardCount, emptyDeck, addAllCards}
 use Rattle.simulation.specs.SetUp.{firstDayCounts, setUp}
@@ -49,7 +49,7 @@ use Rattle.simulation.proofs.turn.Views.{columns}
 use Rattle.simulation.proofs.turn.Invariant.{write-long, else-key, else-day, else-new, own-day, own-new, own-key}
 use Rattle.simulation.proofs.turn.Events.{counts-long, own-lapses, else-lapses}
 use Rattle.simulation.proofs.set_up.Due.{due-new, due-kept, kept-long}
-use Rattle.simulation.proofs.entry.Accepted.{Accepted}
+use Rattle.simulation.proofs.Accepted.{Accepted}
 use Rattle.turns.proofs.Logic.{both}
 
 -- ---- a list with its first places filled

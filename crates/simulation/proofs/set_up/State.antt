@@ -8,7 +8,7 @@ use Rattle.cards.specs.declared.SimulatorConfig.{SimulatorConfig}
 use Rattle.days.specs.Counts.{dayRow}
 use Rattle.days.specs.Due.{dueDays}
 use Rattle.simulation.specs.State.{State, lent, state}
-use Rattle.simulation.specs.Entry.{Inputs, inputs}
+use Rattle.entry.specs.Entry.{Inputs, inputs}
 use Rattle.simulation.specs.SetUp.{Deck, deck, filled, addCard, addExistingCards, introducedBefore, addNewCards}
 use Rattle.simulation.specs.SetUp.{newCardCount, emptyDeck, addAllCards, setUp}
 

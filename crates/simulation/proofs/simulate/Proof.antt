@@ -1,7 +1,7 @@
 -- A call that an entry test fails is turned away as it came; any other is set up and run.
 use mathlib.Core.Path.{sym, _∙_}
 use Rattle.simulation.specs.State.{lent, state}
-use Rattle.simulation.specs.Entry.{inputs}
+use Rattle.entry.specs.Entry.{inputs}
 use Rattle.simulation.proofs.Contract.{same-check, refused-is, accepted-is}
 use borrow.Author.Needs.{needs}
 use Rattle.simulation.proofs.simulate.Statement.{statement}

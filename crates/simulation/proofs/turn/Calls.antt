@@ -38,7 +38,7 @@ use Rattle.intervals.specs.Table.{Table, table}
 use Rattle.intervals.specs.Schedule.{isFull, intervalOf, entered}
 use Rattle.simulation.specs.declared.Outcome.{Outcome}
 use Rattle.simulation.specs.declared.Outcome.the-variants as outcome
-use Rattle.simulation.specs.declared.Refusal.the-variants as refusal
+use Rattle.entry.specs.declared.Refusal.the-variants as refusal
 use Rattle.simulation.specs.declared.Stop.the-variants as stop
 use Rattle.simulation.specs.State.{State, Lent, lent, state, keyOf}
 use Rattle.simulation.specs.Rules.{Rules}

@@ -35,7 +35,7 @@ use Rattle.intervals.specs.declared.Slot.{Slot}
 use Rattle.intervals.specs.declared.Slot.the-variants as slot
 use Rattle.intervals.specs.Schedule.{isFull, intervalOf}
 use Rattle.events.specs.Drawn.{Drawn}
-use Rattle.simulation.specs.declared.Refusal.the-variants as refusal
+use Rattle.entry.specs.declared.Refusal.the-variants as refusal
 use Rattle.simulation.specs.declared.Stop.{Stop}
 use Rattle.simulation.specs.declared.Stop.the-variants as stop
 use Rattle.simulation.specs.State.{State, cardIn}

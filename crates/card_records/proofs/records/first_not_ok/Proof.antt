@@ -51,7 +51,7 @@ use denote.Exit.{yes}
 use borrow.Author.Tests.{lt-ltb, le-ltb}
 use Rattle.cards.specs.declared.Card.{Card}
 use Rattle.card_records.specs.Records.{blank, recordBad}
-use Rattle.simulation.specs.Entry.{firstWhere, isBad}
+use Rattle.entry.specs.Entry.{firstWhere, isBad}
 use Rattle.card_records.proofs.Laws.{first-none, first-most, first-next}
 use Rattle.cards.proofs.Card as T
 use Rattle.cards.proofs.Card.Laws as T′

@@ -4,8 +4,8 @@ use mathlib.Core.Path.{_∙_}
 use Rattle.events.specs.Scalars.{kept}
 use Rattle.simulation.specs.State.{lent, state}
 use Rattle.simulation.specs.Rules.{rulesOf}
-use Rattle.simulation.specs.Entry.{inputs}
-use Rattle.simulation.proofs.entry.Accepted.{accepted}
+use Rattle.entry.specs.Entry.{inputs}
+use Rattle.simulation.proofs.Accepted.{accepted}
 use Rattle.simulation.proofs.run.Answer.{few-cards, inner-is}
 use borrow.Author.Needs.{needs}
 use Rattle.simulation.proofs.run.simulate_inner.Statement.{statement}

@@ -1,0 +1,2 @@
+pub mod FirstWhere
+pub mod Settings

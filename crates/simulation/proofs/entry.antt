@@ -1,3 +1,0 @@
-pub mod FirstWhere
-pub mod Accepted
-pub mod Settings
