@@ -1,3 +1,6 @@
+use mathlib.Core.Path.{_≡_}
+use mathlib.Core.Bool.{true}
+use lib.Ieee.{lt}
 use borrow.Author.Needs.{needs}
 use Rattle.brent.specs.Step.{afterTrial}
 use Rattle.brent.proofs.after_trial.Statement.{statement}
@@ -11,7 +14,10 @@ after-better-requires c κs = search needs
 
 returns : tie.Need-returns
 unfolding afterTrial
-returns c = rw (c .before .if1 .taken) (c .after-worse .ensures)
+returns c =
+    let a = c .before .before .before .args in
+    let worse : lt (a .s .fx) (a .fu) ≡ true = c .before .if1 .taken in
+    rw worse (c .after-worse .ensures)
 
 returns-2 : tie.Need-returns-2
 unfolding afterTrial

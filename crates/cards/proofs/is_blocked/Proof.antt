@@ -1,4 +1,7 @@
+use mathlib.Core.Path.{_≡_}
+use mathlib.Core.Bool.{true}
 use borrow.Author.Tests.{le-leb, lt-leb}
+use lib.Ieee.{lt}
 use Rattle.cards.specs.Choices.{blocked}
 use borrow.Author.Needs.{needs}
 use Rattle.cards.proofs.is_blocked.Statement.{statement}
@@ -6,11 +9,20 @@ use Rattle.cards.proofs.is_blocked.Tie as tie
 
 returns : tie.Need-returns
 unfolding blocked
-returns c = λ d. rw (c .if1 .taken)
+returns c = λ d.
+    let a = c .before .before .args in
+    let over : lt (a .config .«max_cost_perday») (a .cost) ≡ true = c .if1 .taken in
+    rw over
 
 returns-2 : tie.Need-returns-2
 unfolding blocked
-returns-2 c = λ d. rw (c .before .before .before .if1 .left, c .before .before .if2 .taken, le-leb _ _ (c .if3 .taken))
+returns-2 c = λ d.
+    let a = c .before .before .before .before .before .args in
+    rw (
+      c .before .before .before .if1 .left,
+      c .before .before .if2 .taken,
+      le-leb (a .config .«learn_limit») (a .learned) (c .if3 .taken),
+    )
 
 returns-3 : tie.Need-returns-3
 unfolding blocked
