@@ -61,12 +61,6 @@ def second():
     return rows
 
 
-def power():
-    """The products that the code has ready."""
-    c, f = coarse(), fine()
-    return [c[i // 32] * f[i % 32] // 2**31 for i in range(355)]
-
-
 def log2_floor(a, b, scale):
     """floor(scale * log2(a/b)) for a >= b, where a/b is no power of two but 1."""
     wide = 2**160
@@ -119,11 +113,10 @@ def words():
     return [(t + 128 - i * 2**24) * 2**32 + t for i, t in enumerate(powers())]
 
 
-# (list of specs/ or none, function of src/ or none, the rows), each with its file; products and words stand in specs/ as formulas
+# (list of specs/ or none, function of src/ or none, the rows), each with its file; words stand in specs/ as formulas
 TABLES = [
-    ("elementary/specs/Exp coarse", None, coarse),
-    ("elementary/specs/Exp fine", None, fine),
-    (None, "elementary/src/powers power_at", power),
+    ("elementary/specs/Exp coarse", "elementary/src/exp_tables coarse_at", coarse),
+    ("elementary/specs/Exp fine", "elementary/src/exp_tables fine_at", fine),
     ("elementary/specs/Ln first", "elementary/src/ln_tables first_at", first),
     ("elementary/specs/Ln second", "elementary/src/ln_tables second_at", second),
     ("power_tables/specs/Tables heights", "power_tables/src/large height", heights),
