@@ -32,12 +32,11 @@ use Rattle.simulation.specs.declared.Answer.{Answer}
 use Rattle.simulation.specs.declared.Answer.the-variants as answer
 use Rattle.simulation.specs.State.{State, Lent, state}
 use Rattle.entry.specs.Entry.{Inputs, inputs, firstWhere, notOk, failIf, lengthsOk}
-use Rattle.simulation.specs.Checked.{lengthsOf}
 use Rattle.entry.specs.Entry.{checkFirst, checkSettings}
-use Rattle.simulation.specs.Checked.{listsOk, checked}
+use Rattle.simulation.specs.Checked.{lengthsOf, listsOk, checked}
 use Rattle.simulation.specs.Simulate.{IsResult, progress, rulesFor, afterCheck, simulatedBy}
 use Rattle.simulation.specs.Demands.{RunContract}
-use Rattle.simulation.proofs.Contract.{SettingsOk, settings-passed}
+use Rattle.entry.proofs.Settings.{SettingsOk, settings-passed}
 use Rattle.card_records.specs.Records.{blank, floatsAt, countsAt, floatRows, countRows, recordBad, hasRoom}
 use Rattle.card_records.specs.Records.{checkedRecords, copied, laid, RowsContract, RecordsContract}
 use Rattle.card_records.proofs.Laws.{fill-none, first-alike}

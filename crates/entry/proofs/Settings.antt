@@ -25,9 +25,8 @@ use Rattle.entry.specs.declared.Refusal.the-variants as refusal
 use Rattle.entry.specs.declared.Check.{Check}
 use Rattle.entry.specs.declared.Check.the-variants as check
 use Rattle.entry.specs.declared.Lengths.{Lengths}
-use Rattle.entry.specs.Entry.{mostCards, mostDays}
 use Rattle.entry.specs.Entry.{firstWhere, notFinite, failIf, checkParameters, lengthsOk}
-use Rattle.entry.specs.Entry.{shortList, checkSettings}
+use Rattle.entry.specs.Entry.{mostCards, mostDays, shortList, checkSettings}
 use Rattle.turns.proofs.Logic.{not-one, both, neither, not-false}
 
 -- what a test, or a chain of tests, does with the tests that follow

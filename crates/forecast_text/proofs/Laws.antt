@@ -22,8 +22,7 @@ use Rattle.entry.specs.declared.Check.the-variants as check
 use Rattle.simulation.specs.declared.Answer.{Answer}
 use Rattle.simulation.specs.declared.Answer.the-variants as answer
 use Rattle.entry.specs.Refusals.{numberOf, secondOf}
-use Rattle.entry.specs.Entry.{mostCards, mostDays}
-use Rattle.entry.specs.Entry.{firstWhere, lengthsOk, checkFirst, checkSettings}
+use Rattle.entry.specs.Entry.{mostCards, mostDays, firstWhere, lengthsOk, checkFirst, checkSettings}
 use Rattle.simulation.specs.Checked.{listsOk, checked}
 use Rattle.simulation.specs.Simulate.{simulatedBy}
 use Rattle.forecast_text.specs.Settings.{mostDeck, mostSpan, within, configOf, inputsOf, defaultSettings}

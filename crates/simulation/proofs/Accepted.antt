@@ -11,11 +11,10 @@ use Rattle.cards.specs.Cards.{cardAt, isKept, cardOk}
 use Rattle.cards.specs.Config.{configOk}
 use Rattle.days.specs.Due.{dueDays}
 use Rattle.entry.specs.declared.Check.the-variants as check
-use Rattle.entry.specs.Entry.{mostCards, mostDays}
 use Rattle.simulation.specs.State.{State}
 use Rattle.entry.proofs.FirstWhere.{none-before}
 use Rattle.entry.proofs.Settings.{passes, settings-passed}
-use Rattle.entry.specs.Entry.{Inputs, firstWhere, notOk, lengthsOk, checkFirst}
+use Rattle.entry.specs.Entry.{mostCards, mostDays, Inputs, firstWhere, notOk, lengthsOk, checkFirst}
 use Rattle.simulation.specs.Checked.{listsOk, checked}
 use Rattle.turns.proofs.Logic.{both, not-false}
 

@@ -30,7 +30,7 @@ use Rattle.simulation.specs.Simulate.{progress, rulesFor, resultFrom, si
 use Rattle.simulation.specs.Steps.{InnerContract}
 use Rattle.simulation.specs.Demands.{startOf, RunContract}
 use Rattle.simulation.proofs.Accepted.{accepted}
-pub use Rattle.entry.proofs.Settings.{SettingsOk, settings-pass, settings-fail, settings-passed}
+use Rattle.entry.proofs.Settings.{settings-passed}
 use Rattle.simulation.proofs.run.Suits.{suits}
 use Rattle.simulation.proofs.run.DemandThree.{has-stopped, stops-so}
 use Rattle.simulation.proofs.run.Answers.{ok-demand}

@@ -2,7 +2,7 @@
 use mathlib.Core.Path.{sym, _∙_}
 use native.Mathlib.Omega.{arith}
 use borrow.Author.Tests.{lt-ltb, le-ltb}
-use Rattle.simulation.proofs.Contract.{settings-pass, settings-fail, settings-passed}
+use Rattle.entry.proofs.Settings.{settings-pass, settings-fail, settings-passed}
 use borrow.Author.Needs.{needs}
 use Rattle.card_records.proofs.check_records.Statement.{statement}
 use Rattle.card_records.proofs.check_records.Tie as tie
