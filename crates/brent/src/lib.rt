@@ -1,4 +1,6 @@
 // The search for the cheapest retention by Brent's method, one trial at a time.
+#![tactic(auto)]
+
 ghost use Rattle.std.specs.Prelude.{◌≡◌, cond, ◌&&◌, ◌||◌, ◌<◌};
 ghost use Rattle.brent.specs.Step as Step;
 ghost use Rattle.brent.specs.Stepping as Stepping;
@@ -21,7 +23,7 @@ const CG: f32 = 0.381966;
 // The ends a and b, the best retention x, the two before it, w and v, their means, the last two moves, and the rounds
 // done.
 #[repr(C)]
-#[derive(Drop)]
+#[derive(Clone, Copy)]
 pub struct Brent {
     pub a: f32,
     pub b: f32,
@@ -37,21 +39,21 @@ pub struct Brent {
 }
 
 // The lowest point of a parabola is p / q away from x.
-#[derive(Drop)]
+#[derive(Clone, Copy)]
 pub struct Parabola {
     pub p: f32,
     pub q: f32,
 }
 
 // The move from x, and the one that the next round compares with.
-#[derive(Drop)]
+#[derive(Clone, Copy)]
 pub struct Move {
     pub deltax: f32,
     pub rat: f32,
 }
 
 // The retention to try, and the moves that go into the state.
-#[derive(Drop)]
+#[derive(Clone, Copy)]
 pub struct Trial {
     pub u: f32,
     pub deltax: f32,
@@ -60,7 +62,7 @@ pub struct Trial {
 
 // A search that is under way: whether the first mean, that at 0.70, is in; the most rounds; the state.
 #[repr(C)]
-#[derive(Drop)]
+#[derive(Clone, Copy)]
 pub struct Stepper {
     pub begun: bool,
     pub rounds: u32,
@@ -68,14 +70,14 @@ pub struct Stepper {
 }
 
 // The retention to try next, or nothing: the search has ended.
-#[derive(Drop)]
+#[derive(Clone, Copy)]
 pub enum Next {
     Retention(f32),
     Nothing,
 }
 
 // Not ended; the retention found; or refusal 10, with the rounds done in the state.
-#[derive(Drop)]
+#[derive(Clone, Copy)]
 pub enum Verdict {
     Open,
     Found(f32),

@@ -11,7 +11,7 @@ use simulation::{Answer, Progress};
 // An answer as numbers: the refusal's number, 0 where the run ended, its second number and, for 6, its list; how far
 // the run came.
 #[repr(C)]
-#[derive(Drop)]
+#[derive(Clone, Copy)]
 pub struct RunNumbers {
     pub refusal: u32,
     pub second: u32,

@@ -15,7 +15,7 @@ use retention::SearchAnswer;
 // An answer as numbers: the refusal's number, 0 where a retention was found, its second number and, for 6, its list;
 // the rounds done, the retention and its mean, 0 where none was found.
 #[repr(C)]
-#[derive(Drop)]
+#[derive(Clone, Copy)]
 pub struct SearchNumbers {
     pub refusal: u32,
     pub second: u32,

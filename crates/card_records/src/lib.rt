@@ -3,6 +3,8 @@
 // copy, so a refusal at the entry leaves every list as it was, the room for the copies too; a room too short is refusal
 // 6. The updated cards stand in `cards` and `counts`; `read_back` gives them out as records, and `cards::card_at` the
 // record of a place.
+#![tactic(auto)]
+
 ghost use Rattle.std.specs.Prelude.{◌≡◌, ◌&&◌, ◌≤◌, ltb, length, take};
 ghost use Rattle.float32.specs.Float32.{is_finite};
 ghost use Rattle.entry.specs.declared.Refusal.TheVariants as refusal;

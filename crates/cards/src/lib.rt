@@ -1,4 +1,6 @@
 // The configuration of a run, its cards by value and as rows of lent lists, and what a turn does with a card.
+#![tactic(auto)]
+
 ghost use Rattle.std.specs.Prelude.{ℕ, ◌≡◌, not, ◌&&◌, get_or};
 ghost use Rattle.std.specs.Float.Ieee.{eq};
 ghost use Rattle.float32.specs.Numbers.{0ᶠ};
@@ -23,7 +25,7 @@ const LONGEST_INTERVAL: f32 = 36500.0;
 // `SimulatorConfig` of the Rust without its callbacks. A limit of 4294967295 is none; rows of four stand one after the
 // other.
 #[repr(C)]
-#[derive(Drop)]
+#[derive(Clone, Copy)]
 pub struct SimulatorConfig {
     pub deck_size: u32,
     pub learn_span: u32,
@@ -43,7 +45,7 @@ pub struct SimulatorConfig {
 }
 
 #[repr(C)]
-#[derive(Drop)]
+#[derive(Clone, Copy)]
 pub struct Card {
     pub difficulty: f32,
     pub stability: f32,
@@ -56,7 +58,7 @@ pub struct Card {
 }
 
 // What a turn does with the queue's first card.
-#[derive(Drop)]
+#[derive(Clone, Copy)]
 pub enum Choice {
     Retire,
     PutOff,

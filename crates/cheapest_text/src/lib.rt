@@ -1,4 +1,6 @@
 // The cheapest retention of a text: its settings read, the search made, the answer written.
+#![tactic(auto)]
+
 ghost use Rattle.std.specs.Prelude.{◌≡◌};
 ghost use Rattle.report.specs.Lines.{placed, written};
 ghost use Rattle.retention.specs.Retention.{answer_of};

@@ -1,4 +1,6 @@
 // The rows of a run's days: counts, sums, and how many cards are due.
+#![tactic(auto)]
+
 mod memorized;
 
 ghost use Rattle.std.specs.Prelude.{◌≡◌, cond, ◌+◌, ◌-◌, ◌/◌, get_or, set};

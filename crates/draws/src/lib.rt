@@ -1,17 +1,19 @@
 // The draws of a run: SplitMix64, a rating by weights, and a recall.
+#![tactic(auto)]
+
 ghost use Rattle.std.specs.Prelude.{◌≡◌, ◌*◌, ◌%◌, ◌^◌, ◌<◌, if◌then◌else◌};
 ghost use Rattle.std.specs.Float.Ieee.{lt};
 ghost use Rattle.float32.specs.Numbers.{0ᶠ};
 ghost use Rattle.draws.specs.Draws as Draws;
 
 // The generator, by value.
-#[derive(Drop)]
+#[derive(Clone, Copy)]
 pub struct SplitMix64 {
     pub state: u64,
 }
 
 // A draw: the generator after it and its output.
-#[derive(Drop)]
+#[derive(Clone, Copy)]
 pub struct Drawn {
     pub generator: SplitMix64,
     pub output: u64,

@@ -1,5 +1,6 @@
 // exp, ln and powf of f32 by whole numbers, so that they give the same bits on every machine. Each promises that it is
 // its definition (specs/Exp, Ln, Pow) and how near that is to the exact value (specs/Accuracy).
+#![tactic(auto)]
 
 mod blocks;
 mod exp;

@@ -1,10 +1,11 @@
 // Tries exp_f32, ln_f32 and powf_f32 on the arguments of the standard input and prints how many lines were read and how
 // many results lie outside what their line accepts. tools/elementary/points.py made the lines, each `k x y low high` of
 // 38 bytes: k is e, l or p, the others are bit patterns in hex.
+#![tactic(auto)]
 
 ghost use Rattle.std.specs.Prelude.{◌≤◌};
 
-#[derive(Drop)]
+#[derive(Clone, Copy)]
 pub struct Tally {
     pub rows: u64,
     pub outside: u64,

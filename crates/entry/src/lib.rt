@@ -1,5 +1,7 @@
 // The entry: the tests of a call, in the order of the refusals' table, which write nothing; and why a call is turned
 // away, with the numbers by which that is told (refusals.rt).
+#![tactic(auto)]
+
 ghost use Rattle.std.specs.Prelude.{◌≡◌, not, cond, ◌+◌, ◌/◌, get_or};
 ghost use Rattle.std.specs.Float.{nan};
 ghost use Rattle.float32.specs.Numbers.{0ᶠ};
@@ -13,7 +15,7 @@ use cards::{Card, SimulatorConfig};
 pub mod refusals;
 
 // Why a call is turned away; `refusals::number_of` and `second_of` give the numbers of each.
-#[derive(Drop)]
+#[derive(Clone, Copy)]
 pub enum Refusal {
     Parameters(u32),
     DeckSize,
@@ -29,14 +31,14 @@ pub enum Refusal {
 }
 
 // The entry's tests: all passed, or the first that failed.
-#[derive(Drop)]
+#[derive(Clone, Copy)]
 pub enum Check {
     Passed,
     Failed(Refusal),
 }
 
 // The lengths of the lists that a call writes: refusal 6 looks at no more of them.
-#[derive(Drop)]
+#[derive(Clone, Copy)]
 pub struct Lengths {
     pub cards: usize,
     pub counts: usize,

@@ -1,4 +1,6 @@
 // What an event, a learning or a review, does to a card's memory.
+#![tactic(auto)]
+
 ghost use Rattle.std.specs.Prelude.{◌≡◌, ◌-◌, ◌≤◌, ◌<◌};
 ghost use Rattle.draws.specs.Draws.{word, rating, split_mix};
 ghost use Rattle.events.specs.Scalars.{kept};
@@ -11,7 +13,7 @@ use draws::SplitMix64;
 use model::Fsrs7Runtime;
 
 // What an event leaves: the card's memory, what it cost, whether the card was recalled, and the state of the draws.
-#[derive(Drop)]
+#[derive(Clone, Copy)]
 pub struct Memory {
     pub difficulty: f32,
     pub stability: f32,
@@ -21,14 +23,14 @@ pub struct Memory {
 }
 
 // An event, or refusal 7: the chance to recall is not within 0 to 1.
-#[derive(Drop)]
+#[derive(Clone, Copy)]
 pub enum Event {
     Happened(Memory),
     ChanceOutOfRange,
 }
 
 // Where the short-term steps have come to.
-#[derive(Drop)]
+#[derive(Clone, Copy)]
 pub struct ShortTerm {
     pub stability: f32,
     pub difficulty: f32,

@@ -1,5 +1,7 @@
 // Reads a text from standard input and prints what it forecasts. An input that fails counts as ended, and an output
 // that fails ends the program.
+#![tactic(auto)]
+
 use report::Placed;
 
 fn main() {

@@ -1,4 +1,6 @@
 // What a text forecasts: its settings read, the run made, the answer written.
+#![tactic(auto)]
+
 ghost use Rattle.std.specs.Prelude.{◌≡◌, ◌++◌, ◌≤◌, length};
 ghost use Rattle.report.specs.Lines.{forecast_line};
 ghost use Rattle.report.specs.Rows.{day_lines};

@@ -1,6 +1,7 @@
 // The interval table: a map of fixed size from a key of two buckets to an interval, in two lists that the caller lends.
 // A place is free if its interval is below 1, as it is after `clear`. A key is looked for from the place that its hash
 // names, place by place and round the end, until the key or a free place is met.
+#![tactic(auto)]
 
 ghost use Rattle.std.specs.Prelude.{◌≡◌, [], ◌∷◌, ◌<◌, min, length, set, replicate, false};
 ghost use Rattle.intervals.specs.Table.{table, mix_of, home_of, next_of, same_key, LookupContract, enter_in};
@@ -25,7 +26,7 @@ const DR_STEP: f32 = 0.0005;
 const ROUNDING_MARGIN: f32 = 0.05;
 
 // What a lookup finds: the key's place and interval, a free place that would take the key, or neither.
-#[derive(Drop)]
+#[derive(Clone, Copy)]
 pub enum Entry {
     Found(usize, f32),
     Free(usize),
@@ -34,7 +35,7 @@ pub enum Entry {
 
 // How the table serves a schedule: an interval that it holds, one to be entered at a place under a key of two buckets,
 // or neither for want of a place.
-#[derive(Drop)]
+#[derive(Clone, Copy)]
 pub enum Slot {
     Keep(f32),
     Enter(usize, u32, u32, f32),

@@ -1,4 +1,6 @@
 // The bracket lines: a text read as settings.
+#![tactic(auto)]
+
 mod forms;
 mod numbers;
 mod parts;
@@ -7,28 +9,28 @@ mod sets;
 mod values;
 
 // A number that a word says, or none.
-#[derive(Drop)]
+#[derive(Clone, Copy)]
 pub enum Parsed64 {
     Is(u64),
     Not,
 }
 
 // A number of 32 bits that a word says, or none.
-#[derive(Drop)]
+#[derive(Clone, Copy)]
 pub enum Parsed32 {
     Is(u32),
     Not,
 }
 
 // A number of 32 bits and the place behind it, or none.
-#[derive(Drop)]
+#[derive(Clone, Copy)]
 pub enum Found {
     Is(u32, usize),
     Not,
 }
 
 // A part of a line and the place behind it.
-#[derive(Drop)]
+#[derive(Clone, Copy)]
 pub enum Token {
     Opened(usize),
     Closed(usize),
@@ -37,7 +39,7 @@ pub enum Token {
 }
 
 // The names of forms.
-#[derive(Drop)]
+#[derive(Clone, Copy)]
 pub enum Name {
     Parameters,
     Deck,
@@ -54,7 +56,7 @@ pub enum Name {
 
 // What the forms set, W as the f32's bits, and which forms stood there: parameters, deck, span, seed, learn, review,
 // retention, maxcost, first, cost.
-#[derive(Drop)]
+#[derive(Clone, Copy)]
 pub struct Settings {
     pub deck: u32,
     pub span: u32,
@@ -70,27 +72,27 @@ pub struct Settings {
 }
 
 // Ws that stand behind a name, as bits; `ok` is false where there are not as many as asked for.
-#[derive(Drop)]
+#[derive(Clone, Copy)]
 pub struct Words {
     pub ok: bool,
     pub values: [u32; 34],
 }
 
 // The settings after a line.
-#[derive(Drop)]
+#[derive(Clone, Copy)]
 pub struct LineResult {
     pub ok: bool,
     pub settings: Settings,
 }
 
 // Refused: refusal 11, with its line, 0 for a text that is too long.
-#[derive(Drop)]
+#[derive(Clone, Copy)]
 pub enum Verdict {
     Read,
     Refused(u32),
 }
 
-#[derive(Drop)]
+#[derive(Clone, Copy)]
 pub struct Reading {
     pub settings: Settings,
     pub verdict: Verdict,

@@ -12,14 +12,14 @@ use crate::parameters::{CurveParameters, Fsrs7Runtime};
 use elementary::{exp_f32, powf_f32};
 use float32::{clamp, max, min, mul_add};
 
-#[derive(Drop)]
+#[derive(Clone, Copy)]
 pub struct MemoryState {
     pub stability: f32,
     pub difficulty: f32,
     pub stability_fast: f32,
 }
 
-#[derive(Drop)]
+#[derive(Clone, Copy)]
 pub struct Curve {
     pub stability: f32,
     pub fast: f32,
@@ -35,7 +35,7 @@ pub struct Curve {
 }
 
 // The solver's retention at a time, and its derivative.
-#[derive(Drop)]
+#[derive(Clone, Copy)]
 pub struct Slope {
     pub retention: f32,
     pub derivative: f32,

@@ -8,7 +8,7 @@ use crate::memory::init_difficulty_by;
 use elementary::{exp_f32, ln_f32, powf_f32};
 
 // The first stabilities, by rating.
-#[derive(Drop)]
+#[derive(Clone, Copy)]
 pub struct FirstStability {
     pub again: f32,
     pub hard: f32,
@@ -17,7 +17,7 @@ pub struct FirstStability {
 }
 
 // w4 to w6, and the first difficulty at rating 4.
-#[derive(Drop)]
+#[derive(Clone, Copy)]
 pub struct DifficultyParameters {
     pub w4: f32,
     pub w5: f32,
@@ -26,7 +26,7 @@ pub struct DifficultyParameters {
 }
 
 // exp(w7 - 1.5), -w8, and w9 to w14.
-#[derive(Drop)]
+#[derive(Clone, Copy)]
 pub struct StabilityParameters {
     pub growth: f32,
     pub decline: f32,
@@ -40,7 +40,7 @@ pub struct StabilityParameters {
 
 // Of the curve: w23, w33 - 0.3 and ln w25; the second decay and factor, w32 - 0.3; w27 and -w29; w28, w30 and w31 -
 // 0.5.
-#[derive(Drop)]
+#[derive(Clone, Copy)]
 pub struct CurveParameters {
     pub w23: f32,
     pub power: f32,
@@ -55,7 +55,7 @@ pub struct CurveParameters {
     pub weight: f32,
 }
 
-#[derive(Drop)]
+#[derive(Clone, Copy)]
 pub struct Fsrs7Runtime {
     pub first: FirstStability,
     pub difficulty: DifficultyParameters,

@@ -1,4 +1,6 @@
 // Runs points and edges of the crates' functions. A line says whether a value is what it must be, or what its bits are.
+#![tactic(auto)]
+
 mod draw;
 mod floats;
 mod memory;

@@ -1,5 +1,7 @@
 // The tables of powf, each by a `match` whose arms are proved to be the entries of the definition (specs/Tables). An
 // index past the end is taken modulo the table's length.
+#![tactic(auto)]
+
 ghost use Rattle.std.specs.Prelude.{◌≡◌, ◌%◌};
 ghost use Rattle.power_tables.specs.Tables.{line_word, curvature, height, power_word};
 

@@ -2,7 +2,7 @@
 ghost use Rattle.std.specs.Prelude.{◌≡◌, ◌<◌};
 ghost use Rattle.power_tables.specs.Tables.{line_word, curvature};
 
-#[derive(Drop)]
+#[derive(Clone, Copy)]
 pub struct Interval(pub u64, pub u64);
 
 pub(crate) fn entry(i: u64) -> Interval

@@ -1,6 +1,8 @@
 // The queue of cards: rows of an order key and a card number in heap order, in a list that the caller lends, the
 // smallest key first. Every function takes any list: a length beyond the list, or a full list, leaves the queue as it
 // is.
+#![tactic(auto)]
+
 ghost use Rattle.std.specs.Prelude.{◌≡◌, ◌+◌, ◌-◌, ◌*◌, ◌^◌, ◌<◌, ◌≤◌, min, set, length};
 ghost use Rattle.queue.specs.Queue.{bubble_up, sink, heapify, lesser, queue, front, pushed, popped};
 ghost use Rattle.queue.specs.Queue.{front_changed};
@@ -106,7 +108,7 @@ fn heapify(rows: &mut [[u64; 2]], n: usize, row: [u64; 2])
 }
 
 // How many cards are queued. Their rows are the first places of the lent list.
-#[derive(Drop)]
+#[derive(Clone, Copy)]
 pub struct CardPriorityQueue {
     pub len: u32,
 }

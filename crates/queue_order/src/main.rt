@@ -2,6 +2,8 @@
 // the order of service: `pop N` where card N leaves, `change N` where it is first and gets another key. stdout holds
 // what the Rust heap gives for the same operations: tools/queue-order/run SRC, where SRC is the folder of fsrs-rs,
 // takes the heap out of its simulation.rs, compiles it and writes that text.
+#![tactic(auto)]
+
 ghost use Rattle.std.specs.Prelude.{◌<◌};
 
 use queue::CardPriorityQueue;

@@ -1,6 +1,8 @@
 // Runs one forecast from the rows of three cards and from their records: the first two lines are the same. Then what
 // the room for the rows holds, and calls that are refused: 5 with the third record, and 6 where the room is too short,
 // each with a room that is as it was.
+#![tactic(auto)]
+
 use cards::{Card, SimulatorConfig};
 use simulation::Answer;
 

@@ -4,7 +4,7 @@
 // matter.
 use crate::answers::{drawn, join};
 
-#[derive(Drop)]
+#[derive(Clone, Copy)]
 pub struct Digests {
     pub cards: u32,
     pub days: u32,

@@ -2,6 +2,8 @@
 // Rust answered, and this program prints what the port answers. `harness/run store` writes both files from the patched
 // Rust (and from rustc's own functions on floats). A line of `stdin` is a function's number and four words in hex;
 // `answers.rt`, `kept.rt`, `inputs.rt` and `runs.rt` say which.
+#![tactic(auto)]
+
 mod answers;
 mod digest;
 mod inputs;

@@ -2,7 +2,7 @@
 ghost use Rattle.std.specs.Prelude.{◌<◌};
 
 // A function's number and its four words; or the sample's end.
-#[derive(Drop)]
+#[derive(Clone, Copy)]
 pub struct Record {
     pub ended: bool,
     pub function: u32,

@@ -3,7 +3,7 @@ ghost use Rattle.std.specs.Prelude.{◌≡◌, ◌+◌, ◌<◌, ◌%◌, length
 ghost use Rattle.report.specs.Digits.{decimal, hex_byte, hex};
 
 // The digits of a number, from `from` on.
-#[derive(Drop)]
+#[derive(Clone, Copy)]
 pub struct Digits {
     pub bytes: [u8; 20],
     pub from: usize,

@@ -1,4 +1,6 @@
 // The lines of a forecast, and numbers in them, as bytes in a lent list. A line is written whole or not at all.
+#![tactic(auto)]
+
 ghost use Rattle.std.specs.Prelude.{◌≡◌, ◌++◌, ◌+◌, ◌<◌, ◌≤◌, ◌^◌, length, set};
 ghost use Rattle.report.specs.Digits.{decimal, hex};
 ghost use Rattle.report.specs.Lines.{Put, Holds, placed, written, day_line, forecast_line, refused_line};
@@ -8,21 +10,21 @@ ghost use Rattle.report.specs.Rows.{day_at, days_placed, days_written, span_plac
 mod digits;
 
 // A line, the first `len` of the bytes.
-#[derive(Drop)]
+#[derive(Clone, Copy)]
 pub struct Line {
     pub bytes: [u8; 256],
     pub len: usize,
 }
 
 // Where a line that was written ends; or that there was no room.
-#[derive(Drop)]
+#[derive(Clone, Copy)]
 pub enum Placed {
     To(usize),
     Full,
 }
 
 // A day's row.
-#[derive(Drop)]
+#[derive(Clone, Copy)]
 pub struct Day {
     pub day: u32,
     pub learn: u32,

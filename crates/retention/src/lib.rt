@@ -1,4 +1,6 @@
 // The search for the cheapest retention: its answer, its entry, and the loop over trials. trials has a trial's runs.
+#![tactic(auto)]
+
 ghost use Rattle.std.specs.Prelude.{◌≡◌, ◌≤◌};
 ghost use Rattle.brent.specs.Search.{search};
 ghost use Rattle.brent.specs.Stepping.{told, answer};
@@ -18,21 +20,21 @@ pub use sizes::sample_size;
 pub use trials::{mean, target};
 
 // A retention found, its mean, and the rounds done.
-#[derive(Drop)]
+#[derive(Clone, Copy)]
 pub struct Optimum {
     pub retention: f32,
     pub mean: f32,
     pub rounds: u32,
 }
 
-#[derive(Drop)]
+#[derive(Clone, Copy)]
 pub enum SearchAnswer {
     Found(Optimum),
     Refused(Refusal),
 }
 
 // What a trial's runs come to: the mean of their targets, or the refusal of the first that was refused.
-#[derive(Drop)]
+#[derive(Clone, Copy)]
 pub enum Trial {
     Mean(f32),
     Refused(Refusal),

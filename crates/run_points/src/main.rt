@@ -1,5 +1,7 @@
 // Runs small forecasts: the case of two streets and one day, a deck of eight over ten days, and calls at the entry's
 // limits.
+#![tactic(auto)]
+
 use cards::SimulatorConfig;
 use entry::Refusal;
 use simulation::{Answer, Progress};

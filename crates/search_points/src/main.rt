@@ -1,5 +1,7 @@
 // Runs small searches: two that find a retention, one whose every mean is a NaN, one with too few rounds, one with too
 // many. `harness/run store` writes what it must print, from the Rust.
+#![tactic(auto)]
+
 use cards::SimulatorConfig;
 use retention::{Optimum, SearchAnswer};
 

@@ -1,4 +1,6 @@
 // The run: the types of its answer, and the call. Its parts are the entry's tests (crate `entry`), set_up, turn and run.
+#![tactic(auto)]
+
 ghost use Rattle.simulation.specs.State.{lent, state};
 ghost use Rattle.entry.specs.Entry.{inputs};
 ghost use Rattle.simulation.specs.Demands.{RunContract};
@@ -12,7 +14,7 @@ mod turn;
 
 // How far a run came: the turns taken, refused ones left out, the run's cards, how many of them are still queued, and
 // the state of the draws.
-#[derive(Drop)]
+#[derive(Clone, Copy)]
 pub struct Progress {
     pub turns: u32,
     pub cards: u32,
@@ -20,28 +22,28 @@ pub struct Progress {
     pub draws: u64,
 }
 
-#[derive(Drop)]
+#[derive(Clone, Copy)]
 pub enum Answer {
     Finished(Progress),
     Refused(Refusal, Progress),
 }
 
 // How a run stops: at its end, or refused.
-#[derive(Drop)]
+#[derive(Clone, Copy)]
 pub enum Stop {
     Ended,
     Refused(Refusal),
 }
 
 // What a turn comes to: the queue's length and the state of the draws after it; or the run stops.
-#[derive(Drop)]
+#[derive(Clone, Copy)]
 pub enum Outcome {
     Took(u32, u64),
     Stopped(Stop),
 }
 
 // What a run of turns came to.
-#[derive(Drop)]
+#[derive(Clone, Copy)]
 pub struct RunEnd {
     pub stop: Stop,
     pub turns: u32,

@@ -1,6 +1,8 @@
 // Prints what each text of its input forecasts. A text ends at a byte 1E; the texts and what they print are those of
 // the Rust
 // (`harness/run store`).
+#![tactic(auto)]
+
 ghost use Rattle.std.specs.Prelude.{◌≤◌, length};
 
 use report::Placed;
