@@ -53,8 +53,8 @@ fn unlike(s: bool, t: bool) -> bool
 
 // ±p * 2 ^ (a - 1074) + ±c * 2 ^ (b - 1074), rounded once.
 fn add_exact(s: bool, p: u64, a: u64, t: bool, c: u64, b: u64) -> f32
-    requires fact_1 { Bounded p a }
-    requires fact_2 { Bounded c b }
+    requires product { Bounded p a }
+    requires addend { Bounded c b }
     ensures { result ≡ Ieee.sum binary32 s (p * 2 ^ a) t (c * 2 ^ b) (2 ^ 1074) }
 {
     if p == 0 {
@@ -156,9 +156,9 @@ fn mul_add_slow(x: f32, y: f32, z: f32) -> f32
 
 // x * y + z of three bit patterns, rounded once.
 fn fused_bits(x: u32, y: u32, z: u32) -> f32
-    requires fact_1 { exponent binary32 x ≤ 253 }
-    requires fact_2 { exponent binary32 y ≤ 253 }
-    requires fact_3 { exponent binary32 z ≤ 253 }
+    requires x_small { exponent binary32 x ≤ 253 }
+    requires y_small { exponent binary32 y ≤ 253 }
+    requires z_small { exponent binary32 z ≤ 253 }
     ensures { result ≡ Ieee.sum binary32 (Ieee.unlike (nat_le (2 ^ 31) x) (nat_le (2 ^ 31) y))
         (significand binary32 x * significand binary32 y * 2 ^ (exponent binary32 x + exponent binary32 y + 776))
         (nat_le (2 ^ 31) z) (significand binary32 z * 2 ^ (exponent binary32 z + 925)) (2 ^ 1074) }

@@ -211,7 +211,7 @@ pub(crate) fn bit_length(m: u64) -> u64
 // q * 2 ^ k of the format's smallest values, with a sign.
 fn from_units(negative: bool, q: u64, k: u64) -> f32
     requires q_bound { q ≤ 2 ^ 24 }
-    requires bound { 0 < k → 2 ^ 23 ≤ q }
+    requires full { 0 < k → 2 ^ 23 ≤ q }
     ensures { result ≡ Ieee.units binary32 negative q k }
 {
     if k > 253 {

@@ -122,8 +122,8 @@ pub(crate) fn squeezed(r: f32) -> f32
 
 // The same from 10^-6 to 1: there the sum is exact in `f64`, and only its rounding to an `f32` is left.
 fn squeezed_exact(r: f32) -> f32
-    requires fact_1 { Ieee.le (Ieee.round binary32 false 1 1000000) r ≡ true }
-    requires fact_2 { Ieee.le r 1ᶠ ≡ true }
+    requires least { Ieee.le (Ieee.round binary32 false 1 1000000) r ≡ true }
+    requires most { Ieee.le r 1ᶠ ≡ true }
     ensures { result ≡ Model.squeezed r }
 {
     let inner: f32 = 0.99998;
@@ -134,8 +134,8 @@ fn squeezed_exact(r: f32) -> f32
 // The `f32` nearest to the `f64` of this pattern, and of two the even one. The exponents are 896 apart, and a carry
 // out of the digits goes into the exponent.
 fn nearest_f32(b: u64) -> f32
-    requires fact_1 { 897 ≤ b / 2 ^ 52 }
-    requires fact_2 { b / 2 ^ 52 ≤ 1149 }
+    requires least { 897 ≤ b / 2 ^ 52 }
+    requires most { b / 2 ^ 52 ≤ 1149 }
     ensures { result ≡ Ieee.round binary32 false (significand binary64 b * 2 ^ exponent binary64 b) (2 ^ 1074) }
 {
     f32::from_bits(((b + 268435455 + b / 536870912 % 2) / 536870912 - 7516192768) as u32)
