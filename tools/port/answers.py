@@ -1,0 +1,308 @@
+#!/usr/bin/env python3
+"""Turns the old Proof.antt of a crate into Invariants.antt and Answers.antt.
+
+usage: tools/port/answers.py CRATE [FUNCTION..]     at the top of the repository
+
+It goes by what `rt check --generated DIR --old-names` says of each function: the old and the new name of each goal, step and
+field. Answers that only say `search rules`, `tt` or `omega arith` are left out, since the check tries these. What it cannot
+turn is printed, as 'left:'.
+"""
+import json
+import os
+import re
+import shutil
+import subprocess
+import sys
+
+WORD = r"[^\s(){}.,;:\"]+"
+
+
+def tokens_of(text):
+    return set(re.findall(r"[^\s(){}.,;:\"λ]+", text))
+
+
+def chunks(text):
+    """Top-level pieces: comments that stand right above belong to what follows."""
+    out, now = [], []
+    for line in text.split("\n"):
+        starts = line[:1].strip() and not line.startswith("--")
+        if line.startswith("--") or (starts and not continues(now, line)):
+            if now and any(l.strip() for l in now) and not only_comments(now):
+                out.append("\n".join(now).rstrip())
+                now = []
+        now.append(line)
+    if any(l.strip() for l in now):
+        out.append("\n".join(now).rstrip())
+    return out
+
+
+def only_comments(lines):
+    return all(l.startswith("--") or not l.strip() for l in lines)
+
+
+def name_of(line):
+    m = re.match(r"(?:(?:abbrev|unfoldable|pub) )*(" + WORD + r")", line)
+    return m.group(1) if m else None
+
+
+def continues(now, line):
+    """Whether this line is a clause of the declaration that `now` holds."""
+    body = [l for l in now if l.strip() and not l.startswith("--")]
+    if not body:
+        return True
+    if line.startswith("unfolding "):
+        return True
+    if line.startswith(("use ", "module ", "open ", "pub ", "abbrev ", "unfoldable ")):
+        return False
+    head = name_of(body[0])
+    return line.split()[0].split("(")[0] == head and not re.match(WORD + r" :( |$)", line)
+
+
+class Function:
+    def __init__(self, d):
+        self.needs = [(a, b) for a, b in d["needs"]]
+        self.asked_at = d["asked_at"]
+        self.loops = d["loops"]
+        self.changed = d["changed"]
+        names = d["places_by_name"]
+        self.places = {}
+        self.new = {}
+        for i, p in enumerate(d["places"]):
+            old, parent, step, callee, renamed = p
+            self.places[norm(old)] = dict(parent=norm(parent) if parent else None, step=(norm(step[0]), step[1]), callee=callee,
+                                          renamed=dict(renamed), arms=d["arms"][i], clauses=d["clauses"][i], name=names[i])
+            self.new[names[i]] = norm(old)
+
+    def chain(self, place):
+        out = []
+        while place:
+            out.append(place)
+            place = self.places[place]["parent"]
+        return out
+
+    def resolve(self, var, place, path, left):
+        """var.path at the place, as today's names have it; path is what follows the variable."""
+        start, at = place, place
+        i = 0
+        while i < len(path) and path[i] == "before":
+            at = self.places[at]["parent"]
+            if at is None:
+                left.append(f"{var}.{'.'.join(path)}: too many before")
+                return var + "." + ".".join(path)
+            i += 1
+        rest = path[i:]
+        if not rest:
+            return ".".join([var] + path[:i])
+        first = norm(rest[0])
+        for q in self.chain(start):
+            arm = self.places[q]["arms"]
+            if not arm:
+                continue
+            for field, step, given in arm[2]:
+                if norm(step) == first and given and rest[1:1 + len(given)] == given:
+                    return ".".join([var, arm[0], field] + rest[1 + len(given):])
+        p = self.places[at]
+        if first == p["step"][0] and p["step"][1]:
+            more = rest[1:]
+            if more and more[0] in p["renamed"]:
+                more = [p["renamed"][more[0]]] + more[1:]
+            return ".".join([var, p["step"][1]] + more)
+        if rest[0] in ("args", "ranges", "requires", "well-formed", "utf8", "lifetimes"):
+            return ".".join([var] + rest)
+        left.append(f"{var}.{'.'.join(path)}: at {at} no step {rest[0]} but {p['step']}")
+        return ".".join([var] + rest)
+
+
+def norm(name):
+    return name.replace("-", "_") if name else name
+
+
+def match_need(fn, raw, used):
+    """The index of the need that the old file names raw (without `Need-`)."""
+    wanted = norm(re.sub(r"^overflow-", "", raw))
+    for i, (old, new) in enumerate(fn.needs):
+        if norm(old) == wanted and i not in used:
+            return i
+    for i, (old, new) in enumerate(fn.needs):
+        if norm(re.sub(r"^(overflow|bounds|nonzero)[-_]", "", old)) == wanted and i not in used:
+            return i
+    return None
+
+
+def turn_paths(text, var, place, fn, left):
+    """Resolves var.a.b.c of a variable at a place, and `let x = var.before in` that names an earlier place."""
+    while True:
+        m = re.search(r"let (" + WORD + r") = " + re.escape(var) + r"((?:\.before)*) in(?=\s)\s*", text)
+        if not m:
+            break
+        alias, befores = m.group(1), m.group(2)
+        head, tail = text[:m.start()], text[m.end():]
+        tail = re.sub(r"(?<![\w.'-])" + re.escape(alias) + r"(?![\w'-])", lambda _: var + befores, tail)
+        text = head + tail
+    pattern = r"(?<![\w.'₀-])" + re.escape(var) + r"((?:\.[\w'₀-]+)+)"
+    return re.sub(pattern, lambda m: fn.resolve(var, place, m.group(1)[1:].split("."), left), text)
+
+
+TRIVIAL = re.compile(r"^(search rules|tt|omega arith|search \(rules\)|refl)$")
+
+
+def turn_file(path, module, fn, crate):
+    text = open(path, encoding="utf-8").read()
+    text = re.sub(r"\n\s*where\n", "\n  where\n", text)
+    left, uses, notes, helpers, answers, invariants = [], [], [], [], [], []
+    used, renamed = set(), {}
+    for chunk in chunks(text):
+        lines = chunk.split("\n")
+        code = [l for l in lines if l.strip() and not l.startswith("--")]
+        comment = [l for l in lines if l.startswith("--")]
+        if not code:
+            notes += comment
+            continue
+        head = code[0]
+        if head.startswith(("use ", "open use")):
+            notes += comment
+            uses += [c for c in join_uses(code)]
+            continue
+        if "tie.close" in chunk or re.search(r"_spec :|-spec :", head):
+            continue
+        m = re.match(r"abbrev (?:pub )?(" + WORD + r") : tie\.(invariant|decreases)-(" + WORD + ")", head)
+        if m:
+            invariants.append((comment, m.group(2), m.group(3), "\n".join(code[1:])))
+            continue
+        m = re.match(r"(?:pub )?(" + WORD + r") : tie\.Need-(" + WORD + r")", head)
+        if m:
+            i = match_need(fn, m.group(2), used)
+            body = "\n".join(code[1:])
+            plain = re.sub(r"^" + re.escape(m.group(1)) + r"[^=]*= *", "", body).strip()
+            if i is None:
+                if not TRIVIAL.match(plain):
+                    left.append(f"no goal for {m.group(2)}: {plain[:200]}")
+                continue
+            used.add(i)
+            if TRIVIAL.match(plain):
+                continue
+            renamed[m.group(1)] = fn.needs[i][1]
+            answers.append((comment, m.group(1), fn.needs[i][1], norm(fn.asked_at[i][0]), body))
+            continue
+        helpers.append((comment, code))
+    write(path, module, fn, crate, left, uses, notes, helpers, answers, invariants, renamed)
+    return left
+
+
+def join_uses(code):
+    out = []
+    for l in code:
+        if l.startswith(("use ", "open use ", "pub use ")):
+            out.append(l)
+        else:
+            out[-1] += " " + l.strip()
+    return out
+
+
+def prune(uses, body):
+    have = tokens_of(body)
+    flat = body
+    out = []
+    for u in uses:
+        m = re.match(r"use (.*?)\.\{(.*)\}$", u)
+        if m:
+            keep = []
+            for n in [x.strip() for x in m.group(2).split(",") if x.strip()]:
+                local = n.split(" as ")[-1]
+                parts = [p for p in local.split("◌") if p]
+                if all(p in have or (not p[0].isalnum() and p in flat) for p in parts):
+                    keep.append(n)
+            if keep:
+                out.append(f"use {m.group(1)}.{{{', '.join(keep)}}}")
+            continue
+        m = re.match(r"use (\S+)(?: as (\S+))?$", u)
+        if m:
+            local = m.group(2) or m.group(1).split(".")[-1]
+            if re.search(r"(?<![\w.])" + re.escape(local) + r"\.", flat):
+                out.append(u)
+            continue
+        out.append(u)
+    return out
+
+
+def write(path, module, fn, crate, left, uses, notes, helpers, answers, invariants, renamed):
+    folder = os.path.dirname(path)
+    uses = [u for u in uses if not re.search(r"\.(Statement\.\{statement\}|Tie as tie)$", u)]
+    if invariants:
+        body = []
+        for comment, kind, loop, code in invariants:
+            k = next(i for i, l in enumerate(fn.loops) if norm(l[0][0]) == norm(loop))
+            (old, new), names = fn.loops[k]
+            m = re.match(r"((?:unfolding .*\n)?)" + re.escape(f"{kind}-{loop}") + r"((?: \S+)*) =(.*)", code, re.S)
+            if not m:
+                left.append(f"{kind}-{loop}: its clause is not read")
+                continue
+            args = m.group(2).split()
+            wanted = [("initial." + n if c else n) for n, c in zip(names, fn.changed[k])] + [n for n, c in zip(names, fn.changed[k]) if c]
+            if len(args) != len(wanted):
+                left.append(f"{kind}-{loop}: {len(args)} arguments, {len(wanted)} variables: {args} {wanted}")
+            rhs = m.group(3)
+            table = {a: "l." + w for a, w in zip(args, wanted) if a != "_"}
+            rhs = re.sub(r"(?<![\w.'₀◌-])[A-Za-z_][\w'₀-]*", lambda q: table.get(q.group(0), q.group(0)), rhs)
+            body.append("\n".join(comment + [f"abbrev pub {kind}-{new} : goal.{kind}-{new}", f"{m.group(1)}{kind}-{new} l ={rhs}"]))
+        text = "\n\n".join(body)
+        out = "\n".join(notes + prune(uses, text) + [f"use Rattle.{crate}.proofs.{module}.Given as goal"]) + "\n\n" + text + "\n"
+        open(os.path.join(folder, "Invariants.antt"), "w", encoding="utf-8").write(out)
+    if answers or left:
+        body = []
+        for comment, code in helpers:
+            text = "\n".join(code)
+            for var, place in re.findall(r"\((\w+) : tie\.(" + WORD + r")", text):
+                if norm(place) in fn.places:
+                    text = turn_paths(text, var, norm(place), fn, left)
+                else:
+                    left.append(f"no place {place}")
+            text = re.sub(r"tie\.(" + WORD + r")((?: (?:invariant|decreases)-[\w-]+)*)",
+                          lambda m: "goal." + fn.places[norm(m.group(1))]["name"] if norm(m.group(1)) in fn.places else m.group(0), text)
+            body.append("\n".join(comment + [text]))
+        for comment, old, new, place, code in answers:
+            code = re.sub(r"(?m)^" + re.escape(old) + r"(?= )", new, code)
+            code = re.sub(r"(?m)^(" + re.escape(new) + r" \w+) κs(?= |$)", r"\1", code)
+            var = re.search(r"(?m)^" + re.escape(new) + r" (\w+)", code)
+            if var and place in fn.places:
+                code = turn_paths(code, var.group(1), place, fn, left)
+            body.append("\n".join(comment + [f"pub {new} : goal.{new}", code]))
+        text = "\n\n".join(body)
+        for old, new in renamed.items():
+            if old != new:
+                text = re.sub(r"(?<![\w.'-])" + re.escape(old) + r"(?= c\b)", new, text)
+        top = [] if invariants else notes
+        out = "\n".join(top + prune(uses, text) + [f"use Rattle.{crate}.proofs.{module}.Goals as goal"]) + "\n\n" + text + "\n"
+        open(os.path.join(folder, "Answers.antt"), "w", encoding="utf-8").write(out)
+    os.remove(path)
+    if not os.listdir(folder):
+        os.rmdir(folder)
+
+
+def main():
+    crate, only = sys.argv[1], sys.argv[2:]
+    top = os.path.abspath(os.path.join("crates", crate))
+    out = f"/tmp/old-names/{crate}"
+    shutil.rmtree(out, ignore_errors=True)
+    said = subprocess.run(["rt", "check", "--generated", out, "--old-names"], cwd=top, capture_output=True, text=True)
+    table = os.path.join(out, "names.json")
+    if not os.path.exists(table):
+        sys.exit("answers: no names: " + (said.stdout + said.stderr)[-3000:])
+    names = json.load(open(table))
+    for folder, dirs, files in sorted(os.walk(os.path.join(top, "proofs"))):
+        if "Proof.antt" not in files:
+            continue
+        module = os.path.relpath(folder, os.path.join(top, "proofs")).replace("/", ".")
+        path = os.path.join(folder, "Proof.antt")
+        text = open(path, encoding="utf-8").read()
+        if only and module not in only:
+            continue
+        key = f"Rattle-{crate}-proofs.{module}.Lts"
+        if "tie.close" not in text or key not in names or "needs" not in names[key]:
+            print(f"left: {module}: not turned" + ("" if "tie.close" in text else " (a walk by hand)"))
+            continue
+        for l in turn_file(path, module, Function(names[key]), crate):
+            print(f"left: {module}: {l}")
+
+
+main()
