@@ -50,7 +50,7 @@ def continues(now, line):
     body = [l for l in now if l.strip() and not l.startswith("--")]
     if not body:
         return True
-    if line.startswith("unfolding "):
+    if line.startswith("unfolding ") or line[0] in ")}]":
         return True
     if line.startswith(("use ", "module ", "open ", "pub ", "abbrev ", "unfoldable ")):
         return False
@@ -108,7 +108,7 @@ class Function:
                 more = [p["renamed"][more[0]]] + more[1:]
             return ".".join([var, p["step"][1]] + more)
         if rest[0] in ("args", "ranges", "requires", "well-formed", "utf8", "lifetimes"):
-            return ".".join([var] + rest)
+            return ".".join([var, "well_formed" if rest[0] == "well-formed" else rest[0]] + rest[1:])
         left.append(f"{var}.{'.'.join(path)}: at {at} no step {rest[0]} but {p['step']}")
         return ".".join([var] + rest)
 
@@ -150,7 +150,7 @@ def turn_file(path, module, fn, crate):
     text = open(path, encoding="utf-8").read()
     text = re.sub(r"\n\s*where\n", "\n  where\n", text)
     left, uses, notes, helpers, answers, invariants = [], [], [], [], [], []
-    used, renamed = set(), {}
+    used, renamed, trivial = set(), {}, {}
     for chunk in chunks(text):
         lines = chunk.split("\n")
         code = [l for l in lines if l.strip() and not l.startswith("--")]
@@ -180,11 +180,25 @@ def turn_file(path, module, fn, crate):
                 continue
             used.add(i)
             if TRIVIAL.match(plain):
+                trivial[i] = plain
                 continue
             renamed[m.group(1)] = fn.needs[i][1]
             answers.append((comment, m.group(1), fn.needs[i][1], norm(fn.asked_at[i][0]), body))
             continue
         helpers.append((comment, code))
+    # a place is named only where a goal of it is answered
+    for place in sorted(set(norm(q) for _, code in helpers for q in re.findall(r"tie\.(" + WORD + r")", "\n".join(code)))):
+        if place not in fn.places or any(a[3] == place for a in answers):
+            continue
+        at = [i for i in range(len(fn.needs)) if norm(fn.asked_at[i][0]) == place]
+        at.sort(key=lambda i: i not in trivial)
+        if not at:
+            left.append(f"no goal is asked at {place}, which a helper names")
+            continue
+        new = fn.needs[at[0]][1]
+        uses.append("use Rattle.std.proofs.Common.{rules}")
+        uses.append("use Rattle.std.proofs.Common.{arith}")
+        answers.append(([], new, new, place, f"{new} c = {trivial.get(at[0], 'search rules')}"))
     write(path, module, fn, crate, left, uses, notes, helpers, answers, invariants, renamed)
     return left
 
