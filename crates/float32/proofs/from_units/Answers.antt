@@ -1,0 +1,45 @@
+-- `float32::from_units` meets its contract: `proofs/Patterns.antt` says what the pattern is.
+use Rattle.std.proofs.Common.{ℕ, ◌+◌, ◌*◌, ◌^◌, ◌<◌, ◌≤◌, Bool, true, false, cond, not, T, sym, ap, ◌∙◌, subst, arith}
+use lib.Ieee.{binary32, of_bits, nan_bits}
+use Rattle.float32.proofs.Patterns.{pack-units, pack_no_nan, pack-over, infinity_no_nan}
+use Rattle.float32.proofs.from_units.Goals as goal
+
+sign_le : (s : Bool) → cond s (2 ^ 31) 0 ≤ 2 ^ 31
+sign_le true = omega arith
+sign_le false = omega arith
+
+in_range : (k : ℕ) → k ≤ 253 → k < 254
+in_range k h = omega arith
+
+pub overflow_add-result : goal.overflow_add-result
+overflow_add-result c = omega (arith, sign_le c.args.negative)
+
+pub float_from_bits-result : goal.float_from_bits-result
+float_from_bits-result c =
+    subst (λ (b : ℕ). T (not (nan_bits binary32 (b + 0x7f80_0000)))) (sym c.sign_bit.ensures)
+    (infinity_no_nan c.args.negative)
+
+pub overflow_add-result-else-k-gt253-2 : goal.overflow_add-result-else-k-gt253-2
+overflow_add-result-else-k-gt253-2 c = omega (arith, sign_le c.args.negative)
+
+pub float_from_bits-result-else-k-gt253 : goal.float_from_bits-result-else-k-gt253
+float_from_bits-result-else-k-gt253 c =
+    subst (λ (b : ℕ). T (not (nan_bits binary32 (b + (c.args.k * 8388608 + c.args.q)))))
+    (sym c.sign_bit-else-k-gt253.ensures)
+    (pack_no_nan c.args.negative c.args.q c.args.k (in_range c.args.k c.if-k-gt253.false)
+    c.requires.0)
+
+pub returns-then-k-gt253 : goal.returns-then-k-gt253
+returns-then-k-gt253 c =
+    ap (λ (b : ℕ). of_bits binary32 (b + 0x7f80_0000)) c.sign_bit.ensures
+    ∙ pack-over c.args.negative c.args.q c.args.k c.if-k-gt253.true
+    (c.requires.1 (positive c.args.k c.if-k-gt253.true))
+  where
+    positive : (k : ℕ) → 253 < k → 0 < k
+    positive k h = omega arith
+
+pub returns-else-k-gt253 : goal.returns-else-k-gt253
+returns-else-k-gt253 c =
+    ap (λ (b : ℕ). of_bits binary32 (b + (c.args.k * 8388608 + c.args.q))) c.sign_bit-else-k-gt253.ensures
+    ∙ pack-units c.args.negative c.args.q c.args.k (in_range c.args.k c.if-k-gt253.false)
+    c.requires.0 c.requires.1
