@@ -3,8 +3,7 @@
 --   left, right           the two terms of the sum, over 2 ^ 1074
 --   fma_is                of finite floats: `mulAdd` is the sum of these
 --   fma_x, fma_y, fma_z   where x, y or z is not finite
-use Rattle.std.proofs.Common.{◌≡◌, ℕ, ◌+◌, ◌*◌, ◌^◌, ◌<◌, Bool, true, false, T, sym, refl, ap, ◌∙◌, true≢false, lt_of_le_of_lt, le_of_lt, mul_assoc, mul_comm, mul-le-mul_left, mul-lt-mul_of_pos_right, mul-pos, mul_left_comm, lit<, pow_pos, pow-add}
-use lib.Ieee as Ieee
+use Rattle.std.proofs.Common.{◌≡◌, ℕ, ◌+◌, ◌*◌, ◌^◌, ◌<◌, Bool, false, T, sym, refl, ap, ◌∙◌, true≢false, lt_of_le_of_lt, le_of_lt, mul_assoc, mul_comm, mul-le-mul_left, mul-lt-mul_of_pos_right, mul-pos, mul_left_comm, lit<, pow_pos, pow-add}
 use lib.Ieee.{Float, nan, inf, fin, binary32, up, down, unlike, sum, mul, add}
 use lib.Ieee.Fits.{down_pos}
 use lib.Ieee.Exact.{HasValue}

@@ -2,11 +2,11 @@
 --   nan_test                           only a NaN differs from itself
 --   finite_under, finite_over          finite is between the infinities
 --   abs_negative, abs_zero, abs-rest   `abs` below 0, at a zero, and elsewhere
-use Rattle.std.proofs.Common.{◌≡◌, ℕ, zero, suc, ◌+◌, ◌*◌, ◌^◌, ◌<◌, ◌≤◌, Bool, true, false, not, ◌&&◌, T, eqb, ltb, ℤ, pos, negsuc, sym, refl, ap, true≢false, mul-pos, arith, lit<, eqb→eq, ltb→lt, nltb→le, T_not}
+use Rattle.std.proofs.Common.{◌≡◌, ℕ, zero, suc, ◌+◌, ◌*◌, ◌^◌, ◌<◌, ◌≤◌, Bool, true, false, not, ◌&&◌, T, eqb, ℤ, pos, negsuc, sym, refl, ap, true≢false, mul-pos, arith, lit<, eqb→eq, ltb→lt, nltb→le, T_not}
 use mathlib.Core.Bool.{false≢true}
 use lib.Dec.{eqb_refl}
 use lib.Pow.{pow-lt}
-use lib.Ieee.{Float, nan, inf, fin, up, down, lt, eq, ne, le, neg, fits, is_nan, binary32}
+use lib.Ieee.{Float, nan, inf, fin, up, down, lt, eq, ne, neg, fits, is_nan, binary32}
 use lib.Ieee.Fits.{up_pos, and_i, and_l, eq→eqb}
 use lib.Ieee.Bits.{is_true}
 use Rattle.float32.specs.Float32.{is_finite, abs}

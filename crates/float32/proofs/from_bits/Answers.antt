@@ -1,4 +1,4 @@
-use Rattle.std.proofs.Common.{◌≡◌, true, false, sym, refl, ◌∙◌, true≢false, le-ltb, lt-ltb}
+use Rattle.std.proofs.Common.{◌≡◌, true, sym, refl, ◌∙◌, true≢false, le-ltb, lt-ltb}
 use lib.Ieee.{Float, nan, inf, fin, binary32, is_nan, of_bits, div}
 use lib.Ieee.Bits.{nan_bits_is, nan_bits_above}
 use Rattle.float32.proofs.Cmp.{no}

@@ -27,13 +27,13 @@ float_from_bits-result-else-k-gt253 c =
     subst (λ (b : ℕ). T (not (nan_bits binary32 (b + (c.args.k * 8388608 + c.args.q)))))
     (sym c.sign_bit-else-k-gt253.ensures)
     (pack_no_nan c.args.negative c.args.q c.args.k (in_range c.args.k c.if-k-gt253.false)
-    c.requires.0)
+    c.requires.q_bound)
 
 pub returns-then-k-gt253 : goal.returns-then-k-gt253
 returns-then-k-gt253 c =
     ap (λ (b : ℕ). of_bits binary32 (b + 0x7f80_0000)) c.sign_bit.ensures
     ∙ pack-over c.args.negative c.args.q c.args.k c.if-k-gt253.true
-    (c.requires.1 (positive c.args.k c.if-k-gt253.true))
+    (c.requires.full (positive c.args.k c.if-k-gt253.true))
   where
     positive : (k : ℕ) → 253 < k → 0 < k
     positive k h = omega arith
@@ -42,4 +42,4 @@ pub returns-else-k-gt253 : goal.returns-else-k-gt253
 returns-else-k-gt253 c =
     ap (λ (b : ℕ). of_bits binary32 (b + (c.args.k * 8388608 + c.args.q))) c.sign_bit-else-k-gt253.ensures
     ∙ pack-units c.args.negative c.args.q c.args.k (in_range c.args.k c.if-k-gt253.false)
-    c.requires.0 c.requires.1
+    c.requires.q_bound c.requires.full

@@ -11,10 +11,13 @@ use Rattle.float32.proofs.round.Goals as goal
 module _ (c : goal.Then-is_finite) where
   abbrev x : Float
   x = c.args.x
+
   abbrev b : ℕ
   b = to_bits binary32 c.args.x
+
   held : T (fits binary32 c.args.x)
   held = subst T (sym c.well_formed.0.1) tt
+
   is_fin : T (is_finite c.args.x)
   is_fin = yes (sym c.is_finite.ensures ∙ c.if-is_finite.true)
 

@@ -5,13 +5,13 @@ use Rattle.std.proofs.Common.{arith}
 use Rattle.float32.proofs.scaled.Goals as goal
 
 small : (c : goal.Start) → c.args.m * 2 ^ c.args.e < 2 ^ (24 + (925 + c.args.k))
-small c = subst (λ (i : ℕ). c.args.m * 2 ^ c.args.e < 2 ^ i) go c.requires.1.0
+small c = subst (λ (i : ℕ). c.args.m * 2 ^ c.args.e < 2 ^ i) go c.requires.e_bound
   where
     go : 949 + c.args.k ≡ 24 + (925 + c.args.k)
     go = omega arith
 
 pub overflow_shl-result : goal.overflow_shl-result
-overflow_shl-result c = shift-room c.args.m c.args.e (925 + c.args.k) c.requires.0 c.if-e-k.true
+overflow_shl-result c = shift-room c.args.m c.args.e (925 + c.args.k) c.requires.m_nonzero c.if-e-k.true
     (small c.before)
 
 pub returns-then-e-k : goal.returns-then-e-k

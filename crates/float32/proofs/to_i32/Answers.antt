@@ -22,7 +22,7 @@ narrow : (x : Float) → SFits w32 (to_signed 31 x)
 narrow x = record { sfits = to_signed_in 31 x }
 
 pub truncating_f32_to_i64-requires : goal.truncating_f32_to_i64-requires
-truncating_f32_to_i64-requires c = ((between c).0, (between c).1)
+truncating_f32_to_i64-requires c = record { lower_bound = (between c).0; upper_bound = (between c).1 }
 
 pub overflow_cast-result : goal.overflow_cast-result
 overflow_cast-result c = subst (λ (z : ℤ). SFits w32 z) (sym (is c)) (narrow c.args.x)

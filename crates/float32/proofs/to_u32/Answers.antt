@@ -10,9 +10,11 @@ use Rattle.float32.proofs.to_u32.Goals as goal
 module _ (c : goal.Then-x-2) where
   held : T (fits binary32 c.args.x)
   held = yes c.well_formed.0.1
+
   from_one : T (le (two_to 0) c.args.x)
   unfolding of_bits
   from_one = yes c.if-x.true
+
   under : T (lt c.args.x (two_to 24))
   unfolding of_bits
   under = yes c.if-x-2.true

@@ -16,7 +16,7 @@ is c = c.truncating_f32_to_u64.ensures ∙ (between c.before).1
 
 pub truncating_f32_to_u64-requires : goal.truncating_f32_to_u64-requires
 unfolding of_bits neg
-truncating_f32_to_u64-requires c = (yes c.if-x-2.true, (between c).0)
+truncating_f32_to_u64-requires c = record { lower_bound = yes c.if-x-2.true; upper_bound = (between c).0 }
 
 pub overflow_cast-result : goal.overflow_cast-result
 overflow_cast-result c = record {

@@ -13,41 +13,54 @@ something m a h = mul-pos (omega (arith, h)) (pow_pos a)
 
 -- both words, shifted up
 module _ (k : goal.After-bit_length-j) where
-  abbrev t : goal.Start
-  t = k.before.before.before.before
-  p_pos : 0 < t.args.p
-  p_pos = omega (arith, k.if-p-eq0.left)
-  c_pos : 0 < t.args.c
-  c_pos = omega (arith, k.if-c-eq0-2.left)
+  p_pos : 0 < k.args.p
+  p_pos = omega (arith, k.if-p-eq0.false)
+
+  c_pos : 0 < k.args.c
+  c_pos = omega (arith, k.if-c-eq0-2.false)
+
   abbrev zp : ℕ
   zp = k.bit_length-i.result
+
   abbrev zc : ℕ
   zc = k.bit_length-j.result
+
   abbrev pn : ℕ
-  pn = t.args.p * 2 ^ (62 - zp) % 2 ^ 64
+  pn = k.args.p * 2 ^ (62 - zp) % 2 ^ 64
+
   abbrev cn : ℕ
-  cn = t.args.c * 2 ^ (62 - zc) % 2 ^ 64
+  cn = k.args.c * 2 ^ (62 - zc) % 2 ^ 64
+
   abbrev an : ℕ
-  an = t.args.a - (62 - zp)
+  an = k.args.a - (62 - zp)
+
   abbrev bn : ℕ
-  bn = t.args.b - (62 - zc)
+  bn = k.args.b - (62 - zc)
+
   p-over : 2 ^ 61 ≤ pn
-  p-over = n-over t.args.p zp p_pos t.pre.0.digits k.bit_length-i.ensures
+  p-over = n-over k.args.p zp p_pos k.requires.product.digits k.bit_length-i.ensures
+
   p_under : pn < 2 ^ 62
-  p_under = n_under t.args.p zp p_pos t.pre.0.digits k.bit_length-i.ensures
+  p_under = n_under k.args.p zp p_pos k.requires.product.digits k.bit_length-i.ensures
+
   p_fours : pn % 4 ≡ 0
-  p_fours = n_fours t.args.p zp p_pos t.pre.0.digits k.bit_length-i.ensures
-  p-value : pn * 2 ^ an ≡ t.args.p * 2 ^ t.args.a
-  p-value = n-value t.args.p zp p_pos t.pre.0.digits k.bit_length-i.ensures t.args.a
-      t.pre.0.low
+  p_fours = n_fours k.args.p zp p_pos k.requires.product.digits k.bit_length-i.ensures
+
+  p-value : pn * 2 ^ an ≡ k.args.p * 2 ^ k.args.a
+  p-value = n-value k.args.p zp p_pos k.requires.product.digits k.bit_length-i.ensures k.args.a
+      k.requires.product.low
+
   c_over : 2 ^ 61 ≤ cn
-  c_over = n-over t.args.c zc c_pos t.pre.1.digits k.bit_length-j.ensures
+  c_over = n-over k.args.c zc c_pos k.requires.addend.digits k.bit_length-j.ensures
+
   c_under : cn < 2 ^ 62
-  c_under = n_under t.args.c zc c_pos t.pre.1.digits k.bit_length-j.ensures
+  c_under = n_under k.args.c zc c_pos k.requires.addend.digits k.bit_length-j.ensures
+
   c_fours : cn % 4 ≡ 0
-  c_fours = n_fours t.args.c zc c_pos t.pre.1.digits k.bit_length-j.ensures
-  c-value : cn * 2 ^ bn ≡ t.args.c * 2 ^ t.args.b
-  c-value = n-value t.args.c zc c_pos t.pre.1.digits k.bit_length-j.ensures t.args.b t.pre.1.low
+  c_fours = n_fours k.args.c zc c_pos k.requires.addend.digits k.bit_length-j.ensures
+
+  c-value : cn * 2 ^ bn ≡ k.args.c * 2 ^ k.args.b
+  c-value = n-value k.args.c zc c_pos k.requires.addend.digits k.bit_length-j.ensures k.args.b k.requires.addend.low
 
 less : (x y : ℕ) → x - y ≤ x
 less x y = omega arith
@@ -57,21 +70,21 @@ short x y h = omega arith
 
 pub overflow_sub-i : goal.overflow_sub-i
 overflow_sub-i c = le_trans (z-le c.args.p c.bit_length-i.result
-    (omega (arith, c.if-p-eq0.false)) c.requires.0.digits c.bit_length-i.ensures) (omega arith)
+    (omega (arith, c.if-p-eq0.false)) c.requires.product.digits c.bit_length-i.ensures) (omega arith)
 
 pub overflow_sub-j : goal.overflow_sub-j
 overflow_sub-j c = le_trans (z-le c.args.c c.bit_length-j.result
-    (omega (arith, c.if-c-eq0-2.false)) c.requires.1.digits c.bit_length-j.ensures) (omega arith)
+    (omega (arith, c.if-c-eq0-2.false)) c.requires.addend.digits c.bit_length-j.ensures) (omega arith)
 
 pub add_ordered-requires : goal.add_ordered-requires
 add_ordered-requires c =
     ordered (pn c.before) (an c.before) (cn c.before) (an c.before - bn c.before) (p-over c.before) (p_under c.before) (c_under c.before) (p_fours c.before) (c_fours c.before)
-    (less (an c.before) (bn c.before)) (short (t c.before).args.a (62 - zp c.before) (t c.before).requires.0.high)
+    (less (an c.before) (bn c.before)) (short c.args.a (62 - zp c.before) c.requires.product.high)
 
 pub add_ordered-requires-else-an-bn : goal.add_ordered-requires-else-an-bn
 add_ordered-requires-else-an-bn c =
     ordered (cn c.before) (bn c.before) (pn c.before) (bn c.before - an c.before) (c_over c.before) (c_under c.before) (p_under c.before) (c_fours c.before) (p_fours c.before)
-    (less (bn c.before) (an c.before)) (short (t c.before).args.b (62 - zc c.before) (t c.before).requires.1.high)
+    (less (bn c.before) (an c.before)) (short c.args.b (62 - zc c.before) c.requires.addend.high)
 
 pub returns-then-c-eq0 : goal.returns-then-c-eq0
 returns-then-c-eq0 c =
@@ -97,21 +110,21 @@ returns-then-c-eq0-2 c =
 
 pub returns-then-an-bn : goal.returns-then-an-bn
 returns-then-an-bn c =
-    let s = (t c.before.before).args.s in
-    let u = (t c.before.before).args.t in
+    let s = c.args.s in
+    let u = c.args.t in
     c.add_ordered.ensures
     ∙ ap (λ (z : ℕ). sum binary32 s (pn c.before.before * 2 ^ an c.before.before) u (cn c.before.before * 2 ^ z) (2 ^ 1074))
     (back (an c.before.before) (bn c.before.before) c.if-an-bn.true)
     ∙ ap (λ (z : ℕ). sum binary32 s z u (cn c.before.before * 2 ^ bn c.before.before) (2 ^ 1074)) (p-value c.before.before)
-    ∙ ap (λ (z : ℕ). sum binary32 s ((t c.before.before).args.p * 2 ^ (t c.before.before).args.a) u z (2 ^ 1074)) (c-value c.before.before)
+    ∙ ap (λ (z : ℕ). sum binary32 s (c.args.p * 2 ^ c.args.a) u z (2 ^ 1074)) (c-value c.before.before)
 
 pub returns-else-an-bn : goal.returns-else-an-bn
 returns-else-an-bn c =
-    let s = (t c.before.before).args.s in
-    let u = (t c.before.before).args.t in
+    let s = c.args.s in
+    let u = c.args.t in
     c.add_ordered-else-an-bn.ensures
     ∙ ap (λ (z : ℕ). sum binary32 u (cn c.before.before * 2 ^ bn c.before.before) s (pn c.before.before * 2 ^ z) (2 ^ 1074))
     (back (bn c.before.before) (an c.before.before) (le_of_lt c.if-an-bn.false))
     ∙ ap (λ (z : ℕ). sum binary32 u (cn c.before.before * 2 ^ bn c.before.before) s z (2 ^ 1074)) (p-value c.before.before)
-    ∙ ap (λ (z : ℕ). sum binary32 u z s ((t c.before.before).args.p * 2 ^ (t c.before.before).args.a) (2 ^ 1074)) (c-value c.before.before)
-    ∙ sum-swap binary32 u ((t c.before.before).args.c * 2 ^ (t c.before.before).args.b) s ((t c.before.before).args.p * 2 ^ (t c.before.before).args.a) (2 ^ 1074)
+    ∙ ap (λ (z : ℕ). sum binary32 u z s (c.args.p * 2 ^ c.args.a) (2 ^ 1074)) (c-value c.before.before)
+    ∙ sum-swap binary32 u (c.args.c * 2 ^ c.args.b) s (c.args.p * 2 ^ c.args.a) (2 ^ 1074)

@@ -16,22 +16,22 @@ overflow_mul-significand c = record { fits = lt_of_lt_of_le (product c) (lit≤ 
 pub add_exact-requires : goal.add_exact-requires
 add_exact-requires c =
     let px : c.exponent.result ≤ 253 = subst (λ (n : ℕ). n ≤ 253)
-    (sym c.exponent.ensures) c.requires.0 in
+    (sym c.exponent.ensures) c.requires.x_small in
     let py : c.exponent-2.result ≤ 253 = subst (λ (n : ℕ). n ≤ 253)
-    (sym c.exponent-2.ensures) c.requires.1.0 in
-    let pz : c.exponent-3.result ≤ 253 = subst (λ (n : ℕ). n ≤ 253) (sym c.exponent-3.ensures) c.requires.1.1 in (
-      record {
+    (sym c.exponent-2.ensures) c.requires.y_small in
+    let pz : c.exponent-3.result ≤ 253 = subst (λ (n : ℕ). n ≤ 253) (sym c.exponent-3.ensures) c.requires.z_small in record {
+      product = record {
         digits = lt_of_lt_of_le (product c.before.before.before.before) (lit≤ tt);
         low = omega arith;
         high = omega arith;
-      },
-      record {
+      };
+      addend = record {
         digits = lt_of_lt_of_le (subst (λ (n : ℕ). n < 2 ^ 24) (sym c.significand-3.ensures)
             (significand-lt binary32 c.args.z)) (lit≤ tt);
         low = omega arith;
         high = omega arith;
-      },
-    )
+      };
+    }
 
 pub returns : goal.returns
 returns c = cc

@@ -21,19 +21,24 @@ z-finite c = yes (sym c.is_finite-then-is_finite-2.ensures ∙ c.if-is_finite-3.
 module _ (c : goal.Then-is_finite-3) where
   abbrev x : Float
   x = c.args.x
+
   abbrev y : Float
   y = c.args.y
+
   abbrev z : Float
   z = c.args.z
+
   dx : Decoded binary32 (to_bits binary32 c.args.x)
       c.args.x
   dx = decode binary32 c.args.x
       (yes c.well_formed.0.1)
       (x-finite c.before.before.before.before)
+
   dy : Decoded binary32 (to_bits binary32 c.args.y)
       c.args.y
   dy = decode binary32 c.args.y
       (yes c.well_formed.1.0.1) (y-finite c.before.before)
+
   dz : Decoded binary32 (to_bits binary32 c.args.z)
       c.args.z
   dz = decode binary32 c.args.z
@@ -49,7 +54,7 @@ pub float_to_bits-z : goal.float_to_bits-z
 float_to_bits-z c = finite_no_nan (z c) (z-finite c)
 
 pub fused_bits-requires : goal.fused_bits-requires
-fused_bits-requires c = ((dx c).1, ((dy c).1, (dz c).1))
+fused_bits-requires c = record { x_small = (dx c).1; y_small = (dy c).1; z_small = (dz c).1 }
 
 pub returns-then-is_finite-3 : goal.returns-then-is_finite-3
 returns-then-is_finite-3 c =

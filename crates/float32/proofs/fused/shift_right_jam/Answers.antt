@@ -1,18 +1,16 @@
-use Rattle.std.proofs.Common.{◌≡◌, ◌*◌, ◌/◌, ◌^◌, sym, ◌∙◌, inl, zero-mul, pow_pos}
+use Rattle.std.proofs.Common.{◌≡◌, ℕ, ◌<◌, ◌%◌, ◌*◌, ◌/◌, ◌^◌, sym, ◌∙◌, inl, zero-mul, pow_pos}
 use Rattle.float32.proofs.Jamming.{jam_odd, jam_even, jam_all, jam_room}
 use Rattle.float32.proofs.Shift.{back_up}
 use Rattle.float32.proofs.fused.shift_right_jam.Goals as goal
 
 -- the shift back up is not x, so something was lost
-differs : (c : goal.Else-h-d) → c.args.x / 2 ^ c.args.d * 2 ^ c.args.d
-    ≡ c.args.x → ⊥
-differs c e = c.if-h-d.false (back_up c.args.x (2 ^ c.args.d) (pow_pos c.args.d) 64
-    c.ranges.x.fits ∙ e)
+differs : (x d : ℕ) → x < 2 ^ 64 → (x / 2 ^ d * 2 ^ d % 2 ^ 64 ≡ x → ⊥) → x / 2 ^ d * 2 ^ d ≡ x → ⊥
+differs x d fits other e = other (back_up x (2 ^ d) (pow_pos d) 64 fits ∙ e)
 
 pub overflow_add-result : goal.overflow_add-result
 overflow_add-result c = record {
   fits = jam_room c.args.x c.args.d
-      c.ranges.x.fits (differs c.before);
+      c.ranges.x.fits (differs c.args.x c.args.d c.ranges.x.fits c.if-h-d.false);
 }
 
 pub returns-then-x-eq0 : goal.returns-then-x-eq0
@@ -28,8 +26,8 @@ returns-then-h-d c = inl
 
 pub returns-then-h-eq1 : goal.returns-then-h-eq1
 returns-then-h-eq1 c = jam_odd c.args.x c.args.d c.if-h-eq1.true
-    (differs c.before)
+    (differs c.args.x c.args.d c.ranges.x.fits c.if-h-d.false)
 
 pub returns-else-h-eq1 : goal.returns-else-h-eq1
 returns-else-h-eq1 c = jam_even c.args.x c.args.d c.if-h-eq1.false
-    (differs c.before)
+    (differs c.args.x c.args.d c.ranges.x.fits c.if-h-d.false)
