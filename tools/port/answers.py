@@ -63,6 +63,8 @@ class Function:
         self.needs = [(a, b) for a, b in d["needs"]]
         self.asked_at = d["asked_at"]
         self.loops = d["loops"]
+        # an argument that is a pattern had a made name: `.args .t3` is `.args .row`
+        self.args = {tuple(re.findall(r"\.([\w-]+)", a)): re.findall(r"\.([\w-]+)", b) for a, b in d.get("args", [])}
         self.changed = d["changed"]
         names = d["places_by_name"]
         self.places = {}
@@ -108,6 +110,8 @@ class Function:
                 more = [p["renamed"][more[0]]] + more[1:]
             return ".".join([var, p["step"][1]] + more)
         if rest[0] in ("args", "ranges", "requires", "well-formed", "utf8", "lifetimes"):
+            if tuple(rest[:2]) in self.args:
+                rest = self.args[tuple(rest[:2])] + rest[2:]
             return ".".join([var, "well_formed" if rest[0] == "well-formed" else rest[0]] + rest[1:])
         left.append(f"{var}.{'.'.join(path)}: at {at} no step {rest[0]} but {p['step']}")
         return ".".join([var] + rest)
@@ -275,6 +279,7 @@ def write(path, module, fn, crate, left, uses, notes, helpers, answers, invarian
                           lambda m: "goal." + fn.places[norm(m.group(1))]["name"] if norm(m.group(1)) in fn.places else m.group(0), text)
             body.append("\n".join(comment + [text]))
         for comment, old, new, place, code in answers:
+            code = re.sub(r"(?<=[ (,])(" + WORD + r")(?= c\b)", lambda q: renamed.get(q.group(1), q.group(1)), code)
             code = re.sub(r"(?m)^" + re.escape(old) + r"(?= )", new, code)
             code = re.sub(r"(?m)^(" + re.escape(new) + r" \w+) κs(?= |$)", r"\1", code)
             var = re.search(r"(?m)^" + re.escape(new) + r" (\w+)", code)
@@ -282,9 +287,6 @@ def write(path, module, fn, crate, left, uses, notes, helpers, answers, invarian
                 code = turn_paths(code, var.group(1), place, fn, left)
             body.append("\n".join(comment + [f"pub {new} : goal.{new}", code]))
         text = "\n\n".join(body)
-        for old, new in renamed.items():
-            if old != new:
-                text = re.sub(r"(?<![\w.'-])" + re.escape(old) + r"(?= c\b)", new, text)
         top = [] if invariants else notes
         out = "\n".join(top + prune(uses, text) + [f"use Rattle.{crate}.proofs.{module}.Goals as goal"]) + "\n\n" + text + "\n"
         open(os.path.join(folder, "Answers.antt"), "w", encoding="utf-8").write(out)
