@@ -14,7 +14,6 @@ use lib.Seq.{take-suc-set, take_all}
 use Rattle.listing.specs.declared.Parsed64.{Parsed64}
 use Rattle.listing.specs.declared.Parsed64.TheVariants.{Is, Not}
 use Rattle.listing.specs.declared.Parsed32.{Parsed32}
-use Rattle.listing.specs.declared.Parsed32.TheVariants as s
 use Rattle.listing.specs.declared.Found.{Found}
 use Rattle.listing.specs.declared.Found.TheVariants as found
 use Rattle.listing.specs.declared.Token.{Token}
