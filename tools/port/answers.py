@@ -113,6 +113,14 @@ class Function:
             if tuple(rest[:2]) in self.args:
                 rest = self.args[tuple(rest[:2])] + rest[2:]
             return ".".join([var, "well_formed" if rest[0] == "well-formed" else rest[0]] + rest[1:])
+        # a step's old name stands for one place only: more places may lie between today, or the name was respelt as a lemma's
+        for name in (first, re.sub(r"_lem(?=\d*$)", "", first), first.replace("_Is", "_").lower()):
+            there = [self.places[q] for q in self.chain(start) if self.places[q]["step"][0] == name and self.places[q]["step"][1]]
+            if len(there) == 1:
+                more = rest[1:]
+                if more and more[0] in there[0]["renamed"]:
+                    more = [there[0]["renamed"][more[0]]] + more[1:]
+                return ".".join([var, there[0]["step"][1]] + more)
         left.append(f"{var}.{'.'.join(path)}: at {at} no step {rest[0]} but {p['step']}")
         return ".".join([var] + rest)
 
