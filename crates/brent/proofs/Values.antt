@@ -14,7 +14,7 @@ use borrow.Author.Tests.{leb-true, leb-false, ltb-true, ltb-false, le-ltb}
 use lib.Dec.{T, ltb, leb, eqb, eqb→eq, ltb→lt, leb→le}
 use lib.IntN.{ℤ, pos, negsuc}
 use lib.Pow.{pow_pos, pow-add, pow_mono}
-use lib.Ieee.{Float, nan, inf, fin, Format, binary32, up, down, odd, units, round, neg, lt, le, eq, prec, emax, low}
+use lib.Ieee.{Float, nan, inf, fin, Format, binary32, up, down, odd, units, round, neg, lt, le, prec, emax, low}
 use lib.Ieee.{fits}
 use lib.Ieee.Fits.{down_pos, round_is}
 use lib.Ieee.Exact.{HasValue, round_exact}
