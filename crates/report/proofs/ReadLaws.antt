@@ -13,7 +13,7 @@ use Rattle.listing.specs.declared.Name.TheVariants.{First, Cost}
 use Rattle.listing.specs.declared.Settings.{Settings}
 use Rattle.listing.specs.Text.{parts}
 use Rattle.listing.specs.Numbers.{number32, number64, bits}
-use Rattle.listing.specs.Forms.{place_of, all, all_or, accepted, with_number, sets_number, sets_first, sets_parameters, takes}
+use Rattle.listing.specs.Forms.{place_of, all_or, accepted, with_number, sets_number, sets_first, sets_parameters, takes}
 use Rattle.listing.specs.Forms.{line, read_as, read_lines}
 use Rattle.listing.specs.With.{with_seen}
 use Rattle.report.specs.Digits.{decimal, hex}

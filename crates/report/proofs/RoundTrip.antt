@@ -10,7 +10,7 @@ use mathlib.Core.List.{List, [], ◌∷◌}
 use lib.ListN.{length, get_or, replicate}
 use borrow.Author.Tests.{le-ltb}
 use Rattle.listing.specs.declared.Settings.{Settings}
-use Rattle.listing.specs.Forms.{all, read_as, reading}
+use Rattle.listing.specs.Forms.{read_as, reading}
 use Rattle.listing.specs.With.{with_seen}
 use Rattle.report.specs.Digits.{decimal, hex}
 use Rattle.report.specs.Canonical.{text_of, hexes, forms_of, canonical, Expressible}
