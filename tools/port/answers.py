@@ -58,11 +58,76 @@ def continues(now, line):
     return line.split()[0].split("(")[0] == head and not re.match(WORD + r" :( |$)", line)
 
 
+SOURCES = {}
+
+
+def source_of(callee):
+    """What the source says of `crate::module::f`: the names of its clauses, and its `&mut` parameters."""
+    if callee not in SOURCES:
+        out = dict(requires=[], ensures=[], lent=[])
+        crate, name = callee.split("::")[0].replace("-", "_"), callee.split("::")[-1]
+        for folder, _, files in sorted(os.walk(os.path.join("crates", crate, "src"))):
+            for f in files:
+                text = open(os.path.join(folder, f), encoding="utf-8").read()
+                m = re.search(r"\bfn " + re.escape(name) + r"\b[^(]*\((.*?)\)(?: -> [^\n]*)?\n((?:    [^\n]*\n|\n)*?)\{", text, re.S)
+                if m:
+                    out["lent"] = re.findall(r"(\w+): &mut ", m.group(1))
+                    for kind in ("requires", "ensures"):
+                        out[kind] = re.findall(r"(?m)^    " + kind + r" (\w+) \{", m.group(2))
+        SOURCES[callee] = out
+    return SOURCES[callee]
+
+
+def clause(names, rest):
+    """`1.0` of three clauses is the second's name."""
+    if len(names) < 2 or not rest:
+        return rest
+    k = 0
+    while k < len(names) - 1 and k < len(rest) and rest[k] == "1":
+        k += 1
+    if k == len(names) - 1:
+        return [names[k]] + rest[k:]
+    if k < len(rest) and rest[k] == "0":
+        return [names[k]] + rest[k + 1:]
+    return rest
+
+
+def by_clauses(code, names):
+    """The tuple that ends an answer, as a record with the clauses' names."""
+    body = code.rstrip()
+    parts = []
+    while len(parts) < len(names) - 1:
+        if not body.endswith(")"):
+            return code
+        depth, commas = 0, []
+        for i in range(len(body) - 1, -1, -1):
+            if body[i] in ")]}":
+                depth += 1
+            elif body[i] in "([{":
+                depth -= 1
+            elif body[i] == "," and depth == 1:
+                commas.append(i)
+            if depth == 0:
+                break
+        commas = [k for k in commas if body[k + 1:-1].strip()]
+        before = body[:i].rstrip()
+        if len(commas) != 1 or (parts and before) or (not parts and not re.search(r"(=| in|\()$", before)):
+            return code
+        if not parts:
+            head = body[:i]
+        parts.append(body[i + 1:commas[0]].strip())
+        body = body[commas[0] + 1:-1].strip().rstrip(",").rstrip()
+    parts.append(body)
+    return head + "record { " + "; ".join(f"{n} = {p}" for n, p in zip(names, parts)) + " }"
+
+
 class Function:
-    def __init__(self, d):
+    def __init__(self, d, own):
         self.needs = [(a, b) for a, b in d["needs"]]
         self.asked_at = d["asked_at"]
         self.loops = d["loops"]
+        self.own = own
+        self.asked = d.get("asked", {})
         # an argument that is a pattern had a made name: `.args .t3` is `.args .row`
         self.args = {tuple(re.findall(r"\.([\w-]+)", a)): re.findall(r"\.([\w-]+)", b) for a, b in d.get("args", [])}
         self.changed = d["changed"]
@@ -83,11 +148,29 @@ class Function:
         return out
 
     def resolve(self, var, place, path, left):
+        """`resolve_step`, with the names of clauses and of what is lent, where the old path has numbers."""
+        out = self.resolve_step(var, place, path, left).split(".")
+        if len(out) < 3:
+            return ".".join(out)
+        if out[1] == "requires":
+            return ".".join(out[:2] + clause(source_of(self.own)["requires"], out[2:]))
+        here = [self.places[q] for q in self.chain(place) if self.places[q]["step"][1] == out[1] and self.places[q]["callee"]]
+        if here:
+            source = source_of(here[0]["callee"])
+            if out[2] == "ensures" and len(out) > 3:
+                return ".".join(out[:3] + clause(source["ensures"], out[3:]))
+            if out[2] in ("new", "auto") and len(out) > 3 and out[3].isdigit() and int(out[3]) < len(source["lent"]):
+                return ".".join(out[:3] + [source["lent"][int(out[3])]] + out[4:])
+        return ".".join(out)
+
+    def resolve_step(self, var, place, path, left):
         """var.path at the place, as today's names have it; path is what follows the variable."""
         start, at = place, place
         i = 0
         while i < len(path) and path[i] == "before":
             at = self.places[at]["parent"]
+            if at is None and any(x in ("args", "ranges", "requires") for x in path):
+                return self.resolve_step(var, place, [x for x in path if x != "before"], left)
             if at is None:
                 left.append(f"{var}.{'.'.join(path)}: too many before")
                 return var + "." + ".".join(path)
@@ -293,6 +376,9 @@ def write(path, module, fn, crate, left, uses, notes, helpers, answers, invarian
             var = re.search(r"(?m)^" + re.escape(new) + r" (\w+)", code)
             if var and place in fn.places:
                 code = turn_paths(code, var.group(1), place, fn, left)
+            clauses = [fn.asked[n] for n, m in fn.needs if m == new and len(fn.asked.get(n, [])) > 1]
+            if clauses:
+                code = by_clauses(code, clauses[0])
             body.append("\n".join(comment + [f"pub {new} : goal.{new}", code]))
         text = "\n\n".join(body)
         top = [] if invariants else notes
@@ -325,8 +411,9 @@ def main():
         if "tie.close" not in text or key not in names or "needs" not in names[key]:
             print(f"left: {module}: not turned" + ("" if "tie.close" in text else " (a walk by hand)"))
             continue
-        for l in turn_file(path, module, Function(names[key]), crate):
+        for l in turn_file(path, module, Function(names[key], f"{crate}::" + module.replace(".", "::")), crate):
             print(f"left: {module}: {l}")
 
 
-main()
+if __name__ == "__main__":
+    main()
