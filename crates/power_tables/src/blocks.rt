@@ -4,6 +4,7 @@ ghost use Rattle.power_tables.specs.Tables.{line_word, curvature, power_word};
 
 use crate::log2::Interval;
 
+#[tactic(auto, unfolding(crate::specs::Tables::line_word, crate::specs::Tables::height, crate::specs::Tables::heights, crate::specs::Tables::slope, crate::specs::Tables::curvature))]
 pub(crate) fn entry(i: u64) -> Interval
     requires { i < 512 }
     ensures { (result.0 ≡ line_word i) × (result.1 ≡ curvature i) }
@@ -524,6 +525,7 @@ pub(crate) fn entry(i: u64) -> Interval
     }
 }
 
+#[tactic(auto, unfolding(crate::specs::Tables::power_word, crate::specs::Tables::power, crate::specs::Tables::powers))]
 pub(crate) fn power(i: u64) -> u64
     requires { i < 128 }
     ensures { result ≡ power_word i }

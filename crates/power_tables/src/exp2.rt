@@ -2,6 +2,7 @@
 ghost use Rattle.std.specs.Prelude.{◌≡◌, ◌<◌};
 ghost use Rattle.power_tables.specs.Tables.{power_word};
 
+#[tactic(auto, unfolding(crate::specs::Tables::power_word, crate::specs::Tables::power, crate::specs::Tables::powers))]
 pub(crate) fn power(i: u64) -> u64
     requires { i < 128 }
     ensures { result ≡ power_word i }

@@ -4,6 +4,7 @@ ghost use Rattle.std.specs.Prelude.{◌≡◌, ◌<◌};
 ghost use Rattle.power_tables.specs.Tables.{power_word};
 ghost use Rattle.power_tables.specs.Tables as Tables;
 
+#[tactic(auto, unfolding(crate::specs::Tables::height, crate::specs::Tables::heights))]
 pub(crate) fn height(i: u64) -> u64
     requires { i < 512 }
     ensures { result ≡ Tables.height i }
@@ -524,6 +525,7 @@ pub(crate) fn height(i: u64) -> u64
     }
 }
 
+#[tactic(auto, unfolding(crate::specs::Tables::power_word, crate::specs::Tables::power, crate::specs::Tables::powers))]
 pub(crate) fn power(i: u64) -> u64
     requires { i < 128 }
     ensures { result ≡ power_word i }

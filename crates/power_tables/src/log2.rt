@@ -5,6 +5,7 @@ ghost use Rattle.power_tables.specs.Tables.{line_word, curvature};
 #[derive(Clone, Copy)]
 pub struct Interval(pub u64, pub u64);
 
+#[tactic(auto, unfolding(crate::specs::Tables::line_word, crate::specs::Tables::height, crate::specs::Tables::heights, crate::specs::Tables::slope, crate::specs::Tables::curvature))]
 pub(crate) fn entry(i: u64) -> Interval
     requires { i < 512 }
     ensures { (result.0 ≡ line_word i) × (result.1 ≡ curvature i) }
