@@ -7,7 +7,7 @@
 --   upper-end, infinite_end              (2^127)^1 is within two steps, 8^43 is +infinity
 --   zero_end, minus_zero                 2^-128 is 0, and (-0)^-3 is -infinity
 --   lower_is                             by the definition 2^-126 is itself
-use Rattle.std.proofs.Common.{◌≡◌, ℕ, ◌*◌, ◌^◌, ◌<◌, ◌≤◌, true, false, pos, refl, ◌∙◌, not-le_of_lt, lit<, lit≤}
+use Rattle.std.proofs.Common.{◌≡◌, ℕ, ◌*◌, ◌^◌, ◌≤◌, true, false, pos, refl, ◌∙◌, not-le_of_lt, lit<, lit≤}
 use lib.Ieee.{Float, nan, inf, fin, binary32, is_nan, of_bits, to_bits}
 use Rattle.series.specs.Exp.{Within}
 use Rattle.elementary.specs.Exp.{exp_bits, exp_of}

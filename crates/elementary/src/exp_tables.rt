@@ -4,6 +4,7 @@ ghost use Rattle.std.specs.Prelude.{◌≡◌, ◌<◌, slice_index};
 ghost use Rattle.elementary.specs.Exp.{coarse, fine};
 
 // e^(k / 16).
+#[tactic(auto, unfolding(crate::specs::Exp::coarse))]
 pub(crate) fn coarse_at(k: u64) -> u64
     requires { k < 16 }
     ensures { result ≡ slice_index coarse k }
@@ -29,6 +30,7 @@ pub(crate) fn coarse_at(k: u64) -> u64
 }
 
 // e^(j / 512).
+#[tactic(auto, unfolding(crate::specs::Exp::fine))]
 pub(crate) fn fine_at(j: u64) -> u64
     requires { j < 32 }
     ensures { result ≡ slice_index fine j }

@@ -4,6 +4,7 @@ ghost use Rattle.std.specs.Prelude.{◌≡◌, ◌<◌, slice_index};
 ghost use Rattle.elementary.specs.Ln.{first, second};
 
 // The first reciprocal c and its logarithm L, as c + 2^16 L.
+#[tactic(auto, unfolding(crate::specs::Ln::first))]
 pub(crate) fn first_at(i: u64) -> u64
     requires { i < 128 }
     ensures { result ≡ slice_index first i }
@@ -141,6 +142,7 @@ pub(crate) fn first_at(i: u64) -> u64
 }
 
 // The second reciprocal c and its logarithm L, as c + 2^18 L.
+#[tactic(auto, unfolding(crate::specs::Ln::second))]
 pub(crate) fn second_at(i: u64) -> u64
     requires { i < 128 }
     ensures { result ≡ slice_index second i }

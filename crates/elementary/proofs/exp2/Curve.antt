@@ -1,5 +1,5 @@
 -- The law of 2^(r / 2^39) for r below 2^32: small r is at most 1 too high and 10 too low, in units of 2^-32.
-use Rattle.std.proofs.Common.{◌≡◌, ℕ, ◌+◌, ◌-◌, ◌*◌, ◌/◌, ◌^◌, ◌<◌, ◌≤◌, mul-le-mul_right, mul-le-mul, mul-le-mul_left, mul-pos, arith, lit<, lit≤}
+use Rattle.std.proofs.Common.{◌≡◌, ℕ, ◌+◌, ◌*◌, ◌/◌, ◌^◌, ◌<◌, ◌≤◌, mul-le-mul_right, mul-le-mul, mul-le-mul_left, mul-pos, arith, lit<, lit≤}
 use Rattle.series.specs.Exp.{ExpGe, ExpLe, ln2}
 use Rattle.series.proofs.Cuts.{le_weaken, ge_weaken, le_below, ge_above}
 use Rattle.series.proofs.Horner.{tail_ge_one, tail-ge, tail-two, tail-le, ge-tail, le-tail}

@@ -11,10 +11,9 @@ use lib.Ieee.{Float, binary32, of_bits}
 use lib.Ieee.Exact.{HasValue}
 use Rattle.series.specs.Exp.{Step, Within}
 use Rattle.series.proofs.Cuts.{lt_or_ge}
-use Rattle.series.proofs.Value.{units, value_pos, packed-units}
+use Rattle.series.proofs.Value.{value_pos, packed-units}
 use Rattle.series.proofs.Two.{TwoLe, TwoGe, two_le_mono, two_ge_mono, two_le_weaken, two_ge_weaken, two_le_mul}
 use Rattle.series.proofs.Two.{two_ge_mul, two_ge_quot, two_ge_one, two_le_up, two_ge_up, two_le_whole, two_ge_whole}
-use Rattle.series.proofs.Two as Two
 use Rattle.elementary.specs.Power.{exp2_of, exp2_bits}
 use Rattle.elementary.proofs.exp2.Digits.{digits, digits_low, digits-high, digits-ge, digits_le, digits-one}
 use Rattle.elementary.proofs.exp2.Digits.{lesser, lesser-low, lesser-high, lesser-ge, lesser-le, width}

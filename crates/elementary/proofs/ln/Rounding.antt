@@ -9,7 +9,7 @@
 --   rounded-lt, size-lt, sign_mod   patterns and sizes that the code's words hold
 use Rattle.std.proofs.Common.{◌≡◌, ℕ, suc, ◌+◌, ◌-◌, ◌*◌, ◌/◌, ◌%◌, ◌^◌, ◌<◌, ◌≤◌, Bool, true, false, cond, T, ltb, ◌⊎◌, sym, refl, ap, ◌∙◌, subst, inl, inr, zero-le, le_trans, le_of_eq, lt_of_lt_of_le, add-zero, mul-le-mul_right, eq-zero-or-pos, mul-lt-mul_of_pos_right, add-sub_cancel, arith, lit<, lit≤, pow_pos, pow-add, le-ltb, lt-ltb, ne_eqb}
 use lib.Count.{count_leading_zeros, leading_top}
-use lib.Ieee.{Float, fin, binary32, of_bits}
+use lib.Ieee.{Float, binary32, of_bits}
 use lib.Ieee.Exact.{HasValue}
 use lib.Ieee.Positive.{num, den, value→cross}
 use Rattle.series.specs.Exp.{ExpGe, ExpLe, Step}

@@ -1,6 +1,5 @@
 -- A finer logarithm, for |y| above 128: of a significand of 36 digits, in units of 2^-35, at most 8 below and 8 above.
 use Rattle.std.proofs.Common.{◌≡◌, ℕ, ◌+◌, ◌-◌, ◌*◌, ◌/◌, ◌%◌, ◌^◌, ◌<◌, ◌≤◌, ◌⊎◌, refl, ap, ◌∙◌, inl, inr, mul-le-mul_right, mul-le-mul, mul-pos, arith, lit<}
-use Rattle.series.specs.Exp.{sum}
 use Rattle.series.proofs.Cuts.{lt_or_ge}
 use Rattle.series.proofs.Two.{TwoLe, TwoGe, two_le_mono, two_ge_mono, two_le_weaken, two_ge_weaken, two_le_mul}
 use Rattle.series.proofs.Two.{two_ge_mul, two_le_up, two_ge_up, two_le_down, two_ge_down}

@@ -1,5 +1,5 @@
 -- The product |y log2 x| in units of 2^-39, for |y| ≤ 128.
-use Rattle.std.proofs.Common.{◌≡◌, ℕ, zero, suc, ◌+◌, ◌-◌, ◌*◌, ◌/◌, ◌%◌, ◌^◌, ◌<◌, ◌≤◌, ◌⊎◌, sym, refl, ap, subst, inl, inr, le_trans, le_of_eq, lt_of_lt_of_le, mul-le-mul_right, mul-le-mul, mul-le-mul_left, pow-suc, le_of_mul-le-mul_right, arith, lit≤, pow_pos, pow_mono}
+use Rattle.std.proofs.Common.{◌≡◌, ℕ, zero, suc, ◌+◌, ◌*◌, ◌/◌, ◌%◌, ◌^◌, ◌<◌, ◌≤◌, ◌⊎◌, sym, refl, ap, subst, inl, inr, le_trans, le_of_eq, lt_of_lt_of_le, mul-le-mul_right, mul-le-mul, mul-le-mul_left, pow-suc, le_of_mul-le-mul_right, arith, lit≤, pow_pos, pow_mono}
 use native.Mathlib.Nat.{div-eq_of_lt}
 use Rattle.series.proofs.Cuts.{lt_or_ge}
 use Rattle.series.proofs.Value.{units}

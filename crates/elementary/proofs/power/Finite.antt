@@ -11,7 +11,7 @@ use lib.Ieee.Bits.{of_bits-to_bits, to_bits-lt}
 use lib.Ieee.Exact.{HasValue}
 use lib.Ieee.Positive.{num, den, den_pos}
 use Rattle.series.proofs.Cuts.{lt_or_ge}
-use Rattle.series.proofs.Value.{units, value_pos}
+use Rattle.series.proofs.Value.{value_pos}
 use Rattle.series.proofs.Two.{root, one-pow}
 use Rattle.elementary.specs.Power.{normalized, log2_of, arg_of, exp2_bits, near_bits, squared, large_arg, large_bits}
 use Rattle.elementary.specs.Power.{pow_bits}

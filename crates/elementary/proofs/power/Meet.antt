@@ -1,6 +1,6 @@
 -- From bounds of log2 x to bounds of x^y: x = a / b, |y| = n / m. With x 2^h at least 2^(l / r) and a product of
 -- exponents in order, what is below 2^(u / q) / 2^g is below x^y; the exponents are only compared, never taken.
-use Rattle.std.proofs.Common.{◌≡◌, ℕ, ◌+◌, ◌-◌, ◌*◌, ◌^◌, ◌<◌, ◌≤◌, subst, le_trans, le_of_eq, mul-le-mul_right, mul_comm, mul-le-mul, arith, pow_pos, pow_mono, pow-add}
+use Rattle.std.proofs.Common.{◌≡◌, ℕ, ◌+◌, ◌*◌, ◌^◌, ◌<◌, ◌≤◌, subst, le_trans, le_of_eq, mul-le-mul_right, mul_comm, mul-le-mul, arith, pow_pos, pow_mono, pow-add}
 use native.Mathlib.Nat.{le_of_mul-le-mul_left}
 use native.Mathlib.Nat.{pow-le-pow_left}
 use Rattle.series.proofs.Cuts.{mul-pow}

@@ -1,0 +1,14 @@
+use Rattle.std.proofs.Common.{refl, arith}
+use Rattle.elementary.specs.Filled.{filled}
+use Rattle.elementary.proofs.Filled.{fill_turn, fill_end}
+use Rattle.elementary.proofs.blocks.powers.Goals as goal
+
+pub loop-i-init : goal.loop-i-init
+unfolding filled
+loop-i-init c = (omega arith, refl)
+
+pub loop-i-preserved : goal.loop-i-preserved
+loop-i-preserved c = (omega arith, fill_turn _ _ _ _ _ c.loop-i.invariant.1 c.block_power_at.ensures)
+
+pub returns : goal.returns
+returns c = fill_end _ _ _ _ _ c.loop-i.invariant.1 (omega arith) (omega arith)

@@ -1,0 +1,47 @@
+use Rattle.std.proofs.Common.{◌≡◌, ℕ, ◌%◌, ◌^◌, ◌≤◌, sym, refl, ap, ◌∙◌, subst, lit≤}
+use lib.Ieee.{nan, binary32, div, of_bits}
+use Rattle.elementary.proofs.Common.{no_nan_bits}
+use Rattle.elementary.proofs.powf.Cases.{at_zero, at_one, at-below, at-num, num-mod}
+use Rattle.elementary.proofs.powf.special.Goals as goal
+
+zero_by_zero : div binary32 (of_bits binary32 0) (of_bits binary32 0) ≡ nan
+unfolding div of_bits
+zero_by_zero = refl
+
+pub float_from_bits-result : goal.float_from_bits-result
+float_from_bits-result c = no_nan_bits 0x3F800000 (lit≤ tt)
+
+pub returns-then-c-eq0 : goal.returns-then-c-eq0
+returns-then-c-eq0 c = sym (at_zero c.args.b c.args.c c.if-c-eq0.true)
+
+pub float_from_bits-result-then-b-eq1065353216 : goal.float_from_bits-result-then-b-eq1065353216
+float_from_bits-result-then-b-eq1065353216 c = no_nan_bits 0x3F800000 (lit≤ tt)
+
+pub returns-then-b-eq1065353216 : goal.returns-then-b-eq1065353216
+returns-then-b-eq1065353216 c = sym (at_one c.args.b c.args.c c.if-b-eq1065353216.true)
+
+pub returns-then-b-gt2147483648 : goal.returns-then-b-gt2147483648
+returns-then-b-gt2147483648 c =
+    zero_by_zero ∙ sym (at-below c.args.b c.args.c c.if-c-eq0.false c.if-b-eq1065353216.false
+    c.if-b-gt2147483648.true)
+
+pub special_bits-requires : goal.special_bits-requires
+special_bits-requires c =
+    let p = c.requires in (
+      c.if-b-gt2147483648.false,
+      p.x_number,
+      p.y_number,
+      λ l h. p.infinite l h c.if-b-eq1065353216.false
+          c.if-c-eq0.false,
+    )
+
+pub float_from_bits-result-2 : goal.float_from_bits-result-2
+float_from_bits-result-2 c =
+    no_nan_bits c.special_bits.result (subst (λ (i : ℕ). i % 2 ^ 31 ≤ 0x7F800000)
+    (sym c.special_bits.ensures) (num-mod c.args.b c.args.c c.if-b-gt2147483648.false))
+
+pub returns : goal.returns
+returns c =
+    ap (of_bits binary32) c.special_bits.ensures
+    ∙ sym (at-num c.args.b c.args.c c.if-c-eq0.false c.if-b-eq1065353216.false
+    c.if-b-gt2147483648.false)
