@@ -7,19 +7,16 @@
 --   lists-told        refusal 6 is about no list exactly where the lists pass
 use mathlib.Core.Path.{◌≡◌, refl, sym, ◌∙◌}
 use mathlib.Core.Bool.{Bool, true, false, not, cond, ◌||◌, ◌&&◌}
-use mathlib.Core.List.{List, [], ◌∷◌}
+use mathlib.Core.List.{List}
 use Prim.Native.Nat.{ℕ, suc, ◌≤◌, ◌<◌}
 use native.Mathlib.Omega.{arith}
 use borrow.Author.Tests.{eqb-false, ltb-false, ne_eqb}
-use types.Run.{OneOf}
-use denote.Enum.Declared.{tag_of}
 use lib.Dec.{eqb, leb, ltb}
 use lib.ListN.{length}
 use lib.Ieee.{Float}
 use Rattle.cards.specs.declared.SimulatorConfig.{SimulatorConfig}
 use Rattle.cards.specs.Config.{config_ok}
 use Rattle.days.specs.Due.{due_days}
-use Rattle.entry.specs.contracts.Check as check-type
 use Rattle.entry.specs.declared.Refusal.{Refusal}
 use Rattle.entry.specs.declared.Refusal.TheVariants as refusal
 use Rattle.entry.specs.declared.Check.{Check}
@@ -47,10 +44,6 @@ infixr 20 ◌then◌
 passed_not : (r : Refusal) → check.Passed ≡ check.Failed r → ⊥
 passed_not r e = not-one cc
 
-not_passed : (c : Check) → OneOf (1 ∷ []) (tag_of check-type.the_type c) → c ≡ check.Passed → ⊥
-not_passed check.Passed t e = omega (arith, t)
-not_passed (check.Failed r) t e = passed_not r (sym e)
-
 pub passes : (b : Bool) (r : Refusal) (next : Check) → fail_if b r next ≡ check.Passed
     → (b ≡ false) × (next ≡ check.Passed)
 passes true r next e = absurd (not-one cc)
@@ -77,11 +70,11 @@ module _ (ok lists : Bool) (w : List Float) (g : SimulatorConfig) (n : ℕ) wher
       go (failing r p) = absurd (passed_not r (sym e ∙ p check.Passed))
 
   pub settings_fail : {c : Check} → c ≡ check_settings ok lists w g n check.Passed
-      → OneOf (1 ∷ []) (tag_of check-type.the_type c) → (next : Check) → c ≡ check_settings ok lists w g n next
+      → (c ≡ check.Passed → ⊥) → (next : Check) → c ≡ check_settings ok lists w g n next
   settings_fail {c} e t next = go settings_on
     where
       go : PassesOn (check_settings ok lists w g n) → c ≡ check_settings ok lists w g n next
-      go (passing p) = absurd (not_passed c t (e ∙ p check.Passed))
+      go (passing p) = absurd (t (e ∙ p check.Passed))
       go (failing r p) = e ∙ p check.Passed ∙ sym (p next)
 
   -- what the tests ask, one after the other, and that those which follow pass

@@ -8,19 +8,15 @@
 --     and of all held after it
 --     same_slot       two tables that hold the same give the same slot but for its place, unless the shorter one is
 --     full
---     range_both, range_fails, slot_full, slot_new, slot_held, slot_anew, not-found, not_entered      what the code
+--     range_both, range_fails, slot_full, slot_new, slot_held, slot_anew, not_found, not_entered      what the code
 --     finds, test by test
 --     scheduled_used  the fresh interval never marks a free place
 use mathlib.Core.Path.{◌≡◌, refl, sym, ap, ◌∙◌}
 use mathlib.Core.Bool.{Bool, true, false, cond}
-use mathlib.Core.List.{[], ◌∷◌}
-use mathlib.Core.Logic.{◌↔◌, ⊎_elim}
+use mathlib.Core.Logic.{◌↔◌}
 use mathlib.Core.Option.{none}
 use Prim.Native.Nat.{ℕ, ◌<◌}
 use native.Mathlib.Decide.{ℕ_discrete}
-use native.Mathlib.Omega.{arith}
-use types.Run.{OneOf}
-use denote.Enum.Declared.{tag_of}
 use lib.Ieee.{Float, lt, of_bits, of_fields}
 use Rattle.float32.specs.Float32.{max, clamp}
 use Rattle.float32.specs.Ops.{◌+ᶠ◌, ◌-ᶠ◌}
@@ -37,8 +33,6 @@ use Rattle.intervals.specs.Table.{Table, places, is_free, free_at, value_at, loo
 use Rattle.intervals.specs.Bucket.{stability_bucket, retention_bucket}
 use Rattle.intervals.specs.Schedule.{margin, is_below, is_no_less, certifies_range}
 use Rattle.intervals.specs.Schedule.{certifies, pick_slot, slot_by, slot_in, slot_of, is_full, interval_of, entered}
-use Rattle.intervals.specs.contracts.Entry as entry-type
-use Rattle.intervals.specs.contracts.Slot as slot-type
 use Rattle.intervals.proofs.Probe.{true_false, lookup_at_is}
 use Rattle.intervals.proofs.Change.{enter-places, value_same, free_other, value_other}
 use Rattle.intervals.proofs.Used.{full_iff}
@@ -169,10 +163,10 @@ module _ (t t' : Table) (w : SameEntries t t') (s r : ℕ) (certified : Float �
   same_slot = same_by (lookup_in t s r) (lookup_in t' s r) refl refl (same-lookup t t' w s r)
 
 -- a slot that is not to be entered leaves the table
-pub not_entered : (t : Table) (x : Slot) → OneOf (0 ∷ 2 ∷ []) (tag_of slot-type.the_type x) → t ≡ entered t x
-not_entered t (slot.Keep v) a = refl
-not_entered t (slot.Enter p s r v) a = absurd (⊎_elim (λ e. omega arith) (λ e. omega arith) a)
-not_entered t slot.Full a = refl
+pub not_entered : (t : Table) (x : Slot) → ((p s r : ℕ) (v : Float) → x ≡ slot.Enter p s r v → ⊥) → t ≡ entered t x
+not_entered t (slot.Keep v) h = refl
+not_entered t (slot.Enter p s r v) h = absurd (h p s r v refl)
+not_entered t slot.Full h = refl
 
 -- ---- what the code finds, one test after the other
 module _ (curve : Float → Float) (retention interval lower : Float) (a : Bool)
@@ -218,10 +212,10 @@ module _ (curves : Curves) (stability retention most : Float) (t : Table) (s r :
     slot_anew y ef = rw (← es, ← er, ef) (sym (anew_is t s r _ _ (test y) e))
 
 -- neither found nor free
-pub not_found : (f : Entry) → OneOf (1 ∷ 2 ∷ []) (tag_of entry-type.the_type f)
-    → OneOf (0 ∷ 2 ∷ []) (tag_of entry-type.the_type f) → f ≡ entry.Full
-not_found (entry.Found p v) a b = absurd (⊎_elim (λ e. omega arith) (λ e. omega arith) a)
-not_found (entry.Free p) a b = absurd (⊎_elim (λ e. omega arith) (λ e. omega arith) b)
+pub not_found : (f : Entry) → ((p : ℕ) (v : Float) → f ≡ entry.Found p v → ⊥) → ((p : ℕ) → f ≡ entry.Free p → ⊥)
+    → f ≡ entry.Full
+not_found (entry.Found p v) a b = absurd (a p v refl)
+not_found (entry.Free p) a b = absurd (b p refl)
 not_found entry.Full a b = refl
 
 one_used : is_free 1ᶠ ≡ false

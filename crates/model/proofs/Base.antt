@@ -2,7 +2,7 @@
 --     exact f t s             the exact value
 --     base_near f t s         the bound
 --     base_fits, base-clear, base-least, base_most        a float from 1/2 to 2^126
-use Rattle.std.proofs.Common.{◌≡◌, ℕ, ◌+◌, ◌-◌, ◌*◌, ◌^◌, ◌<◌, ◌≤◌, Bool, true, false, T, sym, refl, le_trans, mul-le-mul_right, mul-le-mul, mul-le-mul_left, mul-pos, le_of_mul-le-mul_right, arith, lit<, lit≤, pow_pos}
+use Rattle.std.proofs.Common.{◌≡◌, ℕ, ◌+◌, ◌*◌, ◌^◌, ◌<◌, ◌≤◌, Bool, true, false, T, sym, refl, le_trans, mul-le-mul_right, mul-le-mul, mul-le-mul_left, mul-pos, le_of_mul-le-mul_right, arith, lit<, lit≤, pow_pos}
 use lib.Ieee.{Float, binary32, of_bits, of_fields, fits}
 use lib.Ieee.Fits.{add-fits}
 use lib.Ieee.Positive.{num, den, den_pos}

@@ -5,7 +5,7 @@
 --     sum, sum_pos            the exact sum of the weights
 --     ratio, exact_inner       1 / 99998 and 0.99998
 --     squeezed-clear, squeezed_near       the result is a number from 0; the bound, from that of the powers
-use Rattle.std.proofs.Common.{◌≡◌, ℕ, zero, suc, ◌+◌, ◌-◌, ◌*◌, ◌^◌, ◌<◌, ◌≤◌, Bool, true, false, sym, refl, subst, le_trans, le_of_eq, add-zero, mul-le-mul_right, mul-le-mul, mul-le-mul_left, mul-pos, one-mul, zero-add, zero-mul, mul-one, le_of_mul-le-mul_right, arith, lit<, lit≤}
+use Rattle.std.proofs.Common.{◌≡◌, ℕ, zero, suc, ◌+◌, ◌*◌, ◌^◌, ◌<◌, ◌≤◌, Bool, true, false, sym, refl, subst, le_trans, le_of_eq, add-zero, mul-le-mul_right, mul-le-mul, mul-le-mul_left, mul-pos, one-mul, zero-add, zero-mul, mul-one, le_of_mul-le-mul_right, arith, lit<, lit≤}
 use lib.Ieee.{Float, of_bits, of_fields, round, sub}
 use lib.Ieee.Positive.{num, den, den_pos}
 use Rattle.float32.specs.Ops.{◌+ᶠ◌, ◌*ᶠ◌, ◌/ᶠ◌}

@@ -4,7 +4,7 @@
 -- The roundings: three in the base of a power, five for the two steps of powf, one in each product with a weight, in
 -- their sum, in the sum of the weights, in the quotient and in the last fused operation, and one for the two numbers of
 -- that: 14, each of at most 2^-24.
-use Rattle.std.proofs.Common.{◌≡◌, ℕ, ◌+◌, ◌-◌, ◌*◌, ◌^◌, ◌<◌, ◌≤◌, Bool, true, false, T, sym, refl, subst, le_trans, mul-le-mul_right, mul-le-mul_left, mul-pos, le_of_mul-le-mul_right, arith, lit<, lit≤}
+use Rattle.std.proofs.Common.{◌≡◌, ℕ, ◌+◌, ◌*◌, ◌^◌, ◌<◌, ◌≤◌, Bool, true, false, T, sym, refl, subst, le_trans, mul-le-mul_right, mul-le-mul_left, mul-pos, le_of_mul-le-mul_right, arith, lit<, lit≤}
 use lib.Ieee.{Float, binary32, fits}
 use lib.Ieee.Positive.{num, den, den_pos}
 use Rattle.elementary.specs.Pow.{pow_of}

@@ -1,0 +1,17 @@
+-- The invariant of its loop: what is left to add, to what is memorized so far, gives the whole. The measure is the days
+-- left.
+use Prim.Native.Nat.{◌-◌}
+use lib.ListN.{length}
+use mathlib.Core.Path.{◌≡◌}
+use Rattle.model.specs.Model.{retention}
+use Rattle.days.specs.Sums.{add_forgetting_curve_range}
+use Rattle.days.proofs.memorized.add_days.Given as goal
+
+abbrev pub invariant-loop-d : goal.invariant-loop-d
+invariant-loop-d l =
+    (add_forgetting_curve_range (λ t. retention l.curve t) l.memorized (l.to - l.d) l.d l.last
+    ≡ add_forgetting_curve_range (λ t. retention l.curve t) l.initial.memorized (l.to - l.from) l.from l.last)
+    × (length l.memorized ≡ length l.initial.memorized)
+
+abbrev pub decreases-loop-d : goal.decreases-loop-d
+decreases-loop-d l = l.to - l.d

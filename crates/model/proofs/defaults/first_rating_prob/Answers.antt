@@ -1,0 +1,8 @@
+use Rattle.std.proofs.Common.{refl}
+use lib.Ieee.{round, of_bits, of_fields}
+use Rattle.model.specs.Defaults.{over, first_rating_prob}
+use Rattle.model.proofs.defaults.first_rating_prob.Goals as goal
+
+pub returns : goal.returns
+unfolding first_rating_prob over round of_bits of_fields
+returns c = refl
