@@ -308,6 +308,25 @@ def join_uses(code):
     return out
 
 
+def unbound(text):
+    """A variable that a λ binds again is that one: `(λ l.i. f l.i)` is `(λ i. f i)`."""
+    at = 0
+    while True:
+        at = text.find("(λ l.", at)
+        if at < 0:
+            return text
+        depth, end = 0, at
+        while end < len(text):
+            depth += {"(": 1, ")": -1}.get(text[end], 0)
+            end += 1
+            if depth == 0:
+                break
+        name = re.match(r"\(λ l\.([\w'₀-]+)", text[at:]).group(1)
+        inner = re.sub(r"\bl\." + re.escape(name) + r"(?![\w'₀-])", name, text[at:end])
+        text = text[:at] + inner + text[end:]
+        at += 1
+
+
 def prune(uses, body):
     have = tokens_of(body)
     flat = body
@@ -353,6 +372,7 @@ def write(path, module, fn, crate, left, uses, notes, helpers, answers, invarian
             rhs = m.group(3)
             table = {a: "l." + w for a, w in zip(args, wanted) if a != "_"}
             rhs = re.sub(r"(?<![\w.'₀◌-])[A-Za-z_][\w'₀-]*", lambda q: table.get(q.group(0), q.group(0)), rhs)
+            rhs = unbound(rhs)
             body.append("\n".join(comment + [f"abbrev pub {kind}-{new} : goal.{kind}-{new}", f"{m.group(1)}{kind}-{new} l ={rhs}"]))
         text = "\n\n".join(body)
         out = "\n".join(notes + prune(uses, text) + [f"use Rattle.{crate}.proofs.{module}.Given as goal"]) + "\n\n" + text + "\n"
