@@ -9,14 +9,11 @@ use mathlib.Core.List.{[], ◌∷◌}
 use mathlib.Core.Option.{none, some}
 use Prim.Native.Nat.{ℕ, suc, ◌+◌, ◌-◌, ◌≤◌, ◌<◌}
 use native.Mathlib.Omega.{arith}
-use types.Run.{OneOf}
-use denote.Enum.Declared.{tag_of}
 use lib.ListN.{length}
 use Rattle.turns.specs.Turns.{Turn}
 use Rattle.turns.specs.Run.{Next, takes, stops, RunState, run, stop_of}
 use Rattle.turns.proofs.Loop.{run_one_more, run_enough, stop_takes, stop_stops}
 use Rattle.events.specs.Drawn.{Drawn}
-use Rattle.simulation.specs.contracts.Outcome as outcome-type
 use Rattle.simulation.specs.declared.Outcome.{Outcome}
 use Rattle.simulation.specs.declared.Outcome.TheVariants as outcome
 use Rattle.simulation.specs.declared.Stop.{Stop}
@@ -35,10 +32,6 @@ state_is s l n r e en er = rw (e, en, er)
 -- a stop is no turn taken
 stop_took : (x : Stop) (n r : ℕ) → outcome.Stopped x ≡ outcome.Took n r → ⊥
 stop_took x n r e = not-one cc
-
-took_tag : (o : Outcome) (n r : ℕ) → OneOf (1 ∷ []) (tag_of outcome-type.the_type o) → o ≡ outcome.Took n r → ⊥
-took_tag (outcome.Took a b) n r t e = omega (arith, t)
-took_tag (outcome.Stopped x) n r t e = stop_took x n r e
 
 took_both : (a b n r : ℕ) → outcome.Took n r ≡ outcome.Took a b → (n ≡ a) × (r ≡ b)
 took_both a b n r e = (cc, cc)
@@ -87,13 +80,13 @@ module _ {C : Type 0} (R : Rules C) (s₀ : State C) (bound : ℕ) where
                   ∙ sym (ap (λ (z : ℕ). stop_of (next R) z st) one_left) ∙ i.left;
             }
 
-    pub going_stops : OneOf (1 ∷ []) (tag_of outcome-type.the_type o) → (z : Stop) → z ≡ stop_in o
+    pub going_stops : ((n r : ℕ) → o ≡ outcome.Took n r → ⊥) → (z : Stop) → z ≡ stop_in o
         → RunTurns R s₀ bound (record { stop = z; turns = k; queued = st.queue.len; draws = st.draws }) l'
     going_stops t z ez = go (next R st) refl p
       where
         go : (x : Next (Turn Drawn) (State C) Stop) → next R st ≡ x → TurnContract x st o l'
             → RunTurns R s₀ bound (record { stop = z; turns = k; queued = st.queue.len; draws = st.draws }) l'
-        go (takes u s') q h = absurd (took_tag o s'.queue.len s'.draws t h.outcome)
+        go (takes u s') q h = absurd (t s'.queue.len s'.draws h.outcome)
         go (stops x) q h =
             let q' : next R (after k).state ≡ stops x = rw (← i.at) q in
             let one : after bound ≡ after k = run_enough (next R) k bound [] s₀ x i.within q' in

@@ -7,12 +7,9 @@
 --   retired_is, put_off_is, event_is   a turn of each choice
 use mathlib.Core.Path.{◌≡◌, refl, sym, ap, ◌∙◌}
 use mathlib.Core.Bool.{Bool, true, false, true≢false, false≢true}
-use mathlib.Core.List.{List, [], ◌∷◌}
-use mathlib.Core.Logic.{◌≢◌, inl, inr}
-use native.Mathlib.Omega.{arith}
+use mathlib.Core.List.{List}
+use mathlib.Core.Logic.{◌≢◌}
 use borrow.Author.Tests.{eq-eqb, ne_eqb}
-use types.Run.{OneOf}
-use denote.Enum.Declared.{tag_of}
 use Prim.Native.Nat.{ℕ}
 use lib.Ieee.{Float}
 use Rattle.turns.specs.Turns.{put_off}
@@ -23,11 +20,10 @@ use Rattle.cards.specs.declared.Choice.TheVariants as choice
 use Rattle.cards.specs.Day.{day_of, is_new}
 use Rattle.cards.specs.Cards.{card_at}
 use Rattle.cards.specs.Choices.{retires, blocked, choose, choice_of}
-use Rattle.cards.specs.contracts.Choice as choice-type
 use Rattle.days.specs.Counts.{learned_at, reviewed_at}
 use Rattle.days.specs.Sums.{cost_at, add_cost}
 use Rattle.days.specs.Due.{add_due, none_due}
-use Rattle.events.specs.contracts.Event as event-type
+use Rattle.events.specs.declared.Memory.{Memory}
 use Rattle.events.specs.declared.Memory.{Memory}
 use Rattle.events.specs.declared.Event.{Event}
 use Rattle.events.specs.declared.Event.TheVariants as event
@@ -48,8 +44,8 @@ use Rattle.simulation.specs.Steps.{TurnContract, PutOff, PutOffStep, RetireStep,
 use Rattle.simulation.proofs.Lent.{same_lists}
 
 -- neither variant but the second
-pub not_happened : (e : Event) → OneOf (1 ∷ []) (tag_of event-type.the_type e) → e ≡ event.ChanceOutOfRange
-not_happened (event.Happened x) a = absurd (omega (arith, a))
+pub not_happened : (e : Event) → ((x : Memory) → e ≡ event.Happened x → ⊥) → e ≡ event.ChanceOutOfRange
+not_happened (event.Happened x) a = absurd (a x refl)
 not_happened event.ChanceOutOfRange a = refl
 
 pub put_off-refused : (span c : ℕ) (k : Card) (d len draws : ℕ) (cards : List (List Float)) (rows : List (List ℕ))
@@ -200,21 +196,19 @@ module _ (R : Rules Float) (l : Lent Float) (len draws : ℕ) where
             rw (sym h.1.queue_is) (record { outcome = h.0; lists = rw (h.1.cards_are, h.1.due_are) })
 
     -- what is neither retired nor put off is learned or reviewed, by whether it is new
-    event_by : (a b n : Bool) → OneOf (2 ∷ 3 ∷ []) (tag_of choice-type.the_type (choose a b n))
+    event_by : (a b n : Bool) → (choose a b n ≡ choice.Retire → ⊥) → (choose a b n ≡ choice.PutOff → ⊥)
         → act R st c k d (choose a b n) ≡ event_on R st c k n d
-    event_by true b n (inl e) = absurd (omega (arith, e))
-    event_by true b n (inr e) = absurd (omega (arith, e))
-    event_by false true n (inl e) = absurd (omega (arith, e))
-    event_by false true n (inr e) = absurd (omega (arith, e))
-    event_by false false true t = refl
-    event_by false false false t = refl
+    event_by true b n t u = absurd (t refl)
+    event_by false true n t u = absurd (u refl)
+    event_by false false true t u = refl
+    event_by false false false t u = refl
 
     pub event_is : (new : Bool) (o : Outcome) (l' : Lent Float) → new ≡ is_new k.last_date
-        → OneOf (2 ∷ 3 ∷ []) (tag_of choice-type.the_type ch)
+        → (ch ≡ choice.Retire → ⊥) → (ch ≡ choice.PutOff → ⊥)
         → TurnContract (event_on R st c k new d) st o l' → TurnContract (next R st) st o l'
     unfolding choice_of
-    event_is new o l' en t p =
+    event_is new o l' en t u p =
         let n = is_new k.last_date in
         let a = retires R.span R.lapse_limit k in
         let b = blocked R.limits d n m r x in
-        rw (next_is ∙ ap (act R st c k d) eh ∙ event_by a b n (rw eh at t)) (rw en at p)
+        rw (next_is ∙ ap (act R st c k d) eh ∙ event_by a b n (rw eh at t) (rw eh at u)) (rw en at p)
