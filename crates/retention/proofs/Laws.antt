@@ -14,7 +14,6 @@ use Rattle.entry.specs.declared.Check.TheVariants as check
 use Rattle.simulation.specs.State.{Lent}
 use Rattle.entry.specs.Entry.{Inputs}
 use Rattle.simulation.specs.Frame.{SameLengths}
-use Rattle.entry.specs.Refusals as Refusals
 use Rattle.brent.specs.Search.{Answer, found, not_found, refused, Searched, ended, search, Each, NotBelow}
 use Rattle.brent.specs.Search.{WasTried, FoundWithin, OneMore, OnlySpent, NeverTen, RefusedBy}
 use Rattle.brent.specs.Step.{within}

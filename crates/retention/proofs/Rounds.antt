@@ -3,13 +3,9 @@
 --   trying_start, trying_on            as the loop begins, and after a trial
 --   trying_ends, trying_stops, trying_spent   where it returns
 use mathlib.Core.Path.{◌≡◌, refl, sym, ap, ◌∙◌}
-use mathlib.Core.List.{[], ◌∷◌}
 use Prim.Native.Nat.{ℕ, suc, ◌+◌, ◌-◌, ◌≤◌, ◌<◌}
 use native.Mathlib.Omega.{arith}
-use types.Run.{OneOf}
-use denote.Enum.Declared.{tag_of}
 use lib.Ieee.{Float}
-use Rattle.turns.proofs.Logic.{not-one}
 use Rattle.entry.specs.declared.Refusal.{Refusal}
 use Rattle.simulation.specs.State.{Lent}
 use Rattle.entry.specs.Entry.{Inputs}
@@ -19,18 +15,12 @@ use Rattle.brent.specs.declared.Next.TheVariants as next
 use Rattle.brent.specs.Search.{Sampled, gives, refuses, Searched, ended, noted, tried, search}
 use Rattle.brent.specs.Stepping.{started, next_retention, take_mean, told, answer, asked, closing, driven}
 use Rattle.brent.proofs.Driven.{driven_is}
-use Rattle.brent.specs.contracts.Next as next-type
-use Rattle.retention.specs.contracts.Trial as trial-type
 use Rattle.retention.specs.declared.Trial.{Trial}
 use Rattle.retention.specs.declared.Trial.TheVariants as trial
 use Rattle.retention.specs.declared.SearchAnswer.{SearchAnswer}
 use Rattle.retention.specs.Trials.{sample, TrialContract}
 use Rattle.retention.specs.Retention.{answer_of, refused_by, IsSearched}
-use Rattle.retention.proofs.trials.Runs.{mean_tag, refused-mean, same-mean}
-
-asks_tag : (x : Next) (u : Float) → OneOf (1 ∷ []) (tag_of next-type.the_type x) → x ≡ next.Retention u → ⊥
-asks_tag (next.Retention v) u t e = omega (arith, t)
-asks_tag next.Nothing u t e = not-one cc
+use Rattle.retention.proofs.trials.Runs.{refused-mean, same-mean}
 
 -- two searches with the same answer and the same lists
 pub record SameEnd (x y : Searched (Lent Float) Refusal) : Type 0 where
@@ -103,14 +93,14 @@ module _ (i : Inputs) (rounds : ℕ) (l₀ : Lent Float) where
     unfolding driven
     split = rw a (rw one_left at g.left)
 
-    pub trying_ends : OneOf (1 ∷ []) (tag_of next-type.the_type x) → {r : SearchAnswer}
+    pub trying_ends : ((u : Float) → x ≡ next.Retention u → ⊥) → {r : SearchAnswer}
         → r ≡ answer_of (told t.state (answer t)) → IsSearched whole r l
     unfolding asked
     trying_ends tag {r} e = go x tag split
       where
-        go : (y : Next) → OneOf (1 ∷ []) (tag_of next-type.the_type y)
+        go : (y : Next) → ((u : Float) → y ≡ next.Retention u → ⊥)
             → SameEnd (asked y (λ u. tried u (sample i l u) rest) (closing l t)) whole → IsSearched whole r l
-        go (next.Retention u) tag s = absurd (asks_tag (next.Retention u) u tag refl)
+        go (next.Retention u) tag s = absurd (tag u refl)
         go next.Nothing tag s = is_searched s (closed l t e)
 
     module _ {u : Float} (asks : x ≡ next.Retention u) {r : Trial} {after : Lent Float}
@@ -129,11 +119,11 @@ module _ (i : Inputs) (rounds : ℕ) (l₀ : Lent Float) where
               record { left = rw (d.lists, et, ← same) (followed u l' z rest whole s); within = omega (arith, h) }
           go (refuses l' w) d s = absurd (refused-mean w m (sym d.trial ∙ e))
 
-      pub trying_stops : OneOf (1 ∷ []) (tag_of trial-type.the_type r) → {y : SearchAnswer} → y ≡ refused_by r
+      pub trying_stops : ((x : Float) → r ≡ trial.Mean x → ⊥) → {y : SearchAnswer} → y ≡ refused_by r
           → IsSearched whole y after
       trying_stops tag {y} e = go (sample i l u) c here
         where
           go : (z : Sampled (Lent Float) Refusal) → TrialContract z r after → SameEnd (tried u z rest) whole
               → IsSearched whole y after
-          go (gives l' m) d s = absurd (mean_tag r m tag d.trial)
+          go (gives l' m) d s = absurd (tag m d.trial)
           go (refuses l' w) d s = is_searched s (stopped u l' w rest d e)

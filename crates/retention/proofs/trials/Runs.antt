@@ -3,12 +3,9 @@
 --   run_is                               one run
 --   going_start, going_on, going_stops, going_spent   the loop
 use mathlib.Core.Path.{◌≡◌, refl, sym, ap, ◌∙◌}
-use mathlib.Core.List.{[], ◌∷◌}
 use mathlib.Core.Option.{some}
 use Prim.Native.Nat.{ℕ, suc, ◌+◌, ◌-◌, ◌≤◌, ◌<◌}
 use native.Mathlib.Omega.{arith}
-use types.Run.{OneOf}
-use denote.Enum.Declared.{tag_of}
 use lib.Ieee.{Float, neg}
 use Rattle.float32.specs.Numbers.{0ᶠ}
 use Rattle.float32.specs.Ops.{◌+ᶠ◌}
@@ -20,7 +17,6 @@ use Rattle.simulation.specs.State.{Lent, state}
 use Rattle.entry.specs.Entry.{Inputs, inputs}
 use Rattle.simulation.specs.Demands.{RunContract}
 use Rattle.brent.specs.Search.{Sampled, gives, refuses}
-use Rattle.retention.specs.contracts.Trial as trial-type
 use Rattle.retention.specs.declared.Trial.{Trial}
 use Rattle.retention.specs.declared.Trial.TheVariants as trial
 use Rattle.retention.specs.SampleSize.{sample_size}
@@ -45,10 +41,6 @@ run_is i u n l {z} e {a} {after} c {x} q {r} f =
     rw (c'.result.answer, ← c'.result.lists) (tells a i.config.learn_span after q f)
 
 -- ---- a trial that has a mean is not refused
-pub mean_tag : (r : Trial) (x : Float) → OneOf (1 ∷ []) (tag_of trial-type.the_type r) → r ≡ trial.Mean x → ⊥
-mean_tag (trial.Mean y) x t e = omega (arith, t)
-mean_tag (trial.Refused w) x t e = not-one cc
-
 pub refused-mean : (w : Refusal) (x : Float) → trial.Refused w ≡ trial.Mean x → ⊥
 refused-mean w x e = not-one cc
 
@@ -94,13 +86,13 @@ module _ (i : Inputs) (u : Float) (n : ℕ) (l₀ : Lent Float) where
             }
         go (refuses l' w) d s = absurd (refused-mean w x (sym d.trial ∙ e))
 
-    pub going_stops : OneOf (1 ∷ []) (tag_of trial-type.the_type r) → TrialContract whole r after
+    pub going_stops : ((x : Float) → r ≡ trial.Mean x → ⊥) → TrialContract whole r after
     going_stops t = go (run_of i u k l) c split
       where
         go : (y : Sampled (Lent Float) Refusal) → TrialContract y r after
             → and_then y (λ l' z. runs_from i u (n - (k + 1)) (k + 1) (sum +ᶠ z) l') ≡ runs_from i u n 0 (neg 0ᶠ) l₀
             → TrialContract whole r after
-        go (gives l' z) d s = absurd (mean_tag r z t d.trial)
+        go (gives l' z) d s = absurd (t z d.trial)
         go (refuses l' w) d s = rw (← s) (record { trial = d.trial; lists = d.lists })
 
   pub going_spent : {l : Lent Float} {sum : Float} {k : ℕ} → Going l sum k → n ≤ k → {x : Float} → x ≡ mean_of n sum

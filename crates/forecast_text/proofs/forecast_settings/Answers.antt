@@ -1,0 +1,43 @@
+use native.Mathlib.Omega.{arith}
+use Rattle.forecast_text.specs.Settings.{most_span}
+use Rattle.forecast_text.specs.Forecast.{forecast_run}
+use Rattle.forecast_text.proofs.Call.{within-short}
+use Rattle.forecast_text.proofs.Texts.{finished_text, refused_text, refused-printed}
+use Rattle.forecast_text.proofs.forecast_settings.Goals as goal
+
+pub write_run-requires : goal.write_run-requires
+write_run-requires c =
+    let short = within-short most_span c.args.set.span c.span_of-span.result
+    c.span_of-span.ensures in (
+      c.requires,
+      (
+        short,
+        (
+          omega (arith, short, c.run-answer.auto.days),
+          (omega (arith, short, c.run-answer.auto.costs), omega (arith, short, c.run-answer.auto.memorized)),
+        ),
+      ),
+    )
+
+pub returns-in-Finished : goal.returns-in-Finished
+unfolding forecast_run
+returns-in-Finished c =
+    let text = finished_text c.args.set c.run-answer.result c.run-answer.new.days c.run-answer.new.costs
+    c.run-answer.new.memorized c.run-answer.ensures
+    c.in-Finished.p c.span_of-span.result c.in-Finished.is
+    c.span_of-span.ensures in
+    rw text c.write_run.ensures
+
+pub returns-in-Refused : goal.returns-in-Refused
+unfolding forecast_run
+returns-in-Refused c =
+    let a = c.args in
+    let text = refused_text a.set c.run-answer.result c.run-answer.new.days c.run-answer.new.costs
+    c.run-answer.new.memorized c.run-answer.ensures
+    c.in-Refused.r c.in-Refused.field-1 c.in-Refused.is in
+    rw text (refused-printed a.out.now _ _ c.write_refused.result
+    c.write_refused.new.out c.requires
+    (rw (c.number_of.ensures, c.second_of.ensures) at
+    c.write_refused.ensures.0)
+    (rw (c.number_of.ensures, c.second_of.ensures) at
+    c.write_refused.ensures.1))
