@@ -9,7 +9,7 @@ use mathlib.Core.Path.{◌≡◌, refl, sym, ap, ◌∙◌, subst}
 use mathlib.Core.Bool.{Bool, true, false, ◌&&◌}
 use mathlib.Core.List.{List, [], ◌∷◌, ◌++◌, map, append_assoc}
 use mathlib.Core.Option.{some}
-use Prim.Native.Nat.{ℕ, zero, suc, ◌+◌, ◌<◌, ◌≤◌}
+use Prim.Native.Nat.{ℕ, zero, suc, ◌<◌, ◌≤◌}
 use native.Mathlib.Omega.{arith}
 use borrow.Author.Tests.{leb-true}
 use lib.Dec.{ltb, leb}
@@ -133,8 +133,8 @@ module _ (g : SimulatorConfig) (w : List Float) (retention : Float) (seed : ℕ)
     passed = settings_passed (is_finite retention) (long && has_room (length cs) (length room) (length room-counts)) w g
         (length cs) (fail_if (ltb good (length cs)) (refusal.ExistingCard good) check.Passed) e
 
-    has_room : (length cs ≤ length room) × (length cs ≤ length room-counts)
-    has_room =
+    room_long : (length cs ≤ length room) × (length cs ≤ length room-counts)
+    room_long =
         let h = (both long (has_room (length cs) (length room) (length room-counts)) passed.lists_ok_lem).1 in
         let k = both (leb (length cs) (length room)) (leb (length cs) (length room-counts)) h in
         (leb-true _ _ k.0, leb-true _ _ k.1)
@@ -166,7 +166,7 @@ module _ (g : SimulatorConfig) (w : List Float) (retention : Float) (seed : ℕ)
     where
       go : (c : Check) → tests ≡ c → (copied c (length cs) ≤ length rows_in) × (copied c (length cs) ≤ length counts_in)
       go check.Passed e =
-          let h = has_room e in (
+          let h = room_long e in (
             omega (arith, h.0, fill_length (floats_at cs) many room),
             omega (arith, h.1, fill_length (counts_at cs) many room-counts),
           )
@@ -183,7 +183,7 @@ module _ (g : SimulatorConfig) (w : List Float) (retention : Float) (seed : ℕ)
     when_passed : tests ≡ check.Passed → RecordsContract given start room room-counts r l' room' room-counts'
     unfolding simulated_by
     when_passed e =
-        let h = has_room e in
+        let h = room_long e in
         let all : many ≡ length cs = ap (λ (c : Check). copied c (length cs)) e in
         let rows : take many rows_in ≡ float_rows cs = ap (λ (k : ℕ). take k (filled (floats_at cs) k room)) all
         ∙ rows_taken floats_of cs room h.0 in

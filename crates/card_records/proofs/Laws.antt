@@ -1,7 +1,7 @@
 -- The laws of a run over card records.
 --   fill_none                            a list of which no place is filled
 --   least-left, least-right, fill_least  the least of a number and a list's length, and a list filled up to it
---   first-none, first_most, first_next   the first number that passes a test, among one more
+--   first-none, first_next               the first number that passes a test, among one more
 --   first_alike                          by two tests that agree
 --   rows-refused, rows_passed            what the run over the copied rows promises
 use mathlib.Core.Path.{◌≡◌, refl, sym, ap, ◌∙◌}
@@ -72,15 +72,6 @@ module _ (p : ℕ → Bool) where
   pub first-none : first_where p 0 0 ≡ 0
   unfolding first_where
   first-none = refl
-
-  pub first_most : (n j : ℕ) → first_where p n j ≤ j + n
-  unfolding first_where
-  first_most zero j = omega arith
-  first_most (suc n) j = go (p j) (first_most n (j + 1))
-    where
-      go : (b : Bool) → first_where p n (j + 1) ≤ j + 1 + n → cond b j (first_where p n (j + 1)) ≤ j + suc n
-      go true h = omega arith
-      go false h = omega arith
 
   abbrev Next : ℕ → ℕ → ℕ → Type 0
   Next f n j = f ≡ cond (ltb (first_where p n j) (j + n)) (first_where p n j) (cond (p (j + n)) (j + n) (j + n + 1))

@@ -1,4 +1,2 @@
-pub mod Again
 pub mod Call
 pub mod Laws
-pub mod Local

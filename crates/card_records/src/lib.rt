@@ -203,7 +203,7 @@ pub fn simulate(
     )
 }
 
-// The same over three records by value: a caller of this holds no `&[Card]`, and so is proved as any other function.
+// The same over three records by value: a caller of this holds no `&[Card]`.
 pub fn simulate_three(
     cards: &mut [[f32; 6]],
     counts: &mut [[u32; 2]],

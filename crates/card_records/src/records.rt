@@ -1,6 +1,6 @@
 // What is done with a lent list of records: one is read, the first that refusal 5 turns away is found, and the first n
-// are copied to rows, or from rows. Functions with a `&[Card]` are proved by hand, a walk of their MIR each, so they
-// decide nothing but where a loop ends; what is decided stands in functions on numbers and on cards by value.
+// are copied to rows, or from rows. Functions with a `&[Card]` decide nothing but where a loop ends; what is decided
+// stands in functions on numbers and on cards by value.
 ghost use Rattle.std.specs.Prelude.{◌≡◌, cond, ◌+◌, ◌<◌, ◌≤◌, leb, ltb, length, get_or, set};
 ghost use Rattle.elementary.specs.Filled.{filled};
 ghost use Rattle.cards.specs.Cards.{card_at, floats_of, counts_of};
