@@ -361,7 +361,7 @@ def write(path, module, fn, crate, left, uses, notes, helpers, answers, invarian
         for comment, kind, loop, code in invariants:
             k = next(i for i, l in enumerate(fn.loops) if norm(l[0][0]) == norm(loop))
             (old, new), names = fn.loops[k]
-            m = re.match(r"((?:unfolding .*\n)?)" + re.escape(f"{kind}-{loop}") + r"((?: \S+)*) =(.*)", code, re.S)
+            m = re.match(r"((?:unfolding .*\n)?)" + re.escape(f"{kind}-{loop}") + r"((?:\s+[^\s=]+)*)\s+=(.*)", code, re.S)
             if not m:
                 left.append(f"{kind}-{loop}: its clause is not read")
                 continue
