@@ -2,7 +2,7 @@
  * seconds, and how many streets are held in memory; and the cheapest retention. The simulation of fsrs-rs with FSRS-7,
  * bit for bit.
  *
- * Link libcapi.a, which `rt staticlib capi` writes (x86-64 Linux). examples/new_round.c is a whole program.
+ * Link libcapi.a, which `tools/build capi` writes (x86-64 Linux). examples/new_round.c is a whole program.
  *
  * - A list is a pointer and its number of places. A list of no places may be NULL. A pointer without a length points to
  * one place.

@@ -2,7 +2,7 @@
 use std::env;
 use std::path::PathBuf;
 
-/// The folder that STREET_DRILL_ARCHIVE names, else the one that `rt staticlib capi` writes to.
+/// The folder that STREET_DRILL_ARCHIVE names, else the one that `tools/build capi` writes to.
 fn folder() -> PathBuf {
     match env::var_os("STREET_DRILL_ARCHIVE") {
         Some(named) => PathBuf::from(named),
@@ -25,7 +25,7 @@ fn main() {
     } else if !archive.is_file() {
         println!("cargo::error=there is no {}", archive.display());
         println!(
-            "cargo::error=run `rt staticlib capi` in the repository's root, which writes target/staticlib/libcapi.a,"
+            "cargo::error=run `tools/build capi` in the repository's root, which writes target/staticlib/libcapi.a,"
         );
         println!("cargo::error=or set STREET_DRILL_ARCHIVE to the folder that has a libcapi.a");
     } else {

@@ -21,14 +21,14 @@ pub fn example(name: &str) -> String {
     std::fs::read_to_string(in_repository("examples").join(name)).expect("the example can be read")
 }
 
-/// What a program that rt built prints for a text.
+/// What a built program prints for a text.
 pub fn printed(program: &str, text: &str) -> String {
     let path = in_repository("target/bin").join(program);
     let mut child = Command::new(&path)
         .stdin(Stdio::piped())
         .stdout(Stdio::piped())
         .spawn()
-        .unwrap_or_else(|e| panic!("{} does not start ({e}): `rt check {program}` writes it", path.display()));
+        .unwrap_or_else(|e| panic!("{} does not start ({e}): `tools/build {program}` writes it", path.display()));
     child.stdin.take().unwrap().write_all(text.as_bytes()).expect("the program reads its input");
     String::from_utf8(child.wait_with_output().unwrap().stdout).expect("the program prints ASCII")
 }
