@@ -1,0 +1,10 @@
+-- The numbers are those of the answer, and the list that of the lengths.
+use Rattle.capi.proofs.search.drill_optimal_retention.Goals as goal
+
+pub returns : goal.returns
+returns c =
+    record {
+      answer = c.optimal_retention-told.result;
+      numbers_are = rw (c.numbers_of.ensures, c.short_list-list.ensures);
+      search = c.optimal_retention-told.ensures;
+    }
