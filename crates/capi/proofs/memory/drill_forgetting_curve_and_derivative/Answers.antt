@@ -3,16 +3,19 @@ use Rattle.capi.proofs.memory.drill_forgetting_curve_and_derivative.Goals as goa
 
 pub returns : goal.returns
 returns c =
-    record { value = rw (
+    record {
+      value = rw (
         c.retention_and_derivative-slope.ensures.0,
         c.curve_for_state.ensures,
         c.state_of.ensures,
         c.new.ensures,
         curve_is,
-      ); derivative_after = rw (
+      );
+      derivative_after = rw (
         c.retention_and_derivative-slope.ensures.1,
         c.curve_for_state.ensures,
         c.state_of.ensures,
         c.new.ensures,
         curve_is,
-      ) }
+      );
+    }
