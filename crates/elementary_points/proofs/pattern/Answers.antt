@@ -1,5 +1,5 @@
 -- `pattern`: what equals itself is no NaN.
-use Rattle.std.proofs.Common.{◌≡◌, true, false, true≢false}
+use Rattle.std.proofs.Common.{◌≡◌, false, true≢false}
 use Rattle.std.specs.Prelude.{T, not}
 use lib.Ieee.{Float, nan, inf, fin, is_nan, ne, eq}
 use Rattle.elementary_points.proofs.pattern.Goals as goal
