@@ -1,22 +1,21 @@
 // Reads a text from standard input and prints the cheapest retention for it. An input that fails counts as ended, and
-// an output that fails ends the program.
+// an output that fails ends the program with its error.
 #![tactic(auto)]
 
 use report::Placed;
+use std::io;
 
-fn main() {
+fn main(rt: HostRuntime) -> io::Result<()> {
     let mut text = [0u8; 32769];
-    let n = io::read_full(0, &mut text);
-    if 32769 < n {
-        return;
-    }
+    let n = reading::read_full(&mut rt.stdin(), &mut text);
     let mut out = [0u8; 90];
     match cheapest_text::cheapest(&mut out, &text[..n]) {
         Placed::To(end) => {
             if end <= 90 {
-                io::write_all(1, &out[..end]);
+                rt.write_all(&out[..end])?;
             }
         }
         Placed::Full => {}
     }
+    Ok(())
 }

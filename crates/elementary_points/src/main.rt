@@ -5,6 +5,9 @@
 
 ghost use Rattle.std.specs.Prelude.{◌≤◌};
 
+use std::io;
+use std::io::Read;
+
 #[derive(Clone, Copy)]
 pub struct Tally {
     pub rows: u64,
@@ -66,27 +69,27 @@ fn is_outside(s: &[u8; 38]) -> bool {
 }
 
 // The tally with one line more, or as it was where the input has ended.
-fn next(t: Tally) -> Tally {
+fn next(rt: &impl Print, input: &mut impl Read, t: Tally) -> io::Result<Tally> {
     let mut s = [0u8; 38];
-    let n = io::read_full(0, &mut s);
+    let n = reading::read_full(input, &mut s);
     if n < 38 {
-        return t;
+        return Ok(t);
     }
     let rows = (t.rows % 1000000) + 1;
     if is_outside(&s) {
-        io::write_all(1, &s);
-        return Tally {
+        rt.write_all(&s)?;
+        return Ok(Tally {
             rows: rows,
             outside: (t.outside % 1000000) + 1,
-        };
+        });
     }
-    Tally {
+    Ok(Tally {
         rows: rows,
         outside: t.outside,
-    }
+    })
 }
 
-fn all() -> Tally {
+fn all(rt: &impl Print, input: &mut impl Read) -> io::Result<Tally> {
     let mut t = Tally {
         rows: 0,
         outside: 0,
@@ -94,15 +97,12 @@ fn all() -> Tally {
     let mut turns: u32 = 0;
     while turns < 10000 {
         turns = turns + 1;
-        t = next(t);
+        t = next(rt, input, t)?;
     }
-    t
+    Ok(t)
 }
 
-fn main() {
-    let t = all();
-    io::print_decimal(1, t.rows);
-    io::write_all(1, b" lines, ");
-    io::print_decimal(1, t.outside);
-    io::write_all(1, b" outside\n");
+fn main(rt: HostRuntime) -> io::Result<()> {
+    let t = all(&rt, &mut rt.stdin())?;
+    println!(rt; "{} lines, {} outside", t.rows, t.outside)
 }

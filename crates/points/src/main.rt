@@ -6,8 +6,10 @@ mod floats;
 mod memory;
 mod report;
 
-fn main() {
-    floats::run();
-    draw::run();
-    memory::run();
+use std::io;
+
+fn main(rt: HostRuntime) -> io::Result<()> {
+    floats::run(&rt)?;
+    draw::run(&rt)?;
+    memory::run(&rt)
 }

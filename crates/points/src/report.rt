@@ -1,36 +1,31 @@
 // What the points print: whether a value is what it must be, or the value itself.
+use std::io;
+
 pub fn wide(x: u32) -> u64 {
     x as u64
 }
 
-pub fn compare(name: &[u8], got: u64, want: u64) {
-    io::write_all(1, name);
+pub fn compare(rt: &impl Print, name: &str, got: u64, want: u64) -> io::Result<()> {
     if got == want {
-        io::write_all(1, b" ok\n");
+        println!(rt; "{name} ok")
     } else {
-        io::write_all(1, b" got ");
-        io::print_hex(1, got, 8);
-        io::write_all(1, b" want ");
-        io::print_hex(1, want, 8);
-        io::write_all(1, b"\n");
+        println!(rt; "{name} got {got:08x} want {want:08x}")
     }
 }
 
-pub fn equal(same: bool, name: &[u8]) {
-    io::write_all(1, name);
+pub fn equal(rt: &impl Print, same: bool, name: &str) -> io::Result<()> {
     if same {
-        io::write_all(1, b" ok\n");
+        println!(rt; "{name} ok")
     } else {
-        io::write_all(1, b" differs\n");
+        println!(rt; "{name} differs")
     }
 }
 
 // A float's bits, after a blank.
-pub fn float(x: f32) {
-    io::write_all(1, b" ");
-    io::print_hex(1, wide(float32::to_bits(x)), 8);
+pub fn float(rt: &impl Print, x: f32) -> io::Result<()> {
+    print!(rt; " {:08x}", wide(float32::to_bits(x)))
 }
 
-pub fn end() {
-    io::write_all(1, b"\n");
+pub fn end(rt: &impl Print) -> io::Result<()> {
+    println!(rt; "")
 }

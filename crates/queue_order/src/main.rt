@@ -7,6 +7,7 @@
 ghost use Rattle.std.specs.Prelude.{◌<◌};
 
 use queue::CardPriorityQueue;
+use std::io;
 
 // A linear congruential sequence modulo 2^31; its upper bits are used.
 fn next(state: u64) -> u64
@@ -26,10 +27,8 @@ fn key(v: u64) -> u64 {
     queue::card_priority(day, new, -1.25)
 }
 
-fn write(word: &[u8], card: u32) {
-    io::write_all(1, word);
-    io::print_decimal(1, wide(card));
-    io::write_all(1, b"\n");
+fn write(rt: &impl Print, word: &str, card: u32) -> io::Result<()> {
+    println!(rt; "{word}{}", wide(card))
 }
 
 fn wide(x: u32) -> u64 {
@@ -54,14 +53,19 @@ fn push(
     q.push(rows, card, key(v))
 }
 
-fn pop(q: CardPriorityQueue, rows: &mut [[u64; 2]], queued: &mut [bool]) -> CardPriorityQueue {
+fn pop(
+    rt: &impl Print,
+    q: CardPriorityQueue,
+    rows: &mut [[u64; 2]],
+    queued: &mut [bool],
+) -> io::Result<CardPriorityQueue> {
     if q.len == 0 {
-        return q;
+        return Ok(q);
     }
     let card = q.peek_index(rows);
-    write(b"pop ", card);
+    write(rt, "pop ", card)?;
     forget(queued, card);
-    q.pop(rows)
+    Ok(q.pop(rows))
 }
 
 fn forget(queued: &mut [bool], card: u32) {
@@ -71,33 +75,39 @@ fn forget(queued: &mut [bool], card: u32) {
     }
 }
 
-fn change(q: CardPriorityQueue, rows: &mut [[u64; 2]], v: u64) {
+fn change(rt: &impl Print, q: CardPriorityQueue, rows: &mut [[u64; 2]], v: u64) -> io::Result<()> {
     if q.len == 0 {
-        return;
+        return Ok(());
     }
-    write(b"change ", q.peek_index(rows));
+    write(rt, "change ", q.peek_index(rows))?;
     q.change_front(rows, key(v));
+    Ok(())
 }
 
 fn operate(
+    rt: &impl Print,
     q: CardPriorityQueue,
     rows: &mut [[u64; 2]],
     queued: &mut [bool],
     kind: u64,
     card: u32,
     v: u64,
-) -> CardPriorityQueue {
+) -> io::Result<CardPriorityQueue> {
     if kind < 2 {
-        return push(q, rows, queued, card, v);
+        return Ok(push(q, rows, queued, card, v));
     }
     if kind == 2 {
-        return pop(q, rows, queued);
+        return pop(rt, q, rows, queued);
     }
-    change(q, rows, v);
-    q
+    change(rt, q, rows, v)?;
+    Ok(q)
 }
 
-fn operations(rows: &mut [[u64; 2]], queued: &mut [bool]) -> CardPriorityQueue {
+fn operations(
+    rt: &impl Print,
+    rows: &mut [[u64; 2]],
+    queued: &mut [bool],
+) -> io::Result<CardPriorityQueue> {
     let mut q = CardPriorityQueue { len: 0 };
     let mut state: u64 = 1;
     let mut i: u32 = 0;
@@ -106,30 +116,37 @@ fn operations(rows: &mut [[u64; 2]], queued: &mut [bool]) -> CardPriorityQueue {
         let card = next(kind);
         state = next(card);
         q = operate(
+            rt,
             q,
             rows,
             queued,
             kind / 65536 % 4,
             (card / 65536 % 64) as u32,
             state / 65536,
-        );
+        )?;
         i += 1;
     }
-    q
+    Ok(q)
 }
 
-fn empty(all: CardPriorityQueue, rows: &mut [[u64; 2]], queued: &mut [bool]) {
+fn empty(
+    rt: &impl Print,
+    all: CardPriorityQueue,
+    rows: &mut [[u64; 2]],
+    queued: &mut [bool],
+) -> io::Result<()> {
     let mut q = all;
     let mut i: u32 = 0;
     while i < 64 {
-        q = pop(q, rows, queued);
+        q = pop(rt, q, rows, queued)?;
         i += 1;
     }
+    Ok(())
 }
 
-fn main() {
+fn main(rt: HostRuntime) -> io::Result<()> {
     let mut rows = [[0u64; 2]; 64];
     let mut queued = [false; 64];
-    let q = operations(&mut rows, &mut queued);
-    empty(q, &mut rows, &mut queued);
+    let q = operations(&rt, &mut rows, &mut queued)?;
+    empty(&rt, q, &mut rows, &mut queued)
 }

@@ -5,19 +5,18 @@
 
 use cards::{Card, SimulatorConfig};
 use simulation::Answer;
+use std::io;
 
 fn wide(x: u32) -> u64 {
     x as u64
 }
 
-fn number(x: u32) {
-    io::write_all(1, b" ");
-    io::print_decimal(1, wide(x));
+fn number(rt: &impl Print, x: u32) -> io::Result<()> {
+    print!(rt; " {}", wide(x))
 }
 
-fn float(x: f32) {
-    io::write_all(1, b" ");
-    io::print_hex(1, wide(float32::to_bits(x)), 8);
+fn float(rt: &impl Print, x: f32) -> io::Result<()> {
+    print!(rt; " {:08x}", wide(float32::to_bits(x)))
 }
 
 // Eight cards, ten days, two new cards a day; the rest as `SimulatorConfig::default` has it.
@@ -54,42 +53,51 @@ fn card(stability: f32, last_date: f32, due: f32, lapses: u32) -> Card {
     }
 }
 
-fn show(answer: Answer, day: [u32; 4], cost: f32, memorized: f32) {
+fn show(
+    rt: &impl Print,
+    answer: Answer,
+    day: [u32; 4],
+    cost: f32,
+    memorized: f32,
+) -> io::Result<()> {
     match answer {
         Answer::Finished(progress) => {
-            io::write_all(1, b"turns");
-            number(progress.turns);
-            io::write_all(1, b" cards");
-            number(progress.cards);
-            io::write_all(1, b" draws ");
-            io::print_hex(1, progress.draws, 16);
-            io::write_all(1, b" day");
-            number(day[0]);
-            number(day[1]);
-            number(day[2]);
-            number(day[3]);
-            float(cost);
-            float(memorized);
+            print!(rt; "turns")?;
+            number(rt, progress.turns)?;
+            print!(rt; " cards")?;
+            number(rt, progress.cards)?;
+            print!(rt; " draws {:016x} day", progress.draws)?;
+            number(rt, day[0])?;
+            number(rt, day[1])?;
+            number(rt, day[2])?;
+            number(rt, day[3])?;
+            float(rt, cost)?;
+            float(rt, memorized)?;
         }
         Answer::Refused(refusal, _) => {
-            io::write_all(1, b"refused");
-            number(entry::refusals::number_of(refusal));
-            number(entry::refusals::second_of(refusal));
+            print!(rt; "refused")?;
+            number(rt, entry::refusals::number_of(refusal))?;
+            number(rt, entry::refusals::second_of(refusal))?;
         }
     }
-    io::write_all(1, b"\n");
+    println!(rt; "")
 }
 
-fn room(first: [f32; 6], last: [f32; 6], counts: [u32; 2]) {
-    io::write_all(1, b"room");
-    float(first[1]);
-    float(last[1]);
-    number(counts[0]);
-    number(counts[1]);
-    io::write_all(1, b"\n");
+fn room(rt: &impl Print, first: [f32; 6], last: [f32; 6], counts: [u32; 2]) -> io::Result<()> {
+    print!(rt; "room")?;
+    float(rt, first[1])?;
+    float(rt, last[1])?;
+    number(rt, counts[0])?;
+    number(rt, counts[1])?;
+    println!(rt; "")
 }
 
-fn by_records(records: [Card; 3], existing: &mut [[f32; 6]], existing_counts: &mut [[u32; 2]]) {
+fn by_records(
+    rt: &impl Print,
+    records: [Card; 3],
+    existing: &mut [[f32; 6]],
+    existing_counts: &mut [[u32; 2]],
+) -> io::Result<()> {
     let mut cards: [[f32; 6]; 8] = [[0.0; 6]; 8];
     let mut counts: [[u32; 2]; 8] = [[0; 2]; 8];
     let mut queue: [[u64; 2]; 8] = [[0; 2]; 8];
@@ -118,26 +126,26 @@ fn by_records(records: [Card; 3], existing: &mut [[f32; 6]], existing_counts: &m
         0.9,
         42,
     );
-    show(answer, days[9], costs[9], memorized[9]);
+    show(rt, answer, days[9], costs[9], memorized[9])
 }
 
 // With a room of four rows, and what it holds then.
-fn with_room(records: [Card; 3]) {
+fn with_room(rt: &impl Print, records: [Card; 3]) -> io::Result<()> {
     let mut existing: [[f32; 6]; 4] = [[7.0; 6]; 4];
     let mut existing_counts: [[u32; 2]; 4] = [[7; 2]; 4];
-    by_records(records, &mut existing, &mut existing_counts);
-    room(existing[0], existing[3], existing_counts[2]);
+    by_records(rt, records, &mut existing, &mut existing_counts)?;
+    room(rt, existing[0], existing[3], existing_counts[2])
 }
 
 // With a room of two rows, and what it holds then.
-fn without_room(records: [Card; 3]) {
+fn without_room(rt: &impl Print, records: [Card; 3]) -> io::Result<()> {
     let mut existing: [[f32; 6]; 2] = [[7.0; 6]; 2];
     let mut existing_counts: [[u32; 2]; 4] = [[7; 2]; 4];
-    by_records(records, &mut existing, &mut existing_counts);
-    room(existing[0], existing[1], existing_counts[2]);
+    by_records(rt, records, &mut existing, &mut existing_counts)?;
+    room(rt, existing[0], existing[1], existing_counts[2])
 }
 
-fn by_rows(records: [Card; 3]) {
+fn by_rows(rt: &impl Print, records: [Card; 3]) -> io::Result<()> {
     let mut cards: [[f32; 6]; 8] = [[0.0; 6]; 8];
     let mut counts: [[u32; 2]; 8] = [[0; 2]; 8];
     let mut queue: [[u64; 2]; 8] = [[0; 2]; 8];
@@ -173,16 +181,16 @@ fn by_rows(records: [Card; 3]) {
         0.9,
         42,
     );
-    show(answer, days[9], costs[9], memorized[9]);
+    show(rt, answer, days[9], costs[9], memorized[9])
 }
 
-fn main() {
+fn main(rt: HostRuntime) -> io::Result<()> {
     let reviewed = card(3.0, -3.0, 0.0, 0);
     let dropped = card(0.0, -3.0, 0.0, 0);
     let lapsed = card(10.0, -5.0, 2.0, 1);
     let records = [reviewed, dropped, lapsed];
-    by_rows(records);
-    with_room(records);
-    with_room([reviewed, dropped, card(10.0, -5.0, 20000000.0, 1)]);
-    without_room(records);
+    by_rows(&rt, records)?;
+    with_room(&rt, records)?;
+    with_room(&rt, [reviewed, dropped, card(10.0, -5.0, 20000000.0, 1)])?;
+    without_room(&rt, records)
 }

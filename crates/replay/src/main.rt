@@ -12,6 +12,8 @@ mod record;
 mod runs;
 mod shown;
 
+use std::io;
+
 fn answer(w: &[f32], r: record::Record) -> u32 {
     if r.function < 20 {
         return answers::of_numbers(r);
@@ -30,57 +32,69 @@ fn wide(x: u32) -> u64 {
     x as u64
 }
 
-fn print(x: u32) {
-    io::print_hex(1, wide(x), 8);
-    io::write_all(1, b"\n");
+fn print(rt: &impl Print, x: u32) -> io::Result<()> {
+    println!(rt; "{:08x}", wide(x))
 }
 
 fn told(w: &mut [f32; 40], r: record::Record) {
     put_parameter(w, r.a, float32::from_bits(r.b));
 }
 
-fn asked(w: &[f32; 40], r: record::Record) {
-    print(answer(w, r));
+fn asked(rt: &impl Print, w: &[f32; 40], r: record::Record) -> io::Result<()> {
+    print(rt, answer(w, r))
 }
 
-fn queued(rows: &mut [[u64; 2]; 16], len: u32, r: record::Record) -> u32 {
+fn queued(
+    rt: &impl Print,
+    rows: &mut [[u64; 2]; 16],
+    len: u32,
+    r: record::Record,
+) -> io::Result<u32> {
     let after = kept::queued(rows, len, r);
-    print(kept::front(rows, after));
-    after
+    print(rt, kept::front(rows, after))?;
+    Ok(after)
 }
 
-fn scheduled(w: &[f32; 40], keys: &mut [[u32; 2]; 8], intervals: &mut [f32; 8], r: record::Record) {
-    print(kept::scheduled(w, keys, intervals, r));
+fn scheduled(
+    rt: &impl Print,
+    w: &[f32; 40],
+    keys: &mut [[u32; 2]; 8],
+    intervals: &mut [f32; 8],
+    r: record::Record,
+) -> io::Result<()> {
+    print(rt, kept::scheduled(w, keys, intervals, r))
 }
 
 // One call of a leaf, with what the program keeps: parameters, a queue and its length, an interval table.
 fn step(
+    rt: &impl Print,
     w: &mut [f32; 40],
     rows: &mut [[u64; 2]; 16],
     keys: &mut [[u32; 2]; 8],
     intervals: &mut [f32; 8],
     len: u32,
     r: record::Record,
-) -> u32 {
+) -> io::Result<u32> {
     if r.function == 0 {
         told(w, r);
-        return len;
+        return Ok(len);
     }
     if r.function < 50 {
-        asked(w, r);
-        return len;
+        asked(rt, w, r)?;
+        return Ok(len);
     }
     if r.function < 60 {
-        return queued(rows, len, r);
+        return queued(rt, rows, len, r);
     }
     if r.function < 70 {
-        scheduled(w, keys, intervals, r);
+        scheduled(rt, w, keys, intervals, r)?;
     }
-    len
+    Ok(len)
 }
 
 // A run, or a line that tells one of its inputs.
 fn run_step(
+    rt: &impl Print,
     w: &[f32; 40],
     numbers: &mut [u32; 8],
     settings: &mut [f32; 46],
@@ -88,17 +102,28 @@ fn run_step(
     existing_counts: &mut [[u32; 2]; 4096],
     lengths: &mut [u32; 12],
     r: record::Record,
-) {
+) -> io::Result<()> {
     let function = r.function;
     match function {
         70 | 71 | 75 => inputs::tell(numbers, settings, lengths, r),
         72 | 73 | 74 => inputs::tell_card(existing, existing_counts, r),
-        76 | 77 => runs::run(w, numbers, settings, existing, existing_counts, lengths, r),
+        76 | 77 => runs::run(
+            rt,
+            w,
+            numbers,
+            settings,
+            existing,
+            existing_counts,
+            lengths,
+            r,
+        )?,
         _ => {}
     }
+    Ok(())
 }
 
-fn main() {
+fn main(rt: HostRuntime) -> io::Result<()> {
+    let mut input = rt.stdin();
     let mut w = [0.0; 40];
     let mut rows = [[0u64; 2]; 16];
     let mut keys = [[0u32; 2]; 8];
@@ -111,12 +136,13 @@ fn main() {
     let mut len = 0u32;
     let mut left = 100000u32;
     while left > 0 {
-        let r = record::next();
+        let r = record::next(&mut input);
         if r.ended {
-            return;
+            return Ok(());
         }
-        len = step(&mut w, &mut rows, &mut keys, &mut intervals, len, r);
+        len = step(&rt, &mut w, &mut rows, &mut keys, &mut intervals, len, r)?;
         run_step(
+            &rt,
             &w,
             &mut numbers,
             &mut settings,
@@ -124,7 +150,8 @@ fn main() {
             &mut existing_counts,
             &mut lengths,
             r,
-        );
+        )?;
         left -= 1;
     }
+    Ok(())
 }

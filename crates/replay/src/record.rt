@@ -1,6 +1,8 @@
 // A line of the sample.
 ghost use Rattle.std.specs.Prelude.{◌<◌};
 
+use std::io::Read;
+
 // A function's number and its four words; or the sample's end.
 #[derive(Clone, Copy)]
 pub struct Record {
@@ -62,8 +64,8 @@ fn parse(line: &[u8], ended: bool) -> Record {
     }
 }
 
-pub fn next() -> Record {
+pub fn next(input: &mut impl Read) -> Record {
     let mut line = [0u8; 39];
-    let n = io::read_full(0, &mut line);
+    let n = reading::read_full(input, &mut line);
     parse(&line, n < 39)
 }

@@ -7,6 +7,7 @@ ghost use Rattle.std.specs.Prelude.{◌≤◌};
 use crate::record::Record;
 use crate::{answers, digest, inputs, shown};
 use simulation::Answer;
+use std::io;
 
 fn at_most(n: u32, most: usize) -> usize
     ensures { result ≤ most }
@@ -17,6 +18,7 @@ fn at_most(n: u32, most: usize) -> usize
 
 // What is printed of a run; the digests are of all places, of which the longest list has 16,384.
 fn show(
+    rt: &impl Print,
     answer: Answer,
     span: u32,
     cards: &[[f32; 6]],
@@ -27,15 +29,15 @@ fn show(
     due: &[u32],
     keys: &[[u32; 2]],
     intervals: &[f32],
-) {
-    shown::answer(answer);
+) -> io::Result<()> {
+    shown::answer(rt, answer)?;
     if shown::has_run(answer) {
-        shown::rows(days, costs, memorized, span);
+        shown::rows(rt, days, costs, memorized, span)?;
     }
     let d = digest::of_lists(
         16384, cards, counts, days, costs, memorized, due, keys, intervals,
     );
-    shown::digests(d);
+    shown::digests(rt, d)
 }
 
 // A run over the first places of the lists, as many as the lengths say.
@@ -130,6 +132,7 @@ fn keep_lengths(lengths: &mut [u32; 12], n: u32) {
 }
 
 pub fn run(
+    rt: &impl Print,
     w: &[f32],
     numbers: &[u32; 8],
     settings: &[f32; 46],
@@ -137,7 +140,7 @@ pub fn run(
     existing_counts: &mut [[u32; 2]],
     lengths: &mut [u32; 12],
     r: Record,
-) {
+) -> io::Result<()> {
     let mut cards: [[f32; 6]; 4096] = [[9.0; 6]; 4096];
     let mut counts: [[u32; 2]; 4096] = [[9; 2]; 4096];
     let mut queue: [[u64; 2]; 4096] = [[9; 2]; 4096];
@@ -166,11 +169,12 @@ pub fn run(
         answers::join(r.a, r.b),
     );
     show(
-        answer, numbers[1], &cards, &counts, &days, &costs, &memorized, &due, &keys, &intervals,
-    );
+        rt, answer, numbers[1], &cards, &counts, &days, &costs, &memorized, &due, &keys, &intervals,
+    )?;
     if r.function == 77 {
         let n = shown::cards_of(answer);
         keep_cards(existing, existing_counts, &cards, &counts, n);
         keep_lengths(lengths, n);
     }
+    Ok(())
 }

@@ -2,41 +2,42 @@
 use crate::digest::Digests;
 use entry::refusals;
 use simulation::{Answer, Progress};
+use std::io;
 
 fn wide(x: u32) -> u64 {
     x as u64
 }
 
-fn word(x: u32) {
-    io::print_hex(1, wide(x), 8);
+fn word(rt: &impl Print, x: u32) -> io::Result<()> {
+    print!(rt; "{:08x}", wide(x))
 }
 
-fn blank() {
-    io::write_all(1, b" ");
+fn blank(rt: &impl Print) -> io::Result<()> {
+    print!(rt; " ")
 }
 
-fn end() {
-    io::write_all(1, b"\n");
+fn end(rt: &impl Print) -> io::Result<()> {
+    println!(rt; "")
 }
 
-fn numbers(number: u32, second: u32, p: Progress) {
-    io::write_all(1, b"run ");
-    word(number);
-    blank();
-    word(second);
-    blank();
-    word(p.turns);
-    blank();
-    word(p.cards);
-    blank();
-    io::print_hex(1, p.draws, 16);
-    end();
+fn numbers(rt: &impl Print, number: u32, second: u32, p: Progress) -> io::Result<()> {
+    print!(rt; "run ")?;
+    word(rt, number)?;
+    blank(rt)?;
+    word(rt, second)?;
+    blank(rt)?;
+    word(rt, p.turns)?;
+    blank(rt)?;
+    word(rt, p.cards)?;
+    blank(rt)?;
+    print!(rt; "{:016x}", p.draws)?;
+    end(rt)
 }
 
-pub fn answer(a: Answer) {
+pub fn answer(rt: &impl Print, a: Answer) -> io::Result<()> {
     match a {
-        Answer::Finished(p) => numbers(0, 0, p),
-        Answer::Refused(r, p) => numbers(refusals::number_of(r), refusals::second_of(r), p),
+        Answer::Finished(p) => numbers(rt, 0, 0, p),
+        Answer::Refused(r, p) => numbers(rt, refusals::number_of(r), refusals::second_of(r), p),
     }
 }
 
@@ -55,48 +56,62 @@ pub fn cards_of(a: Answer) -> u32 {
     }
 }
 
-fn day(counts: [u32; 4], cost: f32, memorized: f32) {
-    word(counts[0]);
-    blank();
-    word(counts[1]);
-    blank();
-    word(counts[2]);
-    blank();
-    word(counts[3]);
-    blank();
-    word(float32::to_bits(cost));
-    blank();
-    word(float32::to_bits(memorized));
-    end();
+fn day(rt: &impl Print, counts: [u32; 4], cost: f32, memorized: f32) -> io::Result<()> {
+    word(rt, counts[0])?;
+    blank(rt)?;
+    word(rt, counts[1])?;
+    blank(rt)?;
+    word(rt, counts[2])?;
+    blank(rt)?;
+    word(rt, counts[3])?;
+    blank(rt)?;
+    word(rt, float32::to_bits(cost))?;
+    blank(rt)?;
+    word(rt, float32::to_bits(memorized))?;
+    end(rt)
 }
 
-fn day_at(days: &[[u32; 4]], costs: &[f32], memorized: &[f32], i: usize) {
+fn day_at(
+    rt: &impl Print,
+    days: &[[u32; 4]],
+    costs: &[f32],
+    memorized: &[f32],
+    i: usize,
+) -> io::Result<()> {
     if i < days.len() {
         if i < costs.len() {
             if i < memorized.len() {
-                day(days[i], costs[i], memorized[i]);
+                day(rt, days[i], costs[i], memorized[i])?;
             }
         }
     }
+    Ok(())
 }
 
-pub fn rows(days: &[[u32; 4]], costs: &[f32], memorized: &[f32], span: u32) {
+pub fn rows(
+    rt: &impl Print,
+    days: &[[u32; 4]],
+    costs: &[f32],
+    memorized: &[f32],
+    span: u32,
+) -> io::Result<()> {
     let n = span as usize;
     let mut i = 0;
     while i < n {
-        day_at(days, costs, memorized, i);
+        day_at(rt, days, costs, memorized, i)?;
         i += 1;
     }
+    Ok(())
 }
 
-pub fn digests(d: Digests) {
-    io::write_all(1, b"digests ");
-    word(d.cards);
-    blank();
-    word(d.days);
-    blank();
-    word(d.due);
-    blank();
-    word(d.table);
-    end();
+pub fn digests(rt: &impl Print, d: Digests) -> io::Result<()> {
+    print!(rt; "digests ")?;
+    word(rt, d.cards)?;
+    blank(rt)?;
+    word(rt, d.days)?;
+    blank(rt)?;
+    word(rt, d.due)?;
+    blank(rt)?;
+    word(rt, d.table)?;
+    end(rt)
 }

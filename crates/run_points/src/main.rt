@@ -5,23 +5,24 @@
 use cards::SimulatorConfig;
 use entry::Refusal;
 use simulation::{Answer, Progress};
+use std::io;
 
 fn wide(x: u32) -> u64 {
     x as u64
 }
 
-fn blank() {
-    io::write_all(1, b" ");
+fn blank(rt: &impl Print) -> io::Result<()> {
+    print!(rt; " ")
 }
 
-fn number(x: u32) {
-    blank();
-    io::print_decimal(1, wide(x));
+fn number(rt: &impl Print, x: u32) -> io::Result<()> {
+    blank(rt)?;
+    print!(rt; "{}", wide(x))
 }
 
-fn float(x: f32) {
-    blank();
-    io::print_hex(1, wide(float32::to_bits(x)), 8);
+fn float(rt: &impl Print, x: f32) -> io::Result<()> {
+    blank(rt)?;
+    print!(rt; "{:08x}", wide(float32::to_bits(x)))
 }
 
 // Two streets, every first rating 4, costs of 8 seconds and at most 10 a day; the rest as `SimulatorConfig::default`
@@ -46,35 +47,33 @@ fn config(deck_size: u32, learn_span: u32) -> SimulatorConfig {
     }
 }
 
-fn show(progress: Progress) {
-    io::write_all(1, b"turns");
-    number(progress.turns);
-    io::write_all(1, b" cards");
-    number(progress.cards);
-    io::write_all(1, b" draws ");
-    io::print_hex(1, progress.draws, 16);
-    io::write_all(1, b"\n");
+fn show(rt: &impl Print, progress: Progress) -> io::Result<()> {
+    print!(rt; "turns")?;
+    number(rt, progress.turns)?;
+    print!(rt; " cards")?;
+    number(rt, progress.cards)?;
+    println!(rt; " draws {:016x}", progress.draws)
 }
 
-fn show_refusal(refusal: Refusal) {
-    io::write_all(1, b"refused");
-    number(entry::refusals::number_of(refusal));
-    number(entry::refusals::second_of(refusal));
-    io::write_all(1, b"\n");
+fn show_refusal(rt: &impl Print, refusal: Refusal) -> io::Result<()> {
+    print!(rt; "refused")?;
+    number(rt, entry::refusals::number_of(refusal))?;
+    number(rt, entry::refusals::second_of(refusal))?;
+    println!(rt; "")
 }
 
-fn day(counts: [u32; 4], cost: f32, memorized: f32) {
-    io::write_all(1, b"day");
-    number(counts[0]);
-    number(counts[1]);
-    number(counts[2]);
-    number(counts[3]);
-    float(cost);
-    float(memorized);
-    io::write_all(1, b"\n");
+fn day(rt: &impl Print, counts: [u32; 4], cost: f32, memorized: f32) -> io::Result<()> {
+    print!(rt; "day")?;
+    number(rt, counts[0])?;
+    number(rt, counts[1])?;
+    number(rt, counts[2])?;
+    number(rt, counts[3])?;
+    float(rt, cost)?;
+    float(rt, memorized)?;
+    println!(rt; "")
 }
 
-fn forecast(deck_size: u32, learn_span: u32) {
+fn forecast(rt: &impl Print, deck_size: u32, learn_span: u32) -> io::Result<()> {
     let mut cards: [[f32; 6]; 8] = [[0.0; 6]; 8];
     let mut counts: [[u32; 2]; 8] = [[0; 2]; 8];
     let mut rows: [[u64; 2]; 8] = [[0; 2]; 8];
@@ -106,17 +105,17 @@ fn forecast(deck_size: u32, learn_span: u32) {
     );
     match answer {
         Answer::Finished(progress) => {
-            show(progress);
-            day(days[0], costs[0], memorized[0]);
-            day(days[1], costs[1], memorized[1]);
-            day(days[9], costs[9], memorized[9]);
+            show(rt, progress)?;
+            day(rt, days[0], costs[0], memorized[0])?;
+            day(rt, days[1], costs[1], memorized[1])?;
+            day(rt, days[9], costs[9], memorized[9])
         }
-        Answer::Refused(refusal, _) => show_refusal(refusal),
+        Answer::Refused(refusal, _) => show_refusal(rt, refusal),
     }
 }
 
 // The same with lists as long as the largest deck and the longest span need; the days are not shown.
-fn at_the_limits(deck_size: u32, learn_span: u32) {
+fn at_the_limits(rt: &impl Print, deck_size: u32, learn_span: u32) -> io::Result<()> {
     let mut cards: [[f32; 6]; 65536] = [[0.0; 6]; 65536];
     let mut counts: [[u32; 2]; 65536] = [[0; 2]; 65536];
     let mut rows: [[u64; 2]; 65536] = [[0; 2]; 65536];
@@ -147,17 +146,17 @@ fn at_the_limits(deck_size: u32, learn_span: u32) {
         42,
     );
     match answer {
-        Answer::Finished(progress) => show(progress),
-        Answer::Refused(refusal, _) => show_refusal(refusal),
+        Answer::Finished(progress) => show(rt, progress),
+        Answer::Refused(refusal, _) => show_refusal(rt, refusal),
     }
 }
 
-fn main() {
-    forecast(2, 1);
-    forecast(8, 10);
-    at_the_limits(65536, 1);
-    at_the_limits(65537, 1);
-    at_the_limits(2, 0);
-    at_the_limits(2, 36500);
-    at_the_limits(2, 36501);
+fn main(rt: HostRuntime) -> io::Result<()> {
+    forecast(&rt, 2, 1)?;
+    forecast(&rt, 8, 10)?;
+    at_the_limits(&rt, 65536, 1)?;
+    at_the_limits(&rt, 65537, 1)?;
+    at_the_limits(&rt, 2, 0)?;
+    at_the_limits(&rt, 2, 36500)?;
+    at_the_limits(&rt, 2, 36501)
 }

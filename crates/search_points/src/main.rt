@@ -4,19 +4,18 @@
 
 use cards::SimulatorConfig;
 use retention::{Optimum, SearchAnswer};
+use std::io;
 
 fn wide(x: u32) -> u64 {
     x as u64
 }
 
-fn number(x: u32) {
-    io::write_all(1, b" ");
-    io::print_decimal(1, wide(x));
+fn number(rt: &impl Print, x: u32) -> io::Result<()> {
+    print!(rt; " {}", wide(x))
 }
 
-fn float(x: f32) {
-    io::write_all(1, b" ");
-    io::print_hex(1, wide(float32::to_bits(x)), 8);
+fn float(rt: &impl Print, x: f32) -> io::Result<()> {
+    print!(rt; " {:08x}", wide(float32::to_bits(x)))
 }
 
 // As `SimulatorConfig::default` has it, but for deck, span and learn limit.
@@ -40,29 +39,40 @@ fn config(deck_size: u32, learn_span: u32, learn_limit: u32) -> SimulatorConfig 
     }
 }
 
-fn show(answer: SearchAnswer, last_cost: f32, last_memorized: f32) {
+fn show(
+    rt: &impl Print,
+    answer: SearchAnswer,
+    last_cost: f32,
+    last_memorized: f32,
+) -> io::Result<()> {
     match answer {
-        SearchAnswer::Found(x) => found(x, last_cost, last_memorized),
+        SearchAnswer::Found(x) => found(rt, x, last_cost, last_memorized)?,
         SearchAnswer::Refused(_) => {
-            io::write_all(1, b"refused");
-            number(retention::number_of(answer));
-            number(retention::second_of(answer));
+            print!(rt; "refused")?;
+            number(rt, retention::number_of(answer))?;
+            number(rt, retention::second_of(answer))?;
         }
     }
-    io::write_all(1, b"\n");
+    println!(rt; "")
 }
 
 // The retention, its mean, the rounds, and of the last run made the cost of its first day and what it memorized then.
-fn found(x: Optimum, cost: f32, memorized: f32) {
-    io::write_all(1, b"found");
-    float(x.retention);
-    float(x.mean);
-    number(x.rounds);
-    float(cost);
-    float(memorized);
+fn found(rt: &impl Print, x: Optimum, cost: f32, memorized: f32) -> io::Result<()> {
+    print!(rt; "found")?;
+    float(rt, x.retention)?;
+    float(rt, x.mean)?;
+    number(rt, x.rounds)?;
+    float(rt, cost)?;
+    float(rt, memorized)
 }
 
-fn search(deck_size: u32, learn_span: u32, learn_limit: u32, rounds: u32) {
+fn search(
+    rt: &impl Print,
+    deck_size: u32,
+    learn_span: u32,
+    learn_limit: u32,
+    rounds: u32,
+) -> io::Result<()> {
     let mut cards: [[f32; 6]; 20] = [[0.0; 6]; 20];
     let mut counts: [[u32; 2]; 20] = [[0; 2]; 20];
     let mut rows: [[u64; 2]; 20] = [[0; 2]; 20];
@@ -95,13 +105,13 @@ fn search(deck_size: u32, learn_span: u32, learn_limit: u32, rounds: u32) {
         config(deck_size, learn_span, learn_limit),
         rounds,
     );
-    show(answer, costs[0], memorized[0]);
+    show(rt, answer, costs[0], memorized[0])
 }
 
-fn main() {
-    search(1, 40, 4294967295, 64);
-    search(2, 5, 1, 64);
-    search(4, 5, 0, 57);
-    search(8, 10, 4294967295, 1);
-    search(8, 10, 4294967295, 65);
+fn main(rt: HostRuntime) -> io::Result<()> {
+    search(&rt, 1, 40, 4294967295, 64)?;
+    search(&rt, 2, 5, 1, 64)?;
+    search(&rt, 4, 5, 0, 57)?;
+    search(&rt, 8, 10, 4294967295, 1)?;
+    search(&rt, 8, 10, 4294967295, 65)
 }

@@ -6,19 +6,21 @@
 ghost use Rattle.std.specs.Prelude.{◌≤◌, length};
 
 use report::Placed;
+use std::io;
 
-fn print(out: &[u8], end: usize) {
+fn print(rt: &impl Print, out: &[u8], end: usize) -> io::Result<()> {
     if end <= out.len() {
-        io::write_all(1, &out[..end]);
+        rt.write_all(&out[..end])?;
     }
+    Ok(())
 }
 
-fn forecast(text: &[u8]) {
-    io::write_all(1, b"text\n");
+fn forecast(rt: &impl Print, text: &[u8]) -> io::Result<()> {
+    println!(rt; "text")?;
     let mut out = [0u8; 133680];
     match forecast_text::forecast(&mut out, text) {
-        Placed::To(end) => print(&out, end),
-        Placed::Full => {}
+        Placed::To(end) => print(rt, &out, end),
+        Placed::Full => Ok(()),
     }
 }
 
@@ -37,19 +39,18 @@ fn text_end(s: &[u8], i: usize) -> usize
     j
 }
 
-fn forecast_each(s: &[u8]) {
+fn forecast_each(rt: &impl Print, s: &[u8]) -> io::Result<()> {
     let mut i: usize = 0;
     while i < s.len() {
         let end = text_end(s, i);
-        forecast(&s[i..end]);
+        forecast(rt, &s[i..end])?;
         i = end + 1;
     }
+    Ok(())
 }
 
-fn main() {
+fn main(rt: HostRuntime) -> io::Result<()> {
     let mut input = [0u8; 262144];
-    let n = io::read_full(0, &mut input);
-    if n <= 262144 {
-        forecast_each(&input[..n]);
-    }
+    let n = reading::read_full(&mut rt.stdin(), &mut input);
+    forecast_each(&rt, &input[..n])
 }
