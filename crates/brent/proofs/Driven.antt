@@ -1,4 +1,4 @@
--- `driven-is`: a stepper that a host drives gives the whole search: its trials, what they leave, its answer. `closed`:
+-- `driven_is`: a stepper that a host drives gives the whole search: its trials, what they leave, its answer. `closed`:
 -- a stepper that asks for no retention has an answer.
 use mathlib.Core.Path.{◌≡◌, refl, ap, ◌∙◌}
 use mathlib.Core.Bool.{Bool, true, false, not, cond, ◌&&◌}

@@ -135,7 +135,7 @@ module _ (g : SimulatorConfig) (w : List Float) (retention : Float) (seed : ℕ)
 
     room_long : (length cs ≤ length room) × (length cs ≤ length room-counts)
     room_long =
-        let h = (both long (has_room (length cs) (length room) (length room-counts)) passed.lists_ok_lem).1 in
+        let h = (both long (has_room (length cs) (length room) (length room-counts)) passed.lists_pass).1 in
         let k = both (leb (length cs) (length room)) (leb (length cs) (length room-counts)) h in
         (leb-true _ _ k.0, leb-true _ _ k.1)
 
@@ -150,7 +150,7 @@ module _ (g : SimulatorConfig) (w : List Float) (retention : Float) (seed : ℕ)
         let lists = lists_ok given start in
         let fits = has_room n (length room) (length room-counts) in
         let cards = check_first (float_rows cs) (count_rows cs) n in
-        let t = (settings_passed (is_finite retention) (lists && fits) w g n cards is_passed).lists_ok_lem in
+        let t = (settings_passed (is_finite retention) (lists && fits) w g n cards is_passed).lists_pass in
         sym (ap (λ (b : Bool). check_settings (is_finite retention) b w g n cards) (t ∙ sym (both lists fits t).0))
         ∙ is_passed
 

@@ -1,7 +1,7 @@
 -- A card's dates. Definitions only.
 --   day_of due          its day: its due date in whole days, 0 where that is past
 --   next_due d          its due date when it is put off on day d
---   is_new lastDate     whether it is new
+--   is_new last_date     whether it is new
 --   longest_interval, IntervalInRange v   the range of its intervals
 use Rattle.std.specs.Prelude.{ℕ, Bool, true, T, pos, Float}
 use Rattle.std.specs.Float.{inf, binary32}
@@ -18,7 +18,7 @@ next_due d = add binary32 (of_int binary32 (pos d)) 1ᶠ
 
 -- a card is new while its last date is minus infinity
 unfoldable pub is_new : Float → Bool
-is_new lastDate = eq lastDate (inf true)
+is_new last_date = eq last_date (inf true)
 
 abbrev pub longest_interval : Float
 longest_interval = of_int binary32 (pos 36500)

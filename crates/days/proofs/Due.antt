@@ -2,8 +2,8 @@
 -- dated card is put off.
 --   Below                  no count is at the top of a u32
 --   add-long, move_long    the list is as long as it was
---   added                  `addDue`: one more on its day
---   moved                  `moveDue`: a dated card goes from its day to the next, another moves nothing
+--   added                  `add_due`: one more on its day
+--   moved                  `move_due`: a dated card goes from its day to the next, another moves nothing
 use mathlib.Core.Path.{◌≡◌, refl, ◌∙◌}
 use mathlib.Core.Bool.{Bool, true, false, not, ◌&&◌, cond}
 use mathlib.Core.List.{List}

@@ -1,4 +1,4 @@
--- The bounds as laws of the definitions, for crates that speak of `lnOf` and `powOf` where no function is called.
+-- The bounds as laws of the definitions, for crates that speak of `ln_of` and `pow_of` where no function is called.
 --     ln-bound x, powf_bound x y          the definition's value is right for ln x, and for x^y
 use Rattle.std.proofs.Common.{T}
 use lib.Ieee.{Float, binary32, fits}

@@ -84,9 +84,9 @@ module _ (ok lists : Bool) (w : List Float) (g : SimulatorConfig) (n : ℕ) wher
     pub deck_most : g.deck_size ≤ most_cards
     pub span_some : 0 < g.learn_span
     pub span_most : g.learn_span ≤ most_days
-    pub config_ok_lem : config_ok g ≡ true
+    pub config_passes : config_ok g ≡ true
     pub setting_ok : ok ≡ true
-    pub lists_ok_lem : lists ≡ true
+    pub lists_pass : lists ≡ true
     pub existing_few : n ≤ g.deck_size
     pub next_passes : next ≡ check.Passed
 
@@ -109,9 +109,9 @@ module _ (ok lists : Bool) (w : List Float) (g : SimulatorConfig) (n : ℕ) wher
         deck_most = ltb-false most_cards g.deck_size deck.1;
         span_some = positive g.learn_span span.0;
         span_most = ltb-false most_days g.learn_span span.1;
-        config_ok_lem = config.0;
+        config_passes = config.0;
         setting_ok = config.1;
-        lists_ok_lem = not-false lists p₆.0;
+        lists_pass = not-false lists p₆.0;
         existing_few = ltb-false g.deck_size n p₇.0;
         next_passes = p₇.1;
       }

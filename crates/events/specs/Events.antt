@@ -1,8 +1,8 @@
 -- What a learning and a review do to a card, over any memory model and any way to draw. Definitions only.
--- Letters: w the way to draw, g the configuration, x the model, k a card, t where the short_term steps have come to.
+-- Letters: w the way to draw, g the configuration, x the model, k a card, t where the short-term steps have come to.
 --     rating_of i, recalled_rating_of i      a rating from its weight's index; of_rating row rating: its number in a row
 --     consecutive_after n rating           how many good ratings since the last 1
---     short_step w x transitions costs t, short_steps .. limit n t      a short_term step, and up to n of them
+--     short_step w x transitions costs t, short_steps .. limit n t      a short-term step, and up to n of them
 --     memory_of t cost recalled            what an event leaves
 --     chance_ok chance, chance_on x k day   refusal 7's test, and the chance on a day
 --     learning_limit g rating              how many good ratings end a learning
@@ -43,7 +43,7 @@ unfoldable pub consecutive_after : ℕ → ℕ → ℕ
 consecutive_after n rating = cond (ltb 2 rating) (n + 1) (cond (eqb rating 1) 0 n)
 
 module _ (w : DrawRule) (x : Scalars) (transitions costs : List Float) where
-  -- a short_term step: a rating drawn by the row of the last one, and what it does
+  -- a short-term step: a rating drawn by the row of the last one, and what it does
   unfoldable pub short_step : ShortTerm → ShortTerm
   short_step t =
       let r = rating_of (rating (row_of transitions (t.rating - 1)) (w.word t.draws)) in
@@ -63,7 +63,7 @@ module _ (w : DrawRule) (x : Scalars) (transitions costs : List Float) where
       let rest = short_steps limit n (short_step t) in
       cond (leb limit t.consecutive || leb 4 t.rating) t rest
 
--- what is left of short_term steps, within the model's limits
+-- what is left of short-term steps, within the model's limits
 unfoldable pub memory_of : ShortTerm → Float → Bool → Memory
 memory_of t cost recalled = record {
   difficulty = clamp t.difficulty d_min d_max;
@@ -103,7 +103,7 @@ module _ (w : DrawRule) (g : SimulatorConfig) (x : Scalars) where
         draws = w.after state;
       }
 
-  -- a learning: a first rating, and at most five short_term steps
+  -- a learning: a first rating, and at most five short-term steps
   unfoldable pub learning : ℕ → Memory
   learning state =
       let first = first_of state in
@@ -126,7 +126,7 @@ module _ (w : DrawRule) (g : SimulatorConfig) (x : Scalars) where
         draws = w.after state;
       }
 
-  -- a lapse: rating 1, and at most five short_term steps
+  -- a lapse: rating 1, and at most five short-term steps
   abbrev pub failed_of : Card → Float → ℕ → ShortTerm
   failed_of k chance state = record {
     stability = x.after_failure k.stability k.difficulty chance;

@@ -1,5 +1,5 @@
 -- What a run asks of a memory model, as functions (`Scalars`): FSRS-7 over its parameters (`plain w`), and as it is
--- computed from what is kept of them (`kept m`). `kept-is` (proofs/Loops) says that the two are the same. Definitions
+-- computed from what is kept of them (`kept m`). `kept_is` (proofs/Loops) says that the two are the same. Definitions
 -- only.
 use Rattle.std.specs.Prelude.{ℕ, List, Float}
 use Rattle.float32.specs.Numbers.{1ᶠ}
@@ -13,7 +13,7 @@ pub record Scalars : Type 0 where
   pub init_difficulty : ℕ → Float
   -- difficulty after a rating
   pub next_difficulty : Float → ℕ → Float
-  -- stability after a rating of a short_term step, from stability and difficulty
+  -- stability after a rating of a short-term step, from stability and difficulty
   pub short_term : Float → Float → ℕ → Float
   -- after a review's rating of 2 to 4, and after a rating of 1: from stability, difficulty and the chance that there
   -- was to recall

@@ -1,8 +1,8 @@
--- `mulAdd` of three finite `f32` from the `f64` sum, where its pattern is `RoundsOnce`.
+-- `mul_add` of three finite `f32` from the `f64` sum, where its pattern is `RoundsOnce`.
 --   narrow_room                the exponent of the `f64` is at least the lowest of an `f32`
 --   narrow_is, narrow_no_nan   the `f32` made of its pattern, and that it is no NaN
 --   sum_no_nan                 the `f64` sum is no NaN
---   quick_is                   narrowed so, it is `mulAdd`
+--   quick_is                   narrowed so, it is `mul_add`
 use Rattle.std.proofs.Common.{◌≡◌, ℕ, ◌+◌, ◌-◌, ◌*◌, ◌/◌, ◌%◌, ◌^◌, ◌<◌, ◌≤◌, Bool, true, false, cond, not, T, leb, sym, ap, ◌∙◌, subst, arith, leb→le, pow_pos, ne_eqb}
 use lib.Dec.{nleb→lt}
 use lib.Ieee.{Float, binary32, binary64, fits, to_bits, of_bits, nan_bits, unlike, is_nan, units, round, add, mul}

@@ -1,7 +1,7 @@
--- `mulAdd` of three finite floats from the fields of their bit patterns.
+-- `mul_add` of three finite floats from the fields of their bit patterns.
 --   product_lt            a product of two significands has at most 48 digits
 --   left, right           the two terms of the sum, over 2 ^ 1074
---   fma_is                of finite floats: `mulAdd` is the sum of these
+--   fma_is                of finite floats: `mul_add` is the sum of these
 --   fma_x, fma_y, fma_z   where x, y or z is not finite
 use Rattle.std.proofs.Common.{◌≡◌, ℕ, ◌+◌, ◌*◌, ◌^◌, ◌<◌, Bool, false, T, sym, refl, ap, ◌∙◌, true≢false, lt_of_le_of_lt, le_of_lt, mul_assoc, mul_comm, mul-le-mul_left, mul-lt-mul_of_pos_right, mul-pos, mul_left_comm, lit<, pow_pos, pow-add}
 use lib.Ieee.{Float, nan, inf, fin, binary32, up, down, unlike, sum, mul, add}

@@ -1,6 +1,6 @@
 -- Rounding sees of a fraction only where it lies between two neighbours of a fine enough grid. So where a fraction is
 -- not on the grid, any other point strictly between the same two neighbours stands for it: the odd one of a grid twice
--- as fine. `round-odd` says so of `Ieee.round`.
+-- as fine. `round_odd` says so of `Ieee.round`.
 --   Cmp, cmp                             what the outcome of `compare` says
 --   compare-lt, compare-gt, compare-eq   its outcome, from the order
 --   closest_of                           `closest` from a quotient and a remainder

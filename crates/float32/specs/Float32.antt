@@ -1,6 +1,6 @@
 -- What Rust's functions on `f32` return, for every value. A float is `lib.Ieee`'s: `nan`, `inf s`, or `fin s m e`,
 -- which is m * 2 ^ e, negative where s is true. Definitions only.
---   isFinite x, abs x     neither a NaN nor an infinity; x with a clear sign
+--   is_finite x, abs x     neither a NaN nor an infinity; x with a clear sign
 --   max x y, min x y      the larger and the smaller; a NaN loses against a number
 --   clamp x lo hi         x, or the end that it lies beyond
 --   round x               the nearest whole number, a half away from zero

@@ -1,4 +1,4 @@
--- 0 and 1, by their bit patterns, as a literal of the code stands in a goal; `zero_is` and `one-is` (proofs/Numbers)
+-- 0 and 1, by their bit patterns, as a literal of the code stands in a goal; `zero_is` and `one_is` (proofs/Numbers)
 -- say that they are 0 / 1 and 1 / 1, rounded. Definitions only.
 use Rattle.std.specs.Prelude.{from_bits, Float}
 use Rattle.std.specs.Float.{binary32}

@@ -2,7 +2,7 @@
 --   lists               the lists that the program lends to the run
 --   forecast_run s       the run of settings
 --   run_text, forecast_text   what is printed, of a run and of a text
---   room                bytes that are room enough for every text (`text-fits`)
+--   room                bytes that are room enough for every text (`text_fits`)
 --   printed, left       the answer of a call, and the lent bytes that it leaves
 use Rattle.std.specs.Prelude.{ℕ, ◌+◌, ◌*◌, cond, ◌≡◌, List, [], ◌++◌, length, drop, replicate, leb, Float}
 use Rattle.std.proofs.Math.Option.{Option, none, some}
@@ -26,7 +26,7 @@ use Rattle.forecast_text.specs.Settings.{most_deck, most_span, default_settings,
 abbrev pub places : ℕ
 places = 4096
 
--- the lists lent to the run, as long as the limits ask; what they hold plays no part (simulation's `Demands.same-run`)
+-- the lists lent to the run, as long as the limits ask; what they hold plays no part (simulation's `Demands.same_run`)
 unfoldable pub lists : List (List ℕ) → List Float → List Float → Lent Float
 lists days costs memorized =
     lent (replicate most_deck (replicate 6 0ᶠ)) (replicate most_deck (replicate 2 0)) (replicate most_deck (replicate 2 0))

@@ -41,7 +41,7 @@ bits_of = map (to_bits binary32)
 abbrev pub floats_of : List ℕ → List Float
 floats_of = map (of_bits binary32)
 
--- P8: what the settings are before any form; parameters are missing where `seen` says so (`parametersOf`)
+-- P8: what the settings are before any form; parameters are missing where `seen` says so (`parameters_of`)
 unfoldable pub default_settings : Settings
 default_settings = record {
   deck = default_config.deck_size;

@@ -115,7 +115,7 @@ module _ (t : Table) (ok : Sound t) (s r : ℕ) where
 pub looked : (t : Table) (s r : ℕ) {f : Entry} → f ≡ lookup_in t s r → LookupContract t s r f
 looked t s r e = record { entry = e; answer = λ ok. ap answer_of e ∙ lookup_held t ok s r }
 
--- ---- used places and keys held are one to one, so `countIn` counts keys
+-- ---- used places and keys held are one to one, so `count_in` counts keys
 
 pub one_place : (t : Table) → Sound t → (s r p q : ℕ) → Stands t s r p → Stands t s r q → p ≡ q
 one_place t ok s r p q a b = let e = ok.found s r p a in let f = ok.found s r q b in cc

@@ -1,4 +1,4 @@
--- A text read line by line, by places, against `readLines`.
+-- A text read line by line, by places, against `read_lines`.
 use mathlib.Core.Path.{◌≡◌, refl, sym}
 use Prim.Native.Nat.{ℕ, suc, ◌+◌, ◌≤◌, ◌<◌}
 use native.Mathlib.Omega.{arith}

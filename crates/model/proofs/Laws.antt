@@ -1,6 +1,6 @@
 -- What the run asks of the model.
 --     interval-number curves s r          the interval is never a NaN
---     scheduled_between curves s r maxIvl the interval that is scheduled lies between 1 and the largest, by any curves
+--     scheduled_between curves s r max_ivl the interval that is scheduled lies between 1 and the largest, by any curves
 --     stability_between p s d r rating    the stability after a rating lies between S_MIN and S_MAX, if the one before
 --     was a
 --                                         number
@@ -120,11 +120,11 @@ interval-number curves s desired =
     arms (le dr_max r) 0ᶠ (solved (curves x) (top_of x) r) (λ e. number 0ᶠ zero_clear)
     (solved-number (curves x) (top_of x) r)
 
-pub scheduled_between : (curves : Curves) (s r maxIvl : Float) → T (le 1ᶠ maxIvl)
-    → Between 1ᶠ maxIvl (scheduled curves s r maxIvl)
+pub scheduled_between : (curves : Curves) (s r max_ivl : Float) → T (le 1ᶠ max_ivl)
+    → Between 1ᶠ max_ivl (scheduled curves s r max_ivl)
 unfolding scheduled
-scheduled_between curves s r maxIvl h =
-    clamp_between (Float32.round (next_interval curves s r)) 1ᶠ maxIvl
+scheduled_between curves s r max_ivl h =
+    clamp_between (Float32.round (next_interval curves s r)) 1ᶠ max_ivl
     (round_number (next_interval curves s r) (interval-number curves s r)) h
 
 -- ---- stability

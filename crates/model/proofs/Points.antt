@@ -1,5 +1,5 @@
 -- The range of the bound on a retention holds a curve that a run meets: all parameters 0.5, a card of stability 0.5 and
--- difficulty 5, on its tenth day (`tenth-day`).
+-- difficulty 5, on its tenth day (`tenth_day`).
 use Rattle.std.proofs.Common.{◌≡◌, ◌*◌, ◌^◌, ◌≤◌, false, List, replicate, refl, subst, lit≤}
 use lib.Ieee.{Float, inf, of_bits, of_fields, to_bits, round, sub, mul, div, neg, lt, is_nan}
 use lib.Ieee.Positive.{den}

@@ -27,8 +27,8 @@
 --   newton_step c r u                  one of Newton's steps; newton n step u: n of them
 --   solved c top r                    by Newton's steps, or by bisection
 --   next_interval_bisection curves x r, next_interval_for_state curves x r, next_interval curves s r
---   scheduled curves s r maxIvl       in whole days, from 1 to maxIvl
--- What needs more than one curve takes `curves`, a curve for each state: `curveOf w`, or those of the runtime
+--   scheduled curves s r max_ivl       in whole days, from 1 to max_ivl
+-- What needs more than one curve takes `curves`, a curve for each state: `curve_of w`, or those of the runtime
 -- (specs/Runtime).
 use Rattle.std.specs.Prelude.{ℕ, zero, suc, ◌+◌, ◌-◌, min, Bool, cond, ◌&&◌, List, pos, ◌==◌, nat_lt, slice_index_or, Float}
 use Rattle.std.specs.Float.{nan, binary32}
@@ -109,11 +109,11 @@ pls p s r = Float32.min s (p.w10 *ᶠ (pow_of (s +ᶠ 1ᶠ) p.w11 -ᶠ 1ᶠ) *�
 
 unfoldable pub sinc : StabilityParameters → Float → Float → Float → ℕ → Float
 sinc p s d r rating =
-    let hardPenalty = cond (rating == 2) p.w13 1ᶠ in
-    let easyBonus = cond (rating == 4) p.w14 1ᶠ in
+    let hard_penalty = cond (rating == 2) p.w13 1ᶠ in
+    let easy_bonus = cond (rating == 4) p.w14 1ᶠ in
     p.growth *ᶠ (eleven -ᶠ d) *ᶠ pow_of s p.decline *ᶠ (exp_of ((1ᶠ -ᶠ r) *ᶠ p.w9) -ᶠ 1ᶠ)
-    *ᶠ hardPenalty
-    *ᶠ easyBonus
+    *ᶠ hard_penalty
+    *ᶠ easy_bonus
     +ᶠ 1ᶠ
 
 unfoldable pub stability_by : StabilityParameters → Float → Float → Float → ℕ → Float
@@ -232,7 +232,7 @@ forgetting_curve curves t s = retention (curves (of_stability s)) t
 -- ---- the interval by bisection
 
 -- the upper end is doubled while the curve there is above the retention; 16 doublings reach S_MAX from 1
--- (`doubled-enough`)
+-- (`doubled_enough`)
 unfoldable pub doubled : ℕ → (Float → Float) → Float → Float → Float
 doubled zero curve r high = high
 doubled (suc n) curve r high =
@@ -311,4 +311,4 @@ unfoldable pub next_interval : Curves → Float → Float → Float
 next_interval curves s desired = next_interval_for_state curves (of_stability s) desired
 
 unfoldable pub scheduled : Curves → Float → Float → Float → Float
-scheduled curves s desired maxIvl = Float32.clamp (Float32.round (next_interval curves s desired)) 1ᶠ maxIvl
+scheduled curves s desired max_ivl = Float32.clamp (Float32.round (next_interval curves s desired)) 1ᶠ max_ivl

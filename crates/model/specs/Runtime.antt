@@ -1,8 +1,8 @@
 -- WHAT IS KEPT OF THE PARAMETERS, the Rust's `Fsrs7Runtime`: the numbers that they alone decide, and the curve of a
 -- memory state from these.
--- Of `runtimeOf w` each is what specs/Model gives of w (proofs/Runtime: `curve-is`, `init-stability-is`). Definitions
+-- Of `runtime_of w` each is what specs/Model gives of w (proofs/Runtime: `curve_is`, `init_stability_is`). Definitions
 -- only.
---   first_of w, difficulty_of w, curve_parameters_of w   its parts; the fourth is `setOf w 7` of specs/Model
+--   first_of w, difficulty_of w, curve_parameters_of w   its parts; the fourth is `set_of w 7` of specs/Model
 --   runtime_of w                       the whole
 --   SameRead w w'                     the same parameters where they are read
 --   init_stability m rating            the stability of a new card

@@ -1,4 +1,4 @@
--- What holds before each loop and is kept by each of its exchanges holds after it: `rise-keeps` and `sink-keeps` carry
+-- What holds before each loop and is kept by each of its exchanges holds after it: `rise_keeps` and `sink_keeps` carry
 -- every law of the heap.
 --   swap-first, swap-second, swap_other, swapped   the rows after an exchange, and their keys
 --   rise_keeps                                     a law that each exchange upwards keeps, and where bubble_up ends

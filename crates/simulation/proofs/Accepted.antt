@@ -24,9 +24,9 @@ pub record Accepted {C : Type 0} (i : Inputs) (s : State C) : Type 0 where
   pub deck_most : i.config.deck_size ≤ most_cards
   pub span_some : 0 < i.config.learn_span
   pub span_most : i.config.learn_span ≤ most_days
-  pub config_ok_lem : config_ok i.config ≡ true
+  pub config_passes : config_ok i.config ≡ true
   pub retention_ok : is_finite i.retention ≡ true
-  pub lists_ok_lem : lists_ok i s ≡ true
+  pub lists_pass : lists_ok i s ≡ true
   pub existing_even : length i.existing ≡ length i.existing_counts
   pub table_even : length s.table.keys ≡ length s.table.intervals
   pub cards_even : length s.cards ≡ length s.counts
@@ -67,7 +67,7 @@ accepted i s e =
     let n = length i.existing in
     let p = settings_passed (is_finite i.retention) (lists_test i s) i.parameters g n _ e in
     let c = passes (ltb (first_where (not_ok i.existing i.existing_counts) n 0) n) _ _ p.next_passes in
-    let l₁ = both (eqb n (length i.existing_counts)) _ p.lists_ok_lem in
+    let l₁ = both (eqb n (length i.existing_counts)) _ p.lists_pass in
     let l₂ = both (eqb (length s.table.keys) (length s.table.intervals)) _ l₁.1 in
     let l₃ = both (eqb (length s.cards) (length s.counts)) _ l₂.1 in
     let l₄ = both (leb g.deck_size (length s.cards)) _ l₃.1 in
@@ -82,9 +82,9 @@ accepted i s e =
       deck_most = p.deck_most;
       span_some = p.span_some;
       span_most = p.span_most;
-      config_ok_lem = p.config_ok_lem;
+      config_passes = p.config_passes;
       retention_ok = p.setting_ok;
-      lists_ok_lem = p.lists_ok_lem;
+      lists_pass = p.lists_pass;
       existing_even = eqb-true n (length i.existing_counts) l₁.0;
       table_even = eqb-true (length s.table.keys) (length s.table.intervals) l₂.0;
       cards_even = even;

@@ -90,4 +90,4 @@ setting_ok ok i s e =
 -- a run that passes has lists that are long enough, and a day or more
 pub lists_and_span : {C : Type 0} (i : Inputs) (s : State C) → checked i s ≡ check.Passed
     → (lists_ok i s ≡ true) × (0 < i.config.learn_span)
-lists_and_span i s e = let ok = accepted i s e in (ok.lists_ok_lem, ok.span_some)
+lists_and_span i s e = let ok = accepted i s e in (ok.lists_pass, ok.span_some)

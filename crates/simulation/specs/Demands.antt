@@ -69,7 +69,7 @@ module _ {C : Type 0} (R : Rules C) (i : Inputs) (s : State C) where
 
 -- A second call's lists: of any contents and long enough, with an interval table at least as long
 pub record LongerTable {C : Type 0} (i : Inputs) (s s' : State C) : Type 0 where
-  pub lists_ok_lem : lists_ok i s' ≡ true
+  pub lists_pass : lists_ok i s' ≡ true
   pub longer : length s.table.keys ≤ length s'.table.keys
 
 -- the same answer, the same turns, the same first places of all lists (rows, due counts, cards, queue) and draws; and

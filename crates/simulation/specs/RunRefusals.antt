@@ -59,7 +59,7 @@ module _ {C : Type 0} (R : Rules C) (s : State C) where
     pub queued : 0 < s.queue.len
     pub first : c ≡ front s.queue
     pub new : Bool
-    pub is_event_lem : turn_choice ≡ event_choice new
+    pub event_chosen : turn_choice ≡ event_choice new
     pub memory : Memory
     pub happens : R.model.event R.draw turn_card new turn_day s.draws ≡ event.Happened memory
     pub new-key : held_in s.table (stability_bucket memory.stability)
@@ -67,7 +67,7 @@ module _ {C : Type 0} (R : Rules C) (s : State C) where
     pub full : count_in s.table ≡ places s.table
 
   -- 9: c, the first card, has a last date and is put off from a day that counts none; no run comes to it (`Demands`,
-  -- `no-due-refusal`)
+  -- `no_due_refusal`)
   pub record DueRefused (c : ℕ) : Type 0 where
     pub queued : 0 < s.queue.len
     pub first : c ≡ front s.queue

@@ -46,7 +46,7 @@ abbrev pub rules_for : Inputs → Rules Float
 rules_for i = rules_of i.config (plain i.parameters)
 
 module _ {C : Type 0} (R : Rules C) where
-  -- one turn more than is ever taken (`ends-within`)
+  -- one turn more than is ever taken (`ends_within`)
   abbrev pub bound : State C → ℕ
   bound s = suc (s.queue.len * suc R.span)
 

@@ -26,7 +26,7 @@ fn stop_in(o: Outcome) -> Stop
     }
 }
 
-// Turns until one stops; the run stops before its bound (`Demands.ends-within`).
+// Turns until one stops; the run stops before its bound (`Demands.ends_within`).
 fn run_turns(
     cards: &mut [[f32; 6]],
     counts: &mut [[u32; 2]],

@@ -236,14 +236,14 @@ module _ {C : Type 0} (R : Rules C) (i : Inputs) (fit : Suits R i) (s s' : State
 pub passes_too : {C : Type 0} (i : Inputs) (s s' : State C) → checked i s ≡ check.Passed → lists_ok i s' ≡ true
     → checked i s' ≡ check.Passed
 unfolding check_settings
-passes_too i s s' e l = rw l (rw (accepted i s e).lists_ok_lem at e)
+passes_too i s s' e l = rw l (rw (accepted i s e).lists_pass at e)
 
 -- THE LONGER TABLE: a run that ends Ok has the same run with any lists that are long enough and a table that is as long
 -- or longer
 pub longer_table : {C : Type 0} (R : Rules C) (i : Inputs) → Suits R i → (s s' : State C) → checked i s ≡ check.Passed
     → LongerTable i s s' → next R (end_of R i s) ≡ stops stop.Ended → SameRun R i s s'
 longer_table R i fit s s' e l q =
-    let e' = passes_too i s s' e l.lists_ok_lem in
+    let e' = passes_too i s s' e l.lists_pass in
     same_run R i fit s s' e e' ⊥ (omega (arith, l.longer, (accepted i s e).table_even, (accepted i s' e').table_even))
     (λ z. absurd z) stop.Ended (inl refl) q
 

@@ -76,5 +76,5 @@ suits w i s ok = record {
   span_is = refl;
   slots = table_slots i.config (plain i.parameters)
       (λ x y. scheduled_fair (curve_of i.parameters) x y i.config.max_ivl
-      (interval-ok i.config ok.config_ok_lem));
+      (interval-ok i.config ok.config_passes));
 }

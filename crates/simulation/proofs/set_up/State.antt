@@ -1,4 +1,4 @@
--- What the calls of set-up leave, put together over plain lists: the state of `setUp`.
+-- What the calls of set-up leave, put together over plain lists: the state of `set_up`.
 use mathlib.Core.Path.{◌≡◌, refl, sym, ap, ◌∙◌}
 use mathlib.Core.List.{List, []}
 use Prim.Native.Nat.{ℕ, zero, suc}

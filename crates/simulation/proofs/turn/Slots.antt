@@ -1,5 +1,5 @@
--- What the run asks of a model's slots (`Slots`); that slots of an interval table have it (`table-slots`), and those of
--- a model without one (`plain-slots`).
+-- What the run asks of a model's slots (`Slots`); that slots of an interval table have it (`table_slots`), and those of
+-- a model without one (`plain_slots`).
 use mathlib.Core.Path.{◌≡◌, refl, sym, ◌∙◌}
 use mathlib.Core.Bool.{true, false}
 use native.Mathlib.Omega.{arith}

@@ -1,4 +1,4 @@
--- When the next turn stops the run, and how: `stops-iff` says that it is by x exactly on the `StopCondition` of x.
+-- When the next turn stops the run, and how: `stops_iff` says that it is by x exactly on the `StopCondition` of x.
 use mathlib.Core.Path.{◌≡◌, refl, sym, ap, ◌∙◌}
 use mathlib.Core.Bool.{Bool, true, false}
 use mathlib.Core.Logic.{◌↔◌}
@@ -102,7 +102,7 @@ module _ (w : DrawRule) (g : SimulatorConfig) (x : Scalars) (s : State Float) (o
           queued = some;
           first = refl;
           new = new;
-          is_event_lem = e;
+          event_chosen = e;
           memory = y;
           happens = h;
           new-key = f.0;
@@ -168,7 +168,7 @@ module _ (w : DrawRule) (g : SimulatorConfig) (x : Scalars) (s : State Float) (o
       ≡ refuses (refusal.TableFull c) = rw h.happens
       (event_full R s c k h.new d h.memory
       (R.model.slot s.table h.memory.stability k.desired_retention) f) in
-      turn_is (event_choice h.new) h.queued h.is_event_lem ∙ acts h.new ∙ full
+      turn_is (event_choice h.new) h.queued h.event_chosen ∙ acts h.new ∙ full
       ∙ ap (λ (z : ℕ). refuses (refusal.TableFull z)) (sym h.first)
     where
       acts : (new : Bool) → act R s c k d (event_choice new) ≡ event_on R s c k new d

@@ -1,4 +1,4 @@
--- Set-up leaves `setUp`, and the turns from there `finished`; what the entry accepts keeps the bound within a u32.
+-- Set-up leaves `set_up`, and the turns from there `finished`; what the entry accepts keeps the bound within a u32.
 use native.Mathlib.Omega.{arith}
 use mathlib.Core.Path.{◌∙◌}
 use Rattle.events.specs.Scalars.{kept}

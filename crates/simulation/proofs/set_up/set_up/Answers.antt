@@ -1,4 +1,4 @@
--- The calls of set-up leave, one after the other, the parts of `setUp`; nothing of it reads the parameters, the seed or
+-- The calls of set-up leave, one after the other, the parts of `set_up`; nothing of it reads the parameters, the seed or
 -- the table's keys.
 use mathlib.Core.Path.{refl, ◌∙◌}
 use Rattle.simulation.proofs.set_up.State.{set_up_is}
