@@ -47,7 +47,7 @@ answer t = cond t.begun (judged t.rounds t.state) verdict.Open
 
 -- ---- a stepper driven by its host
 
--- a verdict in the search's terms; an open one is never asked for (`driven-closed`)
+-- a verdict in the search's terms; an open one is never asked for (`closed` of proofs/Driven)
 unfoldable pub told : {R : Type 0} → Brent → Verdict → Search.Answer R
 told s (verdict.Found x) = Search.found x s.fx s.done
 told s verdict.NotFound = Search.not_found s.done

@@ -151,7 +151,8 @@ fn of_nan(x: f32, y: f32) -> f32
         }
         return y;
     }
-    if f32::to_bits(y) % 0x80000000 == 0 {
+    let zero = f32::to_bits(y) % 0x80000000 == 0;
+    if zero {
         return f32::from_bits(0x3F800000);
     }
     x

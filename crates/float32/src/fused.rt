@@ -16,9 +16,10 @@ fn shift_right_jam(x: u64, d: u64) -> u64
         if x == 0 { 0 } else { 1 }
     } else {
         let h = x >> d;
+        let odd = h % 2 == 1;
         if h << d == x {
             h
-        } else if h % 2 == 1 {
+        } else if odd {
             h
         } else {
             h + 1

@@ -239,7 +239,8 @@ pub fn scheduled_interval(
         };
         return Slot::Enter(place, s, r, model.scheduled(stability, retention, most));
     };
-    if certifies_rounded_interval(model.curve(stability), stability, retention, held, most) {
+    let sure = certifies_rounded_interval(model.curve(stability), stability, retention, held, most);
+    if sure {
         Slot::Keep(held)
     } else {
         Slot::Enter(place, s, r, model.scheduled(stability, retention, most))

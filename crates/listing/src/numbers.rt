@@ -14,10 +14,12 @@ fn digit_of(b: u8) -> u64
     if b < 58 {
         return (b - 48) as u64;
     }
-    if b < 65 {
+    let low = b < 65;
+    if low {
         return 16;
     }
-    if b < 71 {
+    let letter = b < 71;
+    if letter {
         return (b - 55) as u64;
     }
     16

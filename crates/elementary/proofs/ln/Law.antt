@@ -2,7 +2,7 @@
 --   range_of, fixed_of                       the ranges of x's parts, and ln_fixed from them
 --   fixed-lt, fixed_gap                      ln_fixed from above, and that it is not just below 159 ln 2
 --   rounded-mod                              no pattern is a NaN's
---   at_near, at-zero, at_infinity, at_rest   ln_at of a finite x above 0, of a zero, of +infinity, and else
+--   at_near, at_zero, at_infinity, at_rest   ln_at of a finite x above 0, of a zero, of +infinity, and else
 --   of_x, of_nan                             ln_of at a number, and at NaN
 --   ln_law                                   the law
 use Rattle.std.proofs.Common.{◌≡◌, ℕ, ◌+◌, ◌*◌, ◌%◌, ◌^◌, ◌<◌, ◌≤◌, true, false, not, T, pos, sym, refl, ap, ◌∙◌, subst, ap₂, arith, le-ltb, lt-ltb, eq-eqb, ne_eqb}

@@ -6,7 +6,7 @@
 --   inf_plus, inf_minus, inf_le              inf_bits by the sign of y, and its range
 --   to_inf_low, to_inf_high                  to_inf_bits for x below 1, and from 1 up
 --   num_zero, num_inf, num_to_inf, num-pow   num_bits: x is 0, x is +infinity, y is infinite, and else
---   at-zero, at_one, at-below, at-num        pow_at: y is 0, x is 1, x is below 0, x is from 0 up
+--   at_zero, at_one, at-below, at-num        pow_at: y is 0, x is 1, x is below 0, x is from 0 up
 --   at_regular                               and where both are finite and x is above 0
 --   nan_not_one                              NaN is not 1
 --   of_nan-y, of_nan_y_one                   y is NaN

@@ -21,23 +21,23 @@ returns-in_default c =
     c.retention_bucket-r.ensures
     (sym c.lookup-entry.ensures.entry ∙ c.in-Free.is) c.scheduled.ensures
 
-pub returns-then-certifies_rounded_interval : goal.returns-then-certifies_rounded_interval
-returns-then-certifies_rounded_interval c =
+pub returns-then-sure : goal.returns-then-sure
+returns-then-sure c =
     slot_held (curve_of c.args.model) c.args.stability c.args.retention c.args.most
     (table c.args.keys.now c.args.intervals.now) c.stability_bucket-s.result
     c.retention_bucket-r.result c.stability_bucket-s.ensures.value
     c.retention_bucket-r.ensures
     (sym c.lookup-entry.ensures.entry ∙ c.in-Found.is) c.curve.result
-    c.certifies_rounded_interval.result
-    c.curve.ensures c.certifies_rounded_interval.ensures c.if-certifies_rounded_interval.true
+    c.certifies_rounded_interval-sure.result
+    c.curve.ensures c.certifies_rounded_interval-sure.ensures c.if-sure.true
 
-pub returns-else-certifies_rounded_interval : goal.returns-else-certifies_rounded_interval
-returns-else-certifies_rounded_interval c =
+pub returns-else-sure : goal.returns-else-sure
+returns-else-sure c =
     slot_anew (curve_of c.args.model) c.args.stability c.args.retention c.args.most
     (table c.args.keys.now c.args.intervals.now) c.stability_bucket-s.result
     c.retention_bucket-r.result c.stability_bucket-s.ensures.value
     c.retention_bucket-r.ensures
     (sym c.lookup-entry.ensures.entry ∙ c.in-Found.is) c.curve.result
-    c.certifies_rounded_interval.result
-    c.curve.ensures c.certifies_rounded_interval.ensures c.if-certifies_rounded_interval.false
-    c.scheduled-else-certifies_rounded_interval.ensures
+    c.certifies_rounded_interval-sure.result
+    c.curve.ensures c.certifies_rounded_interval-sure.ensures c.if-sure.false
+    c.scheduled-else-sure.ensures

@@ -25,18 +25,18 @@ returns-then-y c =
     let ey : c.args.y ≡ nan = is_nan_lem c.args.y c.if-y.true in
     ey ∙ sym (of_nan-y c.args.x c.args.y ey c.if-x-eq1065353216.false)
 
-pub float_to_bits-y : goal.float_to_bits-y
-float_to_bits-y c = is_number c.args.y c.if-y.false
+pub float_to_bits-zero : goal.float_to_bits-zero
+float_to_bits-zero c = is_number c.args.y c.if-y.false
 
-pub float_from_bits-result-then-y-eq0 : goal.float_from_bits-result-then-y-eq0
-float_from_bits-result-then-y-eq0 c = no_nan_bits 0x3F800000 (lit≤ tt)
+pub float_from_bits-result-then-zero : goal.float_from_bits-result-then-zero
+float_from_bits-result-then-zero c = no_nan_bits 0x3F800000 (lit≤ tt)
 
-pub returns-then-y-eq0 : goal.returns-then-y-eq0
-returns-then-y-eq0 c =
+pub returns-then-zero : goal.returns-then-zero
+returns-then-zero c =
     sym (of_nan_x_zero c.args.x c.args.y (is_number c.args.y c.if-y.false)
-    (c.requires (is_number c.args.y c.if-y.false)) c.if-y-eq0.true)
+    (c.requires (is_number c.args.y c.if-y.false)) c.if-zero.true)
 
 pub returns : goal.returns
 returns c =
     let ex : c.args.x ≡ nan = c.requires (is_number c.args.y c.if-y.false) in
-    ex ∙ sym (of_nan-x c.args.x c.args.y (is_number c.args.y c.if-y.false) ex c.if-y-eq0.false)
+    ex ∙ sym (of_nan-x c.args.x c.args.y (is_number c.args.y c.if-y.false) ex c.if-zero.false)

@@ -24,10 +24,10 @@ pub returns-then-h-d : goal.returns-then-h-d
 returns-then-h-d c = inl
     (sym (back_up c.args.x (2 ^ c.args.d) (pow_pos c.args.d) 64 c.ranges.x.fits) ∙ c.if-h-d.true)
 
-pub returns-then-h-eq1 : goal.returns-then-h-eq1
-returns-then-h-eq1 c = jam_odd c.args.x c.args.d c.if-h-eq1.true
+pub returns-then-odd : goal.returns-then-odd
+returns-then-odd c = jam_odd c.args.x c.args.d c.if-odd.true
     (differs c.args.x c.args.d c.ranges.x.fits c.if-h-d.false)
 
-pub returns-else-h-eq1 : goal.returns-else-h-eq1
-returns-else-h-eq1 c = jam_even c.args.x c.args.d c.if-h-eq1.false
+pub returns-else-odd : goal.returns-else-odd
+returns-else-odd c = jam_even c.args.x c.args.d c.if-odd.false
     (differs c.args.x c.args.d c.ranges.x.fits c.if-h-d.false)

@@ -11,15 +11,15 @@ pub returns-then-b-lt58 : goal.returns-then-b-lt58
 unfolding digit
 returns-then-b-lt58 c = rw (le-leb 48 _ c.if-b-lt48.false, le-leb c.args.b 57 (omega arith))
 
-pub returns-then-b-lt65 : goal.returns-then-b-lt65
+pub returns-then-low : goal.returns-then-low
 unfolding digit
-returns-then-b-lt65 c =
+returns-then-low c =
     let a = c.args in
     rw (le-leb 48 _ c.if-b-lt48.false, lt-leb a.b 57 (omega arith), lt-leb 65 a.b (omega arith))
 
-pub returns-then-b-lt71 : goal.returns-then-b-lt71
+pub returns-then-letter : goal.returns-then-letter
 unfolding digit
-returns-then-b-lt71 c =
+returns-then-letter c =
     let a = c.args in
     rw (
       le-leb 48 _ c.if-b-lt48.false,
