@@ -28,7 +28,7 @@ use intervals::Slot;
 use model::Curve;
 use queue::CardPriorityQueue;
 
-// ---- what a turn reads of the lists
+// ---- what a turn reads of the lists: over `&Lists`, since one call can't borrow two lists of a `&mut Lists` to read
 
 // The queue's first card, which has the turn: its place in the lists, its row, and its day.
 #[derive(Clone, Copy)]
@@ -74,10 +74,18 @@ fn slot_for(lists: &Lists<'_>, rules: Rules, stability: f32, retention: f32) -> 
 {
     let most = rules.config.max_ivl;
     let model = rules.model;
-    intervals::scheduled_interval(model, stability, retention, most, lists.keys, lists.intervals)
+    intervals::scheduled_interval(
+        model,
+        stability,
+        retention,
+        most,
+        lists.keys,
+        lists.intervals,
+    )
 }
 
-// ---- the queue, of the first `len` of its lent rows: the first card gets another key, or leaves
+// ---- the queue, of the first `len` of its lent rows: the first card gets another key, or leaves. Over the rows alone:
+// a queue made of a list of `Lists` was tried, and what it leaves there proved by no answer that names what it did.
 
 fn change_front(rows: &mut [[u64; 2]], len: u32, key: u64)
     ensures { queue rows.new len ≡ front_changed (queue rows.old len) key }
@@ -190,7 +198,13 @@ fn retire_step(
     ensures same { SameLists lists.old lists.new }
 {
     let curve = rules.model.curve(first.card.stability);
-    add_forgetting_curve(lists.memorized, rules, curve, first.card, rules.config.learn_span);
+    add_forgetting_curve(
+        lists.memorized,
+        rules,
+        curve,
+        first.card,
+        rules.config.learn_span,
+    );
     let queued = pop(lists.rows, at.queued);
     Ok(Some(Place { queued, ..at }))
 }
