@@ -32,6 +32,7 @@ pub fn reviewed_at(rows: &[[u32; 4]], d: u32) -> u32
 }
 
 // One more in a column of day d.
+#[tactic(auto, using(crate::proofs::Laws::saturated, std::proofs::lemmas::List::set_past), unfolding(crate::specs::Counts::add_one))]
 fn add_one(rows: &mut [[u32; 4]], column: usize, d: u32)
     requires { column < 4 }
     ensures { rows.new ≡ add_one rows.old column d }
