@@ -1,0 +1,199 @@
+-- The tests before that of the cards pass on what follows them, or fail whatever follows.
+--   PassesOn f        what f does with the tests that follow
+--   goes_on, stays    what passes with nothing behind it, and what fails
+--   parameters_pass, parameters_fail, settings_pass, settings_fail   so for these tests
+--   raised            a refusal that `?` passes on is the same
+--   passes            one test that passes
+--   SettingsOk, settings_passed   what tests that pass say
+--   lists-told        refusal 6 is about no list exactly where the lists pass
+use mathlib.Core.Path.{◌≡◌, refl, sym, ap, ◌∙◌}
+use mathlib.Core.Bool.{Bool, true, false, not, cond, ◌||◌, ◌&&◌}
+use mathlib.Core.List.{List}
+use Prim.Native.Nat.{ℕ, suc, ◌≤◌, ◌<◌}
+use native.Mathlib.Omega.{arith}
+use borrow.Author.Tests.{eqb-false, ltb-false, ne_eqb, lt-ltb, le-ltb}
+use lib.Dec.{eqb, leb, ltb}
+use lib.ListN.{length}
+use lib.Ieee.{Float}
+use Rattle.cards.specs.declared.SimulatorConfig.{SimulatorConfig}
+use Rattle.cards.specs.Config.{config_ok}
+use Rattle.days.specs.Due.{due_days}
+use Rattle.entry.specs.declared.Refusal.{Refusal}
+use Rattle.entry.specs.declared.Refusal.TheVariants as refusal
+use Rattle.std.specs.Prelude.{Ok, Err, IsErrAnd, Some, None}
+use Rattle.entry.proofs.FirstWhere.{first_found, first_none, Found}
+use Rattle.entry.specs.declared.lists.Lengths.{Lengths}
+use Rattle.entry.specs.Entry.{Check, passed, first_where, not_finite, fail_if, check_parameters, lengths_ok, check_first, not_ok}
+use Rattle.entry.specs.Entry.{most_cards, most_days, short_list, check_settings}
+use Rattle.turns.proofs.Logic.{not-one, both, neither, not-false}
+
+-- what a test, or a chain of tests, does with the tests that follow
+data PassesOn (f : Check → Check) : Type 0 where
+  passing : ((c : Check) → f c ≡ c) → PassesOn f
+  failing : (r : Refusal) → ((c : Check) → f c ≡ Err r) → PassesOn f
+
+fail_on : (b : Bool) (r : Refusal) → PassesOn (fail_if b r)
+fail_on true r = failing r (λ c. refl)
+fail_on false r = passing (λ c. refl)
+
+infixr 20 ◌then◌
+◌then◌ : {f g : Check → Check} → PassesOn f → PassesOn g → PassesOn (λ c. f (g c))
+(passing p) then (passing q) = passing (λ c. p _ ∙ q c)
+(passing p) then (failing r q) = failing r (λ c. p _ ∙ q c)
+(failing r p) then q = failing r (λ c. p _)
+
+not_passed : (r : Refusal) → passed ≡ Err r → ⊥
+not_passed r e = not-one cc
+
+same_refusal : (r r' : Refusal) → (let x : Check = Err r in x ≡ Err r') → r ≡ r'
+same_refusal r r' e = cc
+
+goes_on : {f : Check → Check} → PassesOn f → f passed ≡ passed → (next : Check) → f next ≡ next
+goes_on (passing p) e next = p next
+goes_on (failing r p) e next = absurd (not_passed r (sym e ∙ p passed))
+
+stays : {f : Check → Check} → PassesOn f → (r : Refusal) → f passed ≡ Err r → (next : Check) → f next ≡ Err r
+stays (passing p) r e next = absurd (not_passed r (sym (p passed) ∙ e))
+stays (failing r' p) r e next = p next ∙ ap (λ (x : Refusal). Err x) (same_refusal r' r (sym (p passed) ∙ e))
+
+parameters_on : (w : List Float) → PassesOn (check_parameters w)
+unfolding check_parameters
+parameters_on w =
+    fail_on (ltb (length w) 34) (refusal.Parameters 34)
+    then fail_on (ltb (first_where (not_finite w) 34 0) 34) (refusal.Parameters (first_where (not_finite w) 34 0))
+
+-- a refusal that `?` passes on is the same
+pub raised : (r : Check) (e : Refusal) → IsErrAnd r (λ x. x ≡ e) → r ≡ Err e
+raised (Ok x) e h = absurd h
+raised (Err x) e h = ap (λ (z : Refusal). Err z) h
+
+pub passes : (b : Bool) (r : Refusal) (next : Check) → fail_if b r next ≡ passed
+    → (b ≡ false) × (next ≡ passed)
+passes true r next e = absurd (not-one cc)
+passes false r next e = (refl, e)
+
+module _ (ok lists : Bool) (w : List Float) (g : SimulatorConfig) (n : ℕ) where
+  settings_on : PassesOn (check_settings ok lists w g n)
+  unfolding check_settings
+  settings_on =
+      parameters_on w
+      then (fail_on (eqb g.deck_size 0 || ltb most_cards g.deck_size) refusal.DeckSize
+      then (fail_on (eqb g.learn_span 0 || ltb most_days g.learn_span) refusal.LearnSpan
+      then (fail_on (not (config_ok g && ok)) refusal.Config
+      then (fail_on (not lists) refusal.Lists
+      then fail_on (ltb g.deck_size n) refusal.TooManyCards))))
+
+  pub settings_pass : check_settings ok lists w g n passed ≡ passed → (next : Check)
+      → check_settings ok lists w g n next ≡ next
+  settings_pass e next = goes_on settings_on e next
+
+  pub settings_fail : (r : Refusal) → check_settings ok lists w g n passed ≡ Err r → (next : Check)
+      → check_settings ok lists w g n next ≡ Err r
+  settings_fail r e next = stays settings_on r e next
+
+  pub parameters_fail : (r : Refusal) → check_parameters w passed ≡ Err r → check_settings ok lists w g n passed ≡ Err r
+  unfolding check_settings
+  parameters_fail r e = stays (parameters_on w) r e _
+
+  -- where the parameters pass, the tests behind them decide
+  pub parameters_pass : check_parameters w passed ≡ passed → check_settings ok lists w g n passed
+      ≡ fail_if (eqb g.deck_size 0 || ltb most_cards g.deck_size) refusal.DeckSize
+      (fail_if (eqb g.learn_span 0 || ltb most_days g.learn_span) refusal.LearnSpan
+      (fail_if (not (config_ok g && ok)) refusal.Config
+      (fail_if (not lists) refusal.Lists
+      (fail_if (ltb g.deck_size n) refusal.TooManyCards passed))))
+  unfolding check_settings
+  parameters_pass e = goes_on (parameters_on w) e _
+
+  -- what the tests ask, one after the other, and that those which follow pass
+  pub record SettingsOk (next : Check) : Type 0 where
+    pub parameters_long : 34 ≤ length w
+    pub deck_some : 0 < g.deck_size
+    pub deck_most : g.deck_size ≤ most_cards
+    pub span_some : 0 < g.learn_span
+    pub span_most : g.learn_span ≤ most_days
+    pub config_passes : config_ok g ≡ true
+    pub setting_ok : ok ≡ true
+    pub lists_pass : lists ≡ true
+    pub existing_few : n ≤ g.deck_size
+    pub next_passes : next ≡ passed
+
+  pub settings_passed : (next : Check) → check_settings ok lists w g n next ≡ passed → SettingsOk next
+  unfolding check_settings check_parameters
+  settings_passed next e =
+      let p₁ = passes (ltb (length w) 34) _ _ e in
+      let p₂ = passes (ltb (first_where (not_finite w) 34 0) 34) _ _ p₁.1 in
+      let p₃ = passes (eqb g.deck_size 0 || ltb most_cards g.deck_size) _ _ p₂.1 in
+      let p₄ = passes (eqb g.learn_span 0 || ltb most_days g.learn_span) _ _ p₃.1 in
+      let p₅ = passes (not (config_ok g && ok)) _ _ p₄.1 in
+      let p₆ = passes (not lists) _ _ p₅.1 in
+      let p₇ = passes (ltb g.deck_size n) _ _ p₆.1 in
+      let deck = neither (eqb g.deck_size 0) (ltb most_cards g.deck_size) p₃.0 in
+      let span = neither (eqb g.learn_span 0) (ltb most_days g.learn_span) p₄.0 in
+      let config = both (config_ok g) ok (not-false _ p₅.0) in
+      record {
+        parameters_long = ltb-false (length w) 34 p₁.0;
+        deck_some = positive g.deck_size deck.0;
+        deck_most = ltb-false most_cards g.deck_size deck.1;
+        span_some = positive g.learn_span span.0;
+        span_most = ltb-false most_days g.learn_span span.1;
+        config_passes = config.0;
+        setting_ok = config.1;
+        lists_pass = not-false lists p₆.0;
+        existing_few = ltb-false g.deck_size n p₇.0;
+        next_passes = p₇.1;
+      }
+    where
+      positive : (m : ℕ) → eqb m 0 ≡ false → 0 < m
+      positive m h = omega (arith, eqb-false m 0 h)
+
+-- ---- what the searches of the parameters and of the cards say
+pub parameters_bad : (w : List Float) (i : ℕ) → 34 ≤ length w → Found (not_finite w) 34 (Some i)
+    → check_parameters w passed ≡ Err (refusal.Parameters i)
+unfolding check_parameters
+parameters_bad w i l f =
+    let e = first_found (not_finite w) 34 i f.1 f.2 (λ k h. f.3 k (omega arith) h) in
+    rw (le-ltb (length w) 34 l, e, lt-ltb i 34 f.1)
+
+pub parameters_ok : (w : List Float) → 34 ≤ length w → Found (not_finite w) 34 None → check_parameters w passed ≡ passed
+unfolding check_parameters
+parameters_ok w l f =
+    let e = first_none (not_finite w) 34 (λ k h. f k (omega arith) h) in
+    rw (le-ltb (length w) 34 l, e)
+
+pub cards_bad : (es : List (List Float)) (ns : List (List ℕ)) (n i : ℕ) → Found (not_ok es ns) n (Some i)
+    → check_first es ns n ≡ Err (refusal.ExistingCard i)
+unfolding check_first
+cards_bad es ns n i f =
+    let e = first_found (not_ok es ns) n i f.1 f.2 (λ k h. f.3 k (omega arith) h) in
+    rw (e, lt-ltb i n f.1)
+
+pub cards_ok : (es : List (List Float)) (ns : List (List ℕ)) (n : ℕ) → Found (not_ok es ns) n None
+    → check_first es ns n ≡ passed
+unfolding check_first
+cards_ok es ns n f =
+    let e = first_none (not_ok es ns) n (λ k h. f k (omega arith) h) in
+    rw (e, le-ltb n n (omega arith))
+
+told : (b : Bool) (k : ℕ) {rest : Bool} (n : ℕ) → rest ≡ eqb n 0 → (b && rest) ≡ eqb (cond (not b) (suc k) n) 0
+told true k n e = e
+told false k n e = sym (ne_eqb (suc k) 0 (λ z. omega (arith, z)))
+
+pub lists-told : (g : SimulatorConfig) (n m : ℕ) (x : Lengths) → lengths_ok g n m x ≡ eqb (short_list g n m x) 0
+unfolding lengths_ok short_list
+lists-told g n m x =
+    let deck = g.deck_size in
+    let span = g.learn_span in
+    told (eqb n m) 0 _
+    (told (eqb x.keys x.intervals) 1 _
+    (told (eqb x.cards x.counts) 2 _
+    (told (leb deck x.cards) 3 _
+    (told (leb deck x.rows) 4 _
+    (told (leb span x.days) 5 _
+    (told (leb span x.costs) 6 _
+    (told (leb span x.memorized) 7 _
+    (last (leb (due_days span) x.due)))))))))
+  where
+    last : (b : Bool) → b ≡ eqb (cond (not b) 9 0) 0
+    last true = refl
+    last false = refl
