@@ -5,6 +5,7 @@ use mathlib.Core.List.{List, [], ◌∷◌}
 use Prim.Native.Nat.{ℕ, zero, suc}
 use lib.Dec.{leb}
 use lib.Ieee.{Float}
+use Rattle.std.specs.Prelude.{Option, Some, None}
 use Rattle.float32.specs.Ops.{◌+ᶠ◌}
 use Rattle.draws.specs.Draws.{DrawRule, recalled}
 use Rattle.cards.specs.declared.SimulatorConfig.{SimulatorConfig}
@@ -12,10 +13,8 @@ use Rattle.cards.specs.declared.Card.{Card}
 use Rattle.cards.specs.Config.{row_of}
 use Rattle.events.specs.declared.ShortTerm.{ShortTerm}
 use Rattle.events.specs.declared.Memory.{Memory}
-use Rattle.events.specs.declared.Event.{Event}
-use Rattle.events.specs.declared.Event.TheVariants as event
 use Rattle.events.specs.Scalars.{Scalars}
-use Rattle.events.specs.Events.{of_rating, short_step, short_steps, memory_of, chance_ok, chance_on, pick_event}
+use Rattle.events.specs.Events.{of_rating, short_step, short_steps, memory_of, chance_ok, chance_on}
 use Rattle.events.specs.Events.{learning_limit, first_of, learning, success_rating, success, failed_of, lapse}
 use Rattle.events.specs.Events.{reviewing, event_at, event_of}
 use Rattle.events.specs.Drawn.{Drawn, kind_as, short_ratings, learning_ratings, lapse_ratings, review_ratings}
@@ -44,11 +43,11 @@ steps_cost w x transitions costs limit (suc n) t = go (leb limit t.consecutive |
 
 module _ (w : DrawRule) (g : SimulatorConfig) (x : Scalars) where
   -- of an event that came about
-  abbrev Costs : Bool → Drawn → Event → Type 0
-  Costs new rs (event.Happened m) = m.cost ≡ cost_of g (kind_as new m.recalled rs)
-  Costs new rs event.ChanceOutOfRange = Unit {0}
+  abbrev Costs : Bool → Drawn → Option Memory → Type 0
+  Costs new rs (Some m) = m.cost ≡ cost_of g (kind_as new m.recalled rs)
+  Costs new rs None = Unit {0}
 
-  learning_cost : (state : ℕ) → Costs true (learning_ratings w g x state) (event.Happened (learning w g x state))
+  learning_cost : (state : ℕ) → Costs true (learning_ratings w g x state) (Some (learning w g x state))
   unfolding learning memory_of
   learning_cost state =
       let first = first_of w g x state in
@@ -56,12 +55,12 @@ module _ (w : DrawRule) (g : SimulatorConfig) (x : Scalars) where
       (learning_limit g first.rating) 5 first
 
   success_cost : (k : Card) (chance : Float) (state : ℕ)
-      → Costs false (success_rating w g x state ∷ []) (event.Happened (success w g x k chance state))
+      → Costs false (success_rating w g x state ∷ []) (Some (success w g x k chance state))
   unfolding success
   success_cost k chance state = refl
 
   lapse_cost : (k : Card) (chance : Float) (state : ℕ)
-      → Costs false (lapse_ratings w g x k chance state) (event.Happened (lapse w g x k chance state))
+      → Costs false (lapse_ratings w g x k chance state) (Some (lapse w g x k chance state))
   unfolding lapse memory_of
   lapse_cost k chance state =
       ap (λ (z : Float). of_rating (row_of g.state_rating_costs 1) 1 +ᶠ z)
@@ -76,8 +75,7 @@ module _ (w : DrawRule) (g : SimulatorConfig) (x : Scalars) where
       go : (a b : Bool)
           → Costs false (cond b (success_rating w g x (w.after state) ∷ [])
           (lapse_ratings w g x k chance (w.after state)))
-          (pick_event a (pick_event b (event.Happened (success w g x k chance (w.after state)))
-          (event.Happened (lapse w g x k chance (w.after state)))) event.ChanceOutOfRange)
+          (cond a (Some (cond b (success w g x k chance (w.after state)) (lapse w g x k chance (w.after state)))) None)
       go true true = success_cost k chance (w.after state)
       go true false = lapse_cost k chance (w.after state)
       go false b = tt
@@ -89,7 +87,7 @@ module _ (w : DrawRule) (g : SimulatorConfig) (x : Scalars) where
   all-costs k false day state = reviewing_cost k (chance_on x k day) state
 
   pub event_cost : (k : Card) (new : Bool) (day state : ℕ) (m : Memory) → event_of w g x k new day state
-      ≡ event.Happened m
+      ≡ Some m
       → m.cost ≡ cost_of g (kind_as new m.recalled (ratings_of w g x k new day state))
-  event_cost k new day state m e = subst (λ (z : Event). Costs new (ratings_of w g x k new day state) z) e
+  event_cost k new day state m e = subst (λ (z : Option Memory). Costs new (ratings_of w g x k new day state) z) e
       (all-costs k new day state)

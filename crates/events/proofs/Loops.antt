@@ -5,7 +5,7 @@
 use mathlib.Core.Path.{◌≡◌, refl, sym, ap, ◌∙◌, fun_ext}
 use mathlib.Core.Bool.{Bool, true, false, ◌||◌, cond}
 use mathlib.Core.List.{List}
-use Prim.Native.Nat.{ℕ, zero, suc, ◌-◌, ◌≤◌, ◌<◌}
+use Prim.Native.Nat.{ℕ, zero, suc, ◌+◌, ◌≤◌, ◌<◌}
 use native.Mathlib.Omega.{arith}
 use borrow.Author.Tests.{le-leb, lt-leb}
 use lib.Dec.{leb}
@@ -34,16 +34,15 @@ module _ (w : DrawRule) (x : Scalars) (transitions costs : List Float) (limit : 
       go true = refl
       go false = rw (le-leb 4 t.rating h)
 
-  pub steps_on : (n : ℕ) (t t' : ShortTerm) → 0 < n → t.consecutive < limit → t.rating < 4
+  pub steps_on : (m n : ℕ) (t t' : ShortTerm) → n ≡ m + 1 → t.consecutive < limit → t.rating < 4
       → t' ≡ short_step w x transitions costs t
-      → short_steps w x transitions costs limit (n - 1) t' ≡ short_steps w x transitions costs limit n t
-  steps_on n t t' p h k e = rw e
-      (sym (ap (λ (z : ℕ). short_steps w x transitions costs limit z t) (let z : n ≡ suc (n - 1) = omega arith in z)
-      ∙ one (n - 1)))
+      → short_steps w x transitions costs limit m t' ≡ short_steps w x transitions costs limit n t
+  steps_on m n t t' p h k e = rw e
+      (sym (ap (λ (z : ℕ). short_steps w x transitions costs limit z t) (let z : n ≡ suc m = omega arith in z) ∙ one))
     where
-      one : (m : ℕ) → short_steps w x transitions costs limit (suc m) t ≡ short_steps w x transitions costs limit m
+      one : short_steps w x transitions costs limit (suc m) t ≡ short_steps w x transitions costs limit m
           (short_step w x transitions costs t)
-      one m = unfold short_steps in rw (lt-leb limit t.consecutive h, lt-leb 4 t.rating k)
+      one = unfold short_steps in rw (lt-leb limit t.consecutive h, lt-leb 4 t.rating k)
 
 -- THE MODEL KEPT BY VALUE is the model
 pub kept_is : (w : List Float) → kept (Runtime.runtime_of w) ≡ plain w

@@ -8,9 +8,9 @@
 --     learning_limit g rating              how many good ratings end a learning
 --     learning w g x state                a learning
 --     success w g x k chance state, lapse w g x k chance state        a review, recalled and not
---     reviewing w g x k chance state      a review, or refusal 7
+--     reviewing w g x k chance state      a review; None is refusal 7
 --     event_at w g x k new chance state, event_of w g x k new day state         an event at a chance, and on a day
-use Rattle.std.specs.Prelude.{ℕ, zero, suc, ◌+◌, ◌-◌, min, Bool, true, false, ◌&&◌, ◌||◌, cond, List, eqb, leb, ltb, get_or, pos, Float}
+use Rattle.std.specs.Prelude.{ℕ, zero, suc, ◌+◌, ◌-◌, min, Bool, true, false, ◌&&◌, ◌||◌, cond, List, eqb, leb, ltb, get_or, pos, Float, Option, Some, None}
 use Rattle.std.specs.Float.{nan, binary32}
 use Rattle.std.specs.Float.Ieee.{of_int, le}
 use Rattle.float32.specs.Float32.{clamp}
@@ -23,8 +23,6 @@ use Rattle.cards.specs.declared.Card.{Card}
 use Rattle.cards.specs.Config.{row_of}
 use Rattle.events.specs.declared.ShortTerm.{ShortTerm}
 use Rattle.events.specs.declared.Memory.{Memory}
-use Rattle.events.specs.declared.Event.{Event}
-use Rattle.events.specs.declared.Event.TheVariants as event
 use Rattle.events.specs.Scalars.{Scalars}
 
 -- a rating from an index of its weight: 1 to 4 by four weights, 2 to 4 by three
@@ -80,10 +78,6 @@ chance_ok chance = le 0ᶠ chance && le chance 1ᶠ
 -- the chance to recall a card on a day
 unfoldable pub chance_on : Scalars → Card → ℕ → Float
 chance_on x k day = x.chance (of_int binary32 (pos day) -ᶠ k.last_date) k.stability
-
-abbrev pub pick_event : Bool → Event → Event → Event
-pick_event true a b = a
-pick_event false a b = b
 
 -- the first rating 3 or 4 counts as one of the learning steps
 abbrev pub learning_limit : SimulatorConfig → ℕ → ℕ
@@ -144,17 +138,15 @@ module _ (w : DrawRule) (g : SimulatorConfig) (x : Scalars) where
       memory_of t (of_rating (row_of g.state_rating_costs 1) 1 +ᶠ t.cost) false
 
   -- a review at a chance to recall draws once, whatever the chance
-  unfoldable pub reviewing : Card → Float → ℕ → Event
+  unfoldable pub reviewing : Card → Float → ℕ → Option Memory
   reviewing k chance state =
       let draws = w.after state in
-      pick_event (chance_ok chance)
-      (pick_event (recalled chance (w.word state)) (event.Happened (success k chance draws))
-      (event.Happened (lapse k chance draws)))
-      event.ChanceOutOfRange
+      cond (chance_ok chance) (Some (cond (recalled chance (w.word state)) (success k chance draws) (lapse k chance draws)))
+      None
 
   -- a learning of a new card, or a review at a chance
-  unfoldable pub event_at : Card → Bool → Float → ℕ → Event
-  event_at k new chance state = pick_event new (event.Happened (learning state)) (reviewing k chance state)
+  unfoldable pub event_at : Card → Bool → Float → ℕ → Option Memory
+  event_at k new chance state = cond new (Some (learning state)) (reviewing k chance state)
 
-  unfoldable pub event_of : Card → Bool → ℕ → ℕ → Event
+  unfoldable pub event_of : Card → Bool → ℕ → ℕ → Option Memory
   event_of k new day state = event_at k new (chance_on x k day) state

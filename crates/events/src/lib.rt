@@ -1,12 +1,11 @@
 // What an event, a learning or a review, does to a card's memory.
 #![tactic(auto)]
 
-ghost use Rattle.std.specs.Prelude.{◌≡◌, ◌-◌, ◌≤◌, ◌<◌};
+ghost use Rattle.std.specs.Prelude.{◌≡◌, ◌+◌, ◌-◌, ◌≤◌, ◌<◌, min};
 ghost use Rattle.draws.specs.Draws.{word, rating, split_mix};
 ghost use Rattle.events.specs.Scalars.{kept};
-ghost use Rattle.events.specs.Events.{rating_of, recalled_rating_of, of_rating, consecutive_after, short_step};
-ghost use Rattle.events.specs.Events.{short_steps, memory_of, learning_limit, learning, success, lapse, chance_ok};
-ghost use Rattle.events.specs.Events.{reviewing, event_at};
+ghost use Rattle.events.specs.Events.{of_rating, consecutive_after, short_step, short_steps, memory_of};
+ghost use Rattle.events.specs.Events.{learning_limit, learning, success, lapse, chance_ok, reviewing, event_at};
 
 use cards::{Card, SimulatorConfig};
 use draws::SplitMix64;
@@ -22,11 +21,11 @@ pub struct Memory {
     pub draws: u64,
 }
 
-// An event, or refusal 7: the chance to recall is not within 0 to 1.
+// What every event of a run goes by.
 #[derive(Clone, Copy)]
-pub enum Event {
-    Happened(Memory),
-    ChanceOutOfRange,
+pub struct Rules {
+    pub config: SimulatorConfig,
+    pub model: Fsrs7Runtime,
 }
 
 // Where the short-term steps have come to.
@@ -40,30 +39,12 @@ pub struct ShortTerm {
     pub draws: u64,
 }
 
-fn rating_of(i: usize) -> u32
-    ensures { result ≡ rating_of i }
+// One of the last N ratings, drawn by their weights: of all four, or of the three that a recall can get.
+fn drawn_rating<const N: usize>(weights: [f32; N], output: u64) -> u32
+    requires { (1 ≤ N) × (N ≤ 4) }
+    ensures { result ≡ min (rating weights.entry (word output)) (N - 1) + (5 - N) }
 {
-    if i < 3 { i as u32 + 1 } else { 4 }
-}
-
-fn recalled_rating_of(i: usize) -> u32
-    ensures { result ≡ recalled_rating_of i }
-{
-    if i < 2 { i as u32 + 2 } else { 4 }
-}
-
-// The rating that an output draws by four weights.
-fn drawn_rating(weights: [f32; 4], output: u64) -> u32
-    ensures { result ≡ rating_of (rating weights (word output)) }
-{
-    rating_of(draws::rating(&weights, draws::word(output)))
-}
-
-// The rating of a recall, by three.
-fn drawn_recalled_rating(weights: [f32; 3], output: u64) -> u32
-    ensures { result ≡ recalled_rating_of (rating weights (word output)) }
-{
-    recalled_rating_of(draws::rating(&weights, draws::word(output)))
+    (draws::rating(&weights, draws::word(output)).min(N - 1) + (5 - N)) as u32
 }
 
 fn of_rating(row: [f32; 4], rating: u32) -> f32
@@ -73,12 +54,7 @@ fn of_rating(row: [f32; 4], rating: u32) -> f32
     row[(rating - 1) as usize]
 }
 
-fn one_less(n: u32) -> u32
-    ensures { result ≡ n - 1 }
-{
-    if 0 < n { n - 1 } else { 0 }
-}
-
+#[tactic(auto, unfolding(crate::specs::Events::consecutive_after))]
 fn consecutive_after(n: u32, rating: u32) -> u32
     requires { n < 4294967295 }
     ensures { result ≡ consecutive_after n rating }
@@ -92,21 +68,21 @@ fn consecutive_after(n: u32, rating: u32) -> u32
     }
 }
 
+#[tactic(auto, unfolding(crate::specs::Events::short_step))]
 fn short_step(m: Fsrs7Runtime, transitions: [f32; 12], costs: [f32; 4], t: ShortTerm) -> ShortTerm
     requires { t.consecutive < 4294967295 }
     ensures { result ≡ short_step split_mix (kept m) transitions costs t }
 {
     let drawn = SplitMix64::new(t.draws).next();
-    let row = cards::row_of(transitions, one_less(t.rating));
+    let row = cards::row_of(transitions, t.rating.saturating_sub(1));
     let rating = drawn_rating(row, drawn.output);
-    let state = drawn.generator;
     ShortTerm {
         stability: m.stability_short_term(t.stability, 1.0, t.difficulty, rating),
         difficulty: m.next_difficulty(t.difficulty, rating, 1.0),
         cost: t.cost + of_rating(costs, rating),
         rating,
         consecutive: consecutive_after(t.consecutive, rating),
-        draws: state.state,
+        draws: drawn.generator.state,
     }
 }
 
@@ -120,16 +96,11 @@ fn short_steps(
     ensures { result ≡ short_steps split_mix (kept m) transitions costs limit 5 first }
 {
     let mut t = first;
-    let mut left: u32 = 5;
-    while 0 < left {
-        if t.consecutive >= limit {
-            return t;
-        }
-        if t.rating >= 4 {
-            return t;
+    for _ in 0..5u32 {
+        if t.consecutive >= limit || t.rating >= 4 {
+            break;
         }
         t = short_step(m, transitions, costs, t);
-        left -= 1;
     }
     t
 }
@@ -146,116 +117,110 @@ fn memory_of(t: ShortTerm, cost: f32, recalled: bool) -> Memory
     }
 }
 
-fn learning_limit(config: SimulatorConfig, rating: u32) -> u32
-    ensures { result ≡ learning_limit config rating }
-{
-    if 2 < rating {
-        one_less(config.learning_step_count)
-    } else {
-        config.learning_step_count
-    }
-}
-
-fn learning(config: SimulatorConfig, m: Fsrs7Runtime, state: u64) -> Memory
-    ensures { result ≡ learning split_mix config (kept m) state }
-{
-    let drawn = SplitMix64::new(state).next();
-    let row = config.first_rating_prob;
-    let rating = drawn_rating(row, drawn.output);
-    let all = config.state_rating_costs;
-    let costs = cards::row_of(all, 0);
-    let generator = drawn.generator;
-    let first = ShortTerm {
-        stability: m.init_stability(rating),
-        difficulty: float32::clamp(
-            m.init_difficulty(rating),
-            Fsrs7Runtime::D_MIN,
-            Fsrs7Runtime::D_MAX,
-        ),
-        cost: of_rating(costs, rating),
-        rating,
-        consecutive: 0,
-        draws: generator.state,
-    };
-    let transitions = config.learning_step_transitions;
-    let t = short_steps(m, transitions, costs, learning_limit(config, rating), first);
-    memory_of(t, t.cost, true)
-}
-
-fn success(config: SimulatorConfig, m: Fsrs7Runtime, card: Card, chance: f32, state: u64) -> Memory
-    ensures { result ≡ success split_mix config (kept m) card chance state }
-{
-    let drawn = SplitMix64::new(state).next();
-    let row = config.review_rating_prob;
-    let rating = drawn_recalled_rating(row, drawn.output);
-    let all = config.state_rating_costs;
-    let costs = cards::row_of(all, 1);
-    let generator = drawn.generator;
-    Memory {
-        difficulty: m.next_difficulty(card.difficulty, rating, 1.0),
-        stability: m.stability_after_success(card.stability, chance, card.difficulty, rating),
-        cost: of_rating(costs, rating),
-        recalled: true,
-        draws: generator.state,
-    }
-}
-
-fn lapse(config: SimulatorConfig, m: Fsrs7Runtime, card: Card, chance: f32, state: u64) -> Memory
-    ensures { result ≡ lapse split_mix config (kept m) card chance state }
-{
-    let first = ShortTerm {
-        stability: m.stability_after_failure(card.stability, chance, card.difficulty),
-        difficulty: m.next_difficulty(card.difficulty, 1, 1.0),
-        cost: 0.0,
-        rating: 1,
-        consecutive: 0,
-        draws: state,
-    };
-    let all = config.state_rating_costs;
-    let transitions = config.relearning_step_transitions;
-    let t = short_steps(
-        m,
-        transitions,
-        cards::row_of(all, 2),
-        config.relearning_step_count,
-        first,
-    );
-    memory_of(t, of_rating(cards::row_of(all, 1), 1) + t.cost, false)
-}
-
 fn chance_ok(chance: f32) -> bool
     ensures { result ≡ chance_ok chance }
 {
-    if chance >= 0.0 { chance <= 1.0 } else { false }
+    chance >= 0.0 && chance <= 1.0
 }
 
-fn reviewing(config: SimulatorConfig, m: Fsrs7Runtime, card: Card, chance: f32, state: u64) -> Event
-    ensures { result ≡ reviewing split_mix config (kept m) card chance state }
-{
-    if chance_ok(chance) {
-        let drawn = SplitMix64::new(state).next();
-        let generator = drawn.generator;
-        if draws::recalled(chance, draws::word(drawn.output)) {
-            return Event::Happened(success(config, m, card, chance, generator.state));
+impl Rules {
+    fn learning_limit(self, rating: u32) -> u32
+        ensures { result ≡ learning_limit self.config rating }
+    {
+        if 2 < rating {
+            self.config.learning_step_count.saturating_sub(1)
+        } else {
+            self.config.learning_step_count
         }
-        return Event::Happened(lapse(config, m, card, chance, generator.state));
     }
-    Event::ChanceOutOfRange
-}
 
-// A learning of a new card, or a review at a chance to recall, from a state of the draws.
-pub fn event_at(
-    config: SimulatorConfig,
-    m: Fsrs7Runtime,
-    card: Card,
-    new: bool,
-    chance: f32,
-    state: u64,
-) -> Event
-    ensures { result ≡ event_at split_mix config (kept m) card new chance state }
-{
-    if new {
-        return Event::Happened(learning(config, m, state));
+    fn learning(self, state: u64) -> Memory
+        ensures { result ≡ learning split_mix self.config (kept self.model) state }
+    {
+        let drawn = SplitMix64::new(state).next();
+        let rating = drawn_rating(self.config.first_rating_prob, drawn.output);
+        let costs = cards::row_of(self.config.state_rating_costs, 0);
+        let first = ShortTerm {
+            stability: self.model.init_stability(rating),
+            difficulty: float32::clamp(
+                self.model.init_difficulty(rating),
+                Fsrs7Runtime::D_MIN,
+                Fsrs7Runtime::D_MAX,
+            ),
+            cost: of_rating(costs, rating),
+            rating,
+            consecutive: 0,
+            draws: drawn.generator.state,
+        };
+        let transitions = self.config.learning_step_transitions;
+        let limit = self.learning_limit(rating);
+        let t = short_steps(self.model, transitions, costs, limit, first);
+        memory_of(t, t.cost, true)
     }
-    reviewing(config, m, card, chance, state)
+
+    #[tactic(auto, unfolding(crate::specs::Events::success))]
+    fn success(self, card: Card, chance: f32, state: u64) -> Memory
+        ensures { result ≡ success split_mix self.config (kept self.model) card chance state }
+    {
+        let drawn = SplitMix64::new(state).next();
+        let rating = drawn_rating(self.config.review_rating_prob, drawn.output);
+        let costs = cards::row_of(self.config.state_rating_costs, 1);
+        let m = self.model;
+        Memory {
+            difficulty: m.next_difficulty(card.difficulty, rating, 1.0),
+            stability: m.stability_after_success(card.stability, chance, card.difficulty, rating),
+            cost: of_rating(costs, rating),
+            recalled: true,
+            draws: drawn.generator.state,
+        }
+    }
+
+    #[tactic(auto, unfolding(crate::specs::Events::lapse))]
+    fn lapse(self, card: Card, chance: f32, state: u64) -> Memory
+        ensures { result ≡ lapse split_mix self.config (kept self.model) card chance state }
+    {
+        let m = self.model;
+        let first = ShortTerm {
+            stability: m.stability_after_failure(card.stability, chance, card.difficulty),
+            difficulty: m.next_difficulty(card.difficulty, 1, 1.0),
+            cost: 0.0,
+            rating: 1,
+            consecutive: 0,
+            draws: state,
+        };
+        let transitions = self.config.relearning_step_transitions;
+        let costs = self.config.state_rating_costs;
+        let limit = self.config.relearning_step_count;
+        let t = short_steps(m, transitions, cards::row_of(costs, 2), limit, first);
+        memory_of(t, of_rating(cards::row_of(costs, 1), 1) + t.cost, false)
+    }
+
+    // None is refusal 7: the chance to recall is not within 0 to 1.
+    #[tactic(auto, unfolding(crate::specs::Events::reviewing))]
+    fn reviewing(self, card: Card, chance: f32, state: u64) -> Option<Memory>
+        ensures { result ≡ reviewing split_mix self.config (kept self.model) card chance state }
+    {
+        if !chance_ok(chance) {
+            return None;
+        }
+        let drawn = SplitMix64::new(state).next();
+        let state = drawn.generator.state;
+        if draws::recalled(chance, draws::word(drawn.output)) {
+            Some(self.success(card, chance, state))
+        } else {
+            Some(self.lapse(card, chance, state))
+        }
+    }
+
+    // A learning of a new card, or a review at a chance to recall, from a state of the draws. None is refusal 7.
+    #[tactic(auto, unfolding(crate::specs::Events::event_at))]
+    pub fn event_at(self, card: Card, new: bool, chance: f32, state: u64) -> Option<Memory>
+        ensures { result ≡ event_at split_mix self.config (kept self.model) card new chance state }
+    {
+        if new {
+            Some(self.learning(state))
+        } else {
+            self.reviewing(card, chance, state)
+        }
+    }
 }

@@ -5,30 +5,14 @@
 
 ghost use Rattle.std.specs.Prelude.{◌≡◌, ◌+◌, ◌-◌, ◌*◌, ◌^◌, ◌<◌, ◌≤◌, min, set, length};
 ghost use Rattle.queue.specs.Queue.{bubble_up, sink, heapify, lesser, queue, front, pushed, popped};
-ghost use Rattle.queue.specs.Queue.{front_changed};
+ghost use Rattle.queue.specs.Queue.{front_changed, card_index_at};
 ghost use Rattle.turns.specs.Sums.{bit};
 ghost use Rattle.queue.specs.Key.{shifted, card_priority};
 
 fn shifted(priority: i32) -> u64
     ensures { (result ≡ shifted priority) × (result < 2 ^ 32) }
 {
-    (priority as i64 + 2147483648) as u64
-}
-
-fn bit(new: bool) -> u64
-    ensures { (result ≡ bit new) × (result ≤ 1) }
-{
-    if new { 1 } else { 0 }
-}
-
-fn capped(day: u32) -> u64
-    ensures { result ≡ min day (2 ^ 31 - 1) }
-{
-    if day < 2147483647 {
-        day as u64
-    } else {
-        2147483647
-    }
+    (i64::from(priority) + 2147483648) as u64
 }
 
 // The order key of a card: a card with a smaller one is served first.
@@ -36,7 +20,7 @@ pub fn card_priority(day: u32, new: bool, difficulty: f32) -> u64
     ensures { result ≡ card_priority day new difficulty }
 {
     let priority = shifted(float32::to_i32(difficulty * 100.0));
-    capped(day) * 8589934592 + bit(new) * 4294967296 + priority
+    u64::from(day.min(2147483647)) * 8589934592 + u64::from(new) * 4294967296 + priority
 }
 
 // The row put at place `from` rises to its place: the greater rows above it move down.
@@ -62,15 +46,12 @@ fn only_child(rows: &mut [[u64; 2]], n: usize, pos: usize, left: usize, row: [u6
     requires { (left ≡ 2 * pos + 1) × (n ≤ left + 1) × (pos < length rows.old) × (n ≤ length rows.old) }
     ensures { rows.new ≡ sink n (set rows.old pos row) n pos }
 {
-    if left < n {
-        let under = rows[left];
-        if under[0] < row[0] {
-            rows[pos] = under;
-            rows[left] = row;
-            return;
-        }
+    if left < n && rows[left][0] < row[0] {
+        rows[pos] = rows[left];
+        rows[left] = row;
+    } else {
+        rows[pos] = row;
     }
-    rows[pos] = row;
 }
 
 // The row put at the root of the first n sinks to its place: the lesser rows below it move up. While both children are
@@ -107,67 +88,64 @@ fn heapify(rows: &mut [[u64; 2]], n: usize, row: [u64; 2])
     only_child(rows, n, pos, left, row);
 }
 
-// How many cards are queued. Their rows are the first places of the lent list.
-#[derive(Clone, Copy)]
-pub struct CardPriorityQueue {
+// The card number of the first of a queue's rows, 0 where there is none: what a reader of lent rows asks.
+pub fn first_card(rows: &[[u64; 2]]) -> u32
+    ensures { result ≡ card_index_at rows.now 0 }
+{
+    match rows.first() {
+        Some(row) => (row[1] % 4294967296) as u32,
+        None => 0,
+    }
+}
+
+// The queued cards: their rows are the first `len` places of the lent list.
+#[derive(Drop)]
+pub struct CardPriorityQueue<'a> {
+    pub rows: &'a mut [[u64; 2]],
     pub len: u32,
 }
 
-impl CardPriorityQueue {
-    pub fn push(self, rows: &mut [[u64; 2]], card: u32, key: u64) -> CardPriorityQueue
-        ensures { queue rows.new result.len ≡ pushed (queue rows.old self.len) card key }
+impl<'a> CardPriorityQueue<'a> {
+    pub fn push(&mut self, card: u32, key: u64)
+        ensures same { self.new.rows.ghost_name ≡ self.old.rows.ghost_name }
+        ensures pushed { queue self.new.rows.now self.new.len ≡ pushed (queue self.old.rows.now self.old.len) card key }
     {
-        let len = self.len;
-        let at = len as usize;
-        if rows.len() <= at {
-            return self;
+        let at = self.len as usize;
+        if at < self.rows.len() && self.len < 4294967295 {
+            bubble_up(self.rows, at, [key, u64::from(card)]);
+            self.len += 1;
         }
-        if len == 4294967295 {
-            return self;
-        }
-        bubble_up(rows, at, [key, card as u64]);
-        CardPriorityQueue { len: len + 1 }
     }
 
     // The first card's number, where the queue is not empty.
-    pub fn peek_index(self, rows: &[[u64; 2]]) -> u32
-        ensures { result ≡ front (queue rows.now self.len) }
+    pub fn peek_index(&self) -> u32
+        ensures { result ≡ front (queue self.now.rows.now self.now.len) }
     {
-        if rows.len() == 0 {
-            return 0;
-        }
-        (rows[0][1] % 4294967296) as u32
+        first_card(self.rows)
     }
 
-    pub fn pop(self, rows: &mut [[u64; 2]]) -> CardPriorityQueue
-        ensures { queue rows.new result.len ≡ popped (queue rows.old self.len) }
+    pub fn pop(&mut self)
+        ensures same { self.new.rows.ghost_name ≡ self.old.rows.ghost_name }
+        ensures popped { queue self.new.rows.now self.new.len ≡ popped (queue self.old.rows.now self.old.len) }
     {
-        let len = self.len;
-        let at = len as usize;
-        if len == 0 {
-            return self;
+        let at = self.len as usize;
+        if 0 < at && at <= self.rows.len() {
+            let last = self.rows[at - 1];
+            heapify(self.rows, at - 1, last);
+            self.len -= 1;
         }
-        if rows.len() < at {
-            return self;
-        }
-        let last = rows[at - 1];
-        heapify(rows, at - 1, last);
-        CardPriorityQueue { len: len - 1 }
     }
 
     // The first card gets another key: what `change_priority` does to the card that was peeked at.
-    pub fn change_front(self, rows: &mut [[u64; 2]], key: u64)
-        ensures { queue rows.new self.len ≡ front_changed (queue rows.old self.len) key }
+    pub fn change_front(&mut self, key: u64)
+        ensures same { self.new.rows.ghost_name ≡ self.old.rows.ghost_name }
+        ensures length { self.new.len ≡ self.old.len }
+        ensures changed { queue self.new.rows.now self.old.len ≡ front_changed (queue self.old.rows.now self.old.len) key }
     {
-        let len = self.len;
-        let at = len as usize;
-        if len == 0 {
-            return;
+        let at = self.len as usize;
+        if 0 < at && at <= self.rows.len() {
+            let card = self.rows[0][1];
+            heapify(self.rows, at, [key, card]);
         }
-        if rows.len() < at {
-            return;
-        }
-        let card = rows[0][1];
-        heapify(rows, at, [key, card]);
     }
 }

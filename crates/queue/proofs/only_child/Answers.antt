@@ -1,18 +1,14 @@
 use native.Mathlib.Omega.{arith}
-use lib.ListN.{length-set}
 use Rattle.queue.proofs.Loops.{only_moves, only_rests}
 use Rattle.queue.proofs.only_child.Goals as goal
-use Rattle.queue.proofs.only_child.Goals.{then-left-n+else-under-row, else-left-n}
+use Rattle.queue.proofs.only_child.Goals.{else-left-n-via-then-left-n+else-rows-left, else-left-n-via-else-left-n}
 
-pub bounds-rows-left : goal.bounds-rows-left
-bounds-rows-left c = simp length-set (omega arith)
+pub returns-then-rows-left : goal.returns-then-rows-left
+returns-then-rows-left c = only_moves c.args.rows.now c.args.row c.args.n c.args.pos c.args.left
+    (omega arith) (omega arith) (omega arith) (omega arith) c.if-rows-left.true
 
-pub returns-then-under-row : goal.returns-then-under-row
-returns-then-under-row c = only_moves c.args.rows.now c.args.row
-    c.args.n c.args.pos c.args.left
-    (omega arith) (omega arith) (omega arith) (omega arith) c.if-under-row.true
-
-pub returns : goal.returns
-returns c = only_rests c.args.rows.now c.args.row c.args.n c.args.pos
-    c.args.left (omega arith) (omega arith) (omega arith)
-    (elim c.if-left-n.branch [ then-left-n+else-under-row w ↦ (λ p. w.if-under-row.false) | else-left-n w ↦ (λ p. absurd (omega arith)) ])
+pub returns-else-left-n : goal.returns-else-left-n
+returns-else-left-n c = only_rests c.args.rows.now c.args.row c.args.n c.args.pos c.args.left
+    (omega arith) (omega arith) (omega arith)
+    (elim c.else-left-n.branch [ else-left-n-via-then-left-n+else-rows-left w ↦ (λ p. w.if-rows-left.false)
+    | else-left-n-via-else-left-n w ↦ (λ p. absurd (omega arith)) ])

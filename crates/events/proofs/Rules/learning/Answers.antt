@@ -1,14 +1,6 @@
-use native.Mathlib.Omega.{arith}
 use lib.Ieee.{of_bits, of_fields, round}
 use Rattle.events.specs.Events.{learning}
-use Rattle.events.proofs.learning.Goals as goal
-
-pub of_rating-requires : goal.of_rating-requires
-unfolding learning
-of_rating-requires c = (
-  omega (arith, c.drawn_rating-rating.ensures),
-  omega (arith, c.drawn_rating-rating.ensures),
-)
+use Rattle.events.proofs.Rules.learning.Goals as goal
 
 pub returns : goal.returns
 unfolding learning of_bits of_fields round
@@ -16,7 +8,7 @@ returns c =
     rw (
       c.memory_of.ensures,
       c.short_steps-t.ensures,
-      c.learning_limit.ensures,
+      c.learning_limit-limit.ensures,
       c.of_rating.ensures,
       c.clamp.ensures,
       c.init_difficulty.ensures,
