@@ -5,7 +5,8 @@
 --   transitions_ok table, costs_ok table   three rows of weights, and three of costs
 --   interval_ok x                         a longest interval, 1 to 36,500
 --   config_ok g                           the whole test
-use Rattle.std.specs.Prelude.{ℕ, ◌+◌, ◌*◌, Bool, true, not, ◌&&◌, List, [], ◌∷◌, get_or, Float}
+use Rattle.std.specs.Prelude.{ℕ, ◌+◌, ◌*◌, Bool, not, ◌&&◌, List, [], ◌∷◌, get_or, Float}
+use Rattle.std.specs.List.{list_all}
 use Rattle.std.specs.Float.{nan}
 use Rattle.std.specs.Float.Ieee.{lt, le, eq, is_nan}
 use Rattle.float32.specs.Numbers.{0ᶠ, 1ᶠ}
@@ -28,8 +29,7 @@ unfoldable pub amount_ok : Float → Bool
 amount_ok x = is_finite x && not (lt x 0ᶠ)
 
 abbrev pub amounts_ok : List Float → Bool
-amounts_ok [] = true
-amounts_ok (x ∷ xs) = amount_ok x && amounts_ok xs
+amounts_ok = list_all amount_ok
 
 -- a weight row: no entry is negative or not finite, and the sum is finite and not 0
 unfoldable pub weights_ok : List Float → Bool

@@ -1,14 +1,15 @@
 // The configuration of a run, its cards by value and as rows of lent lists, and what a turn does with a card.
 #![tactic(auto)]
 
-ghost use Rattle.std.specs.Prelude.{ℕ, ◌≡◌, not, ◌&&◌, get_or};
+ghost use Rattle.std.specs.Prelude.{ℕ, ◌≡◌, not, ◌&&◌};
+ghost use Rattle.std.specs.List.{fold};
 ghost use Rattle.std.specs.Float.Ieee.{eq};
-ghost use Rattle.float32.specs.Numbers.{0ᶠ};
 ghost use Rattle.float32.specs.Float32.{is_finite};
+ghost use Rattle.float32.specs.Ops.{◌+ᶠ◌};
+ghost use Rattle.float32.specs.Numbers.{0ᶠ};
 ghost use Rattle.cards.specs.Day.{day_of, next_due, is_new};
-ghost use Rattle.cards.specs.Cards.{no_floats, no_counts, card_at, write_floats, write_counts, is_kept, date_ok};
-ghost use Rattle.cards.specs.Cards.{history_ok, card_ok};
-ghost use Rattle.cards.specs.Config.{row_of, three_of, amount_ok, amounts_ok, weights_ok, transitions_ok, costs_ok};
+ghost use Rattle.cards.specs.Cards.{card_at, write_floats, write_counts, is_kept, date_ok, history_ok, card_ok};
+ghost use Rattle.cards.specs.Config.{row_of, amount_ok, amounts_ok, weights_ok, transitions_ok, costs_ok};
 ghost use Rattle.cards.specs.Config.{interval_ok, config_ok};
 ghost use Rattle.cards.specs.Choices.{limits, retires, blocked, choice_of};
 
@@ -87,44 +88,30 @@ pub fn day_after(d: u32) -> u32
 pub fn is_new(last_date: f32) -> bool
     ensures { result ≡ is_new last_date }
 {
-    let never: f32 = -1.0 / 0.0;
-    last_date == never
+    last_date == f32::NEG_INFINITY
 }
 
-fn floats_at(cards: &[[f32; 6]], i: usize) -> [f32; 6]
-    ensures { result ≡ get_or cards.now i no_floats }
-{
-    if i < cards.len() {
-        cards[i]
-    } else {
-        [0.0 / 0.0; 6]
-    }
-}
-
-fn counts_at(counts: &[[u32; 2]], i: usize) -> [u32; 2]
-    ensures { result ≡ get_or counts.now i no_counts }
-{
-    if i < counts.len() { counts[i] } else { [0; 2] }
-}
-
+#[tactic(auto, unfolding(crate::specs::Cards::card_at))]
 pub fn card_at(cards: &[[f32; 6]], counts: &[[u32; 2]], c: u32) -> Card
     ensures { result ≡ card_at cards.now counts.now c }
 {
     let i = c as usize;
-    let floats = floats_at(cards, i);
-    let numbers = counts_at(counts, i);
+    let [difficulty, stability, last_date, due, interval, desired_retention] =
+        cards.get(i).copied().unwrap_or([f32::NAN; 6]);
+    let [reps, lapses] = counts.get(i).copied().unwrap_or([0; 2]);
     Card {
-        difficulty: floats[0],
-        stability: floats[1],
-        last_date: floats[2],
-        due: floats[3],
-        interval: floats[4],
-        desired_retention: floats[5],
-        reps: numbers[0],
-        lapses: numbers[1],
+        difficulty,
+        stability,
+        last_date,
+        due,
+        interval,
+        desired_retention,
+        reps,
+        lapses,
     }
 }
 
+#[tactic(auto, using(std::proofs::lemmas::List::set_past), unfolding(crate::specs::Cards::write_floats))]
 pub fn write_floats(cards: &mut [[f32; 6]], c: u32, card: Card)
     ensures { cards.new ≡ write_floats cards.old c card }
 {
@@ -141,6 +128,7 @@ pub fn write_floats(cards: &mut [[f32; 6]], c: u32, card: Card)
     }
 }
 
+#[tactic(auto, using(std::proofs::lemmas::List::set_past), unfolding(crate::specs::Cards::write_counts))]
 pub fn write_counts(counts: &mut [[u32; 2]], c: u32, card: Card)
     ensures { counts.new ≡ write_counts counts.old c card }
 {
@@ -159,51 +147,35 @@ pub fn is_kept(card: Card) -> bool
 fn date_ok(x: f32) -> bool
     ensures { result ≡ date_ok x }
 {
-    if x >= -FARTHEST { x <= FARTHEST } else { false }
+    x >= -FARTHEST && x <= FARTHEST
 }
 
 // A new card's difficulty is not looked at.
 fn history_ok(card: Card) -> bool
     ensures { result ≡ history_ok card }
 {
-    if is_new(card.last_date) {
-        return true;
-    }
-    if date_ok(card.last_date) {
-        return float32::is_finite(card.difficulty);
-    }
-    false
+    is_new(card.last_date) || (date_ok(card.last_date) && float32::is_finite(card.difficulty))
 }
 
+#[tactic(auto, unfolding(crate::specs::Cards::card_ok))]
 pub fn card_ok(card: Card) -> bool
     ensures { result ≡ card_ok card }
 {
-    if !float32::is_finite(card.stability) {
-        return false;
-    }
-    if !float32::is_finite(card.desired_retention) {
-        return false;
-    }
-    if !date_ok(card.due) {
-        return false;
-    }
-    if !history_ok(card) {
-        return false;
-    }
-    card.lapses <= MOST_LAPSES
+    float32::is_finite(card.stability)
+        && float32::is_finite(card.desired_retention)
+        && date_ok(card.due)
+        && history_ok(card)
+        && card.lapses <= MOST_LAPSES
 }
 
+#[tactic(auto, unfolding(crate::specs::Choices::retires))]
 pub fn is_retired(config: SimulatorConfig, card: Card) -> bool
     ensures { result ≡ retires config.learn_span config.suspend_after_lapses card }
 {
-    let span = float32::from_u32(config.learn_span);
-    if card.due >= span {
-        true
-    } else {
-        card.lapses >= config.suspend_after_lapses
-    }
+    card.due >= float32::from_u32(config.learn_span) || card.lapses >= config.suspend_after_lapses
 }
 
+#[tactic(auto, unfolding(crate::specs::Choices::blocked))]
 pub fn is_blocked(
     config: SimulatorConfig,
     new: bool,
@@ -217,32 +189,29 @@ pub fn is_blocked(
         return true;
     }
     if new {
-        if learned >= config.learn_limit {
-            return true;
-        }
-        if config.new_cards_ignore_review_limit {
-            return false;
-        }
-        return (learned as u64) + (reviewed as u64) >= (config.review_limit as u64);
+        let both = u64::from(learned) + u64::from(reviewed);
+        learned >= config.learn_limit
+            || (!config.new_cards_ignore_review_limit && both >= u64::from(config.review_limit))
+    } else {
+        reviewed >= config.review_limit
     }
-    reviewed >= config.review_limit
 }
 
+#[tactic(auto, unfolding(crate::specs::Choices::choice_of))]
 pub fn decide(config: SimulatorConfig, card: Card, learned: u32, reviewed: u32, cost: f32) -> Choice
     ensures { (d : ℕ) → result ≡ choice_of config.learn_span config.suspend_after_lapses (limits config) d
         card learned reviewed cost }
 {
-    if is_retired(config, card) {
-        return Choice::Retire;
-    }
     let new = is_new(card.last_date);
-    if is_blocked(config, new, learned, reviewed, cost) {
-        return Choice::PutOff;
+    if is_retired(config, card) {
+        Choice::Retire
+    } else if is_blocked(config, new, learned, reviewed, cost) {
+        Choice::PutOff
+    } else if new {
+        Choice::Learn
+    } else {
+        Choice::Review
     }
-    if new {
-        return Choice::Learn;
-    }
-    Choice::Review
 }
 
 // Row i of a table whose rows of four stand one after the other.
@@ -250,133 +219,75 @@ pub fn row_of(table: [f32; 12], i: u32) -> [f32; 4]
     ensures { result ≡ row_of table i }
 {
     if i < 3 {
-        let at = 4 * (i as usize);
+        let at = 4 * i as usize;
         [table[at], table[at + 1], table[at + 2], table[at + 3]]
     } else {
-        [0.0 / 0.0; 4]
+        [f32::NAN; 4]
     }
 }
 
+#[tactic(auto, unfolding(crate::specs::Config::amount_ok))]
 fn amount_ok(x: f32) -> bool
     ensures { result ≡ amount_ok x }
 {
-    if float32::is_finite(x) {
-        !(x < 0.0)
-    } else {
-        false
-    }
+    float32::is_finite(x) && !(x < 0.0)
+}
+
+fn amounts_ok(row: &[f32]) -> bool
+    ensures { result ≡ amounts_ok row.now }
+{
+    row.iter().copied().all(amount_ok)
+}
+
+fn total(row: &[f32]) -> f32
+    ensures { result ≡ fold (λ sum x. sum +ᶠ x) 0ᶠ row.now }
+{
+    row.iter().copied().fold(0.0, |sum, x| sum + x)
 }
 
 // Whether `sum`, of finite weights, is finite and not 0.
 fn sum_ok(sum: f32) -> bool
     ensures { result ≡ is_finite sum && not (eq sum 0ᶠ) }
 {
-    if float32::is_finite(sum) {
-        !(sum == 0.0)
-    } else {
-        false
-    }
+    float32::is_finite(sum) && sum != 0.0
 }
 
-fn amounts_ok(row: [f32; 4]) -> bool
-    ensures { result ≡ amounts_ok (row_of row 0) }
+#[tactic(auto, using(crate::proofs::Rows::sum_is), unfolding(crate::specs::Config::weights_ok))]
+fn weights_ok(row: &[f32]) -> bool
+    ensures { result ≡ weights_ok row.now }
 {
-    if !amount_ok(row[0]) {
-        return false;
-    }
-    if !amount_ok(row[1]) {
-        return false;
-    }
-    if !amount_ok(row[2]) {
-        return false;
-    }
-    amount_ok(row[3])
+    amounts_ok(row) && sum_ok(total(row))
 }
 
-fn weights_ok(row: [f32; 4]) -> bool
-    ensures { result ≡ weights_ok (row_of row 0) }
-{
-    if amounts_ok(row) {
-        sum_ok(0.0 + row[0] + row[1] + row[2] + row[3])
-    } else {
-        false
-    }
-}
-
-fn three_weights_ok(row: [f32; 3]) -> bool
-    ensures { result ≡ weights_ok (three_of row) }
-{
-    if !amount_ok(row[0]) {
-        return false;
-    }
-    if !amount_ok(row[1]) {
-        return false;
-    }
-    if !amount_ok(row[2]) {
-        return false;
-    }
-    sum_ok(0.0 + row[0] + row[1] + row[2])
-}
-
+#[tactic(auto, unfolding(crate::specs::Config::transitions_ok))]
 fn transitions_ok(table: [f32; 12]) -> bool
     ensures { result ≡ transitions_ok table }
 {
-    if !weights_ok(row_of(table, 0)) {
-        return false;
-    }
-    if !weights_ok(row_of(table, 1)) {
-        return false;
-    }
-    weights_ok(row_of(table, 2))
+    weights_ok(&row_of(table, 0)) && weights_ok(&row_of(table, 1)) && weights_ok(&row_of(table, 2))
 }
 
+#[tactic(auto, unfolding(crate::specs::Config::costs_ok))]
 fn costs_ok(table: [f32; 12]) -> bool
     ensures { result ≡ costs_ok table }
 {
-    if !amounts_ok(row_of(table, 0)) {
-        return false;
-    }
-    if !amounts_ok(row_of(table, 1)) {
-        return false;
-    }
-    amounts_ok(row_of(table, 2))
+    amounts_ok(&row_of(table, 0)) && amounts_ok(&row_of(table, 1)) && amounts_ok(&row_of(table, 2))
 }
 
 fn interval_ok(x: f32) -> bool
     ensures { result ≡ interval_ok x }
 {
-    if x >= 1.0 {
-        x <= LONGEST_INTERVAL
-    } else {
-        false
-    }
+    x >= 1.0 && x <= LONGEST_INTERVAL
 }
 
+#[tactic(auto, unfolding(crate::specs::Config::config_ok))]
 pub fn config_ok(config: SimulatorConfig) -> bool
     ensures { result ≡ config_ok config }
 {
-    let first = config.first_rating_prob;
-    if !weights_ok(first) {
-        return false;
-    }
-    let review = config.review_rating_prob;
-    if !three_weights_ok(review) {
-        return false;
-    }
-    let learning = config.learning_step_transitions;
-    if !transitions_ok(learning) {
-        return false;
-    }
-    let relearning = config.relearning_step_transitions;
-    if !transitions_ok(relearning) {
-        return false;
-    }
-    let costs = config.state_rating_costs;
-    if !costs_ok(costs) {
-        return false;
-    }
-    if float32::is_nan(config.max_cost_perday) {
-        return false;
-    }
-    interval_ok(config.max_ivl)
+    weights_ok(&config.first_rating_prob)
+        && weights_ok(&config.review_rating_prob)
+        && transitions_ok(config.learning_step_transitions)
+        && transitions_ok(config.relearning_step_transitions)
+        && costs_ok(config.state_rating_costs)
+        && !float32::is_nan(config.max_cost_perday)
+        && interval_ok(config.max_ivl)
 }

@@ -1,4 +1,5 @@
 -- What the writes of an event leave in each row: one more where it counts, and nothing else changed.
+--   saturated                    std's sum that stops at the top of a u32 is that of the counts
 --   saturating_is                below the top, one more is one more
 --   same_column, raised_column   a row written anew: a number of it stays, or is one more
 --   learn_long, learn_learned, learn_reviewed, learn_correct, learn_introduced   the counts after a learning
@@ -8,21 +9,31 @@
 use mathlib.Core.Path.{◌≡◌, refl, sym, ap, ◌∙◌}
 use mathlib.Core.Bool.{Bool, true, false, cond, ◌&&◌}
 use mathlib.Core.List.{List, [], ◌∷◌}
-use Prim.Native.Nat.{ℕ, zero, suc, ◌+◌, ◌≤◌, ◌<◌}
+use Prim.Native.Nat.{ℕ, zero, suc, ◌+◌, ◌≤◌, ◌<◌, min}
 use native.Mathlib.Decide.{ℕ_discrete, dec_lt}
 use native.Mathlib.Omega.{arith}
 use borrow.Author.Tests.{lt-ltb, le-ltb, eq-eqb, ne_eqb}
 use lib.Dec.{ltb, eqb}
 use lib.ListN.{get_or, set, length, length-set}
 use lib.Seq.{get_or-set_same, get_or-set_other, set_out}
+use Rattle.std.proofs.lemmas.List.{set-set}
 use Rattle.turns.specs.Sums.{bit}
-use Rattle.days.specs.Counts.{saturating_suc, learned_at, reviewed_at, correct_at, introduced_at, add_learn, add_review}
+use Rattle.days.specs.Counts.{saturating_suc, day_row, learned_at, reviewed_at, correct_at, introduced_at, add_learn, add_review, add_one}
 use Rattle.days.specs.Counts.{add_introduced, add_introduced_from}
 use Rattle.days.specs.Sums.{cost_at, add_cost}
 
 pub saturating_is : (n : ℕ) → n < 4294967295 → saturating_suc n ≡ n + 1
 unfolding saturating_suc
 saturating_is n h = rw (lt-ltb n 4294967295 h)
+
+-- std's sum that stops at the top of a u32 is that of the counts
+pub saturated : (n : ℕ) → n < 4294967296 → min (n + 1) 4294967295 ≡ saturating_suc n
+unfolding saturating_suc
+saturated n h = go (dec_lt n 4294967295)
+  where
+    go : Dec (n < 4294967295) → min (n + 1) 4294967295 ≡ cond (ltb n 4294967295) (n + 1) n
+    go (yes k) = rw (lt-ltb n 4294967295 k) (omega arith)
+    go (no k) = rw (le-ltb n 4294967295 (omega (arith, k))) (omega (arith, k))
 
 -- ---- a row written anew: of its numbers one stays, or is one more
 module _ {A : Type 0} (rows : List (List A)) (d i j : ℕ) (row : List A) (x : A) where
@@ -214,3 +225,87 @@ module _ {C : Type 0} (none : C) (plus : C → C → C) (costs : List C) (d : �
           ≡ cond (eqb d i) (plus (cost_at none costs i) x) (cost_at none costs i)
       go (yes e) = rw (e, eq-eqb d d refl) (get_or-set_same costs d more none h)
       go (no e) = rw (ne_eqb d i (omega (arith, e))) (get_or-set_other costs d i more none e)
+
+-- ---- one more in a column of a row of four
+of_four : {A : Type 0} (P : List A → Type 0) → ((a b c e : A) → P (a ∷ b ∷ c ∷ e ∷ [])) → (row : List A)
+    → length row ≡ 4 → P row
+of_four P own (a ∷ b ∷ c ∷ e ∷ []) h = own a b c e
+of_four P own [] h = absurd (omega arith)
+of_four P own (a ∷ []) h = absurd (omega arith)
+of_four P own (a ∷ b ∷ []) h = absurd (omega arith)
+of_four P own (a ∷ b ∷ c ∷ []) h = absurd (omega arith)
+of_four P own (a ∷ b ∷ c ∷ e ∷ x ∷ row) h = absurd (omega arith)
+
+module _ (rows : List (List ℕ)) (d : ℕ) (four : d < length rows → length (get_or rows d []) ≡ 4) where
+  -- f is what becomes of the row
+  more_in : (column : ℕ) (f : List ℕ → List ℕ) → ((a b c e : ℕ) → set (a ∷ b ∷ c ∷ e ∷ []) column
+      (saturating_suc (get_or (a ∷ b ∷ c ∷ e ∷ []) column 0)) ≡ f (a ∷ b ∷ c ∷ e ∷ []))
+      → add_one rows column d ≡ set rows d (f (get_or rows d []))
+  unfolding add_one
+  more_in column f own = go (dec_lt d (length rows))
+    where
+      go : Dec (d < length rows) → set rows d (set (get_or rows d []) column
+          (saturating_suc (get_or (get_or rows d []) column 0))) ≡ set rows d (f (get_or rows d []))
+      go (yes k) = ap (λ (l : List ℕ). set rows d l)
+          (of_four (λ r. set r column (saturating_suc (get_or r column 0)) ≡ f r) own (get_or rows d []) (four k))
+      go (no k) = set_out rows d _ (omega (arith, k)) ∙ sym (set_out rows d _ (omega (arith, k)))
+
+  pub learn_is : add_one rows 0 d ≡ add_learn rows d
+  unfolding add_learn
+  learn_is = more_in 0
+      (λ r. day_row (saturating_suc (get_or r 0 0)) (get_or r 1 0) (get_or r 2 0) (get_or r 3 0)) (λ a b c e. refl)
+
+  pub introduced_is : add_one rows 3 d ≡ add_introduced rows d
+  unfolding add_introduced
+  introduced_is = more_in 3
+      (λ r. day_row (get_or r 0 0) (get_or r 1 0) (get_or r 2 0) (saturating_suc (get_or r 3 0))) (λ a b c e. refl)
+
+  pub wrong_is : add_one rows 1 d ≡ add_review rows d false
+  unfolding add_review
+  wrong_is = more_in 1
+      (λ r. day_row (get_or r 0 0) (saturating_suc (get_or r 1 0)) (get_or r 2 0) (get_or r 3 0)) (λ a b c e. refl)
+
+  pub correct_is : add_one (add_one rows 1 d) 2 d ≡ add_review rows d true
+  unfolding add_review add_one
+  correct_is = go (dec_lt d (length rows))
+    where
+      once : List ℕ → List ℕ
+      once r = set r 1 (saturating_suc (get_or r 1 0))
+
+      twice : List ℕ → List ℕ
+      twice r = set r 2 (saturating_suc (get_or r 2 0))
+
+      both : List ℕ → List ℕ
+      both r = day_row (get_or r 0 0) (saturating_suc (get_or r 1 0)) (saturating_suc (get_or r 2 0)) (get_or r 3 0)
+
+      own : (a b c e : ℕ) → twice (once (a ∷ b ∷ c ∷ e ∷ [])) ≡ both (a ∷ b ∷ c ∷ e ∷ [])
+      own a b c e = refl
+
+      go : Dec (d < length rows)
+          → set (set rows d (once (get_or rows d []))) d (twice (get_or (set rows d (once (get_or rows d []))) d []))
+          ≡ set rows d (both (get_or rows d []))
+      go (yes k) =
+          rw (get_or-set_same rows d (once (get_or rows d [])) [] k, set-set)
+          (ap (λ (l : List ℕ). set rows d l) (of_four (λ r. twice (once r) ≡ both r) own (get_or rows d []) (four k)))
+      go (no k) =
+          let out : length rows ≤ d = omega (arith, k) in
+          rw (set_out rows d (once (get_or rows d [])) out)
+          (set_out rows d _ out ∙ sym (set_out rows d _ out))
+
+-- and every row stays one of four
+pub four_kept : (rows : List (List ℕ)) (column d : ℕ) → ((i : ℕ) → i < length rows → length (get_or rows i []) ≡ 4)
+    → (i : ℕ) → i < length (add_one rows column d) → length (get_or (add_one rows column d) i []) ≡ 4
+unfolding add_one
+four_kept rows column d four i h = go (ℕ_discrete i d)
+  where
+    row : List ℕ
+    row = set (get_or rows d []) column (saturating_suc (get_or (get_or rows d []) column 0))
+
+    within : i < length rows
+    within = omega (arith, h, length-set rows d row)
+
+    go : Dec (i ≡ d) → length (get_or (set rows d row) i []) ≡ 4
+    go (yes q) =
+        let own : d < length rows = omega (arith, q, within) in
+        rw (q, get_or-set_same rows d row [] own) (length-set (get_or rows d []) column _ ∙ four d own)
+    go (no q) = rw (get_or-set_other rows d i row [] q) (four i within)

@@ -2,6 +2,7 @@
 --   saturating_suc n                                    one more, kept within a u32
 --   learned_at, reviewed_at, correct_at, introduced_at     a count of day d
 --   day_row learned reviewed correct introduced         the four as a row
+--   add_one rows column d                               one more in a column of a day
 --   add_learn rows d, add_review rows d recalled         one learning or review more on a day
 --   add_introduced rows d, add_introduced_from rows m d   one introduced more on a day, and on m days from it on
 --   add_event span rows new d recalled                  all counts after an event
@@ -25,6 +26,12 @@ introduced_at rows d = get_or (get_or rows d []) 3 0
 
 abbrev pub day_row : ℕ → ℕ → ℕ → ℕ → List ℕ
 day_row learned reviewed correct introduced = learned ∷ reviewed ∷ correct ∷ introduced ∷ []
+
+-- one more in a column of day d
+unfoldable pub add_one : List (List ℕ) → ℕ → ℕ → List (List ℕ)
+add_one rows column d =
+    let row = get_or rows d [] in
+    set rows d (set row column (saturating_suc (get_or row column 0)))
 
 -- one more learning on day d
 unfoldable pub add_learn : List (List ℕ) → ℕ → List (List ℕ)

@@ -9,12 +9,13 @@ ghost use Rattle.days.specs.Sums.{add_memorized, add_forgetting_curve_range};
 use elementary::up_to_64;
 use model::Curve;
 
+#[tactic(auto, using(std::proofs::lemmas::List::set_past), unfolding(crate::specs::Sums::add_memorized))]
 fn add_memorized(memorized: &mut [f32], d: u32, chance: f32)
     ensures { memorized.new ≡ add_memorized memorized.old d chance }
 {
     let i = d as usize;
     if i < memorized.len() {
-        memorized[i] = memorized[i] + chance;
+        memorized[i] += chance;
     }
 }
 
@@ -24,10 +25,8 @@ fn times(a: &mut [f32; 64], d: u32, last: f32, n: usize)
     ensures { a.new ≡ filled (λ i. sub binary32 (of_int binary32 (pos (d + i))) last) n
         a.old }
 {
-    let mut i: usize = 0;
-    while i < n {
-        a[i] = ((d + (i as u32)) as f32) - last;
-        i += 1;
+    for i in 0..n {
+        a[i] = (d + i as u32) as f32 - last;
     }
 }
 
@@ -41,11 +40,8 @@ fn add_block(memorized: &mut [f32], curve: Curve, d: u32, n: usize, last: f32)
     times(&mut chances, d, last, n);
     curve.retentions(&mut chances, n);
     let first = d as usize;
-    let mut i: usize = 0;
-    while i < n {
-        let at = first + i;
-        memorized[at] = memorized[at] + chances[i];
-        i += 1;
+    for i in 0..n {
+        memorized[first + i] += chances[i];
     }
 }
 
@@ -68,11 +64,9 @@ fn add_days(memorized: &mut [f32], curve: Curve, from: u32, to: u32, last: f32)
     ensures { memorized.new ≡ add_forgetting_curve_range (λ t. retention curve t) memorized.old
         (to - from) from last }
 {
-    let mut d = from;
-    while d < to {
+    for d in from..to {
         let t = float32::from_u32(d) - last;
         add_memorized(memorized, d, curve.retention(t));
-        d += 1;
     }
 }
 
@@ -80,14 +74,7 @@ fn add_days(memorized: &mut [f32], curve: Curve, from: u32, to: u32, last: f32)
 fn is_long(memorized: &[f32], from: u32, to: u32) -> bool
     ensures { result ≡ true → (to ≤ 2 ^ 24) × (to ≤ length memorized.now) }
 {
-    if to <= 16777216 {
-        if from < to {
-            if 7 < to - from {
-                return (to as usize) <= memorized.len();
-            }
-        }
-    }
-    false
+    to <= 16777216 && from < to && 7 < to - from && to as usize <= memorized.len()
 }
 
 // A card's chance on each day from `from` up to `to`, that day left out.
@@ -103,7 +90,7 @@ pub fn add_forgetting_curve_range(
 {
     if is_long(memorized, from, to) {
         add_blocks(memorized, curve, from, to, last);
-        return;
+    } else {
+        add_days(memorized, curve, from, to, last);
     }
-    add_days(memorized, curve, from, to, last);
 }

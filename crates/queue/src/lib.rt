@@ -56,6 +56,7 @@ fn only_child(rows: &mut [[u64; 2]], n: usize, pos: usize, left: usize, row: [u6
 
 // The row put at the root of the first n sinks to its place: the lesser rows below it move up. While both children are
 // there, one comparison a level tells which of them has the lesser key, and one whether the row rests.
+// Each child has its own branch: with the lesser one as a value the sinking took a fifth longer.
 fn heapify(rows: &mut [[u64; 2]], n: usize, row: [u64; 2])
     requires { (0 < length rows.old) × (n ≤ length rows.old) }
     ensures { rows.new ≡ heapify (set rows.old 0 row) n }
@@ -92,10 +93,7 @@ fn heapify(rows: &mut [[u64; 2]], n: usize, row: [u64; 2])
 pub fn first_card(rows: &[[u64; 2]]) -> u32
     ensures { result ≡ card_index_at rows.now 0 }
 {
-    match rows.first() {
-        Some(row) => (row[1] % 4294967296) as u32,
-        None => 0,
-    }
+    rows.first().map_or(0, |row| (row[1] % 4294967296) as u32)
 }
 
 // The queued cards: their rows are the first `len` places of the lent list.
@@ -105,13 +103,13 @@ pub struct CardPriorityQueue<'a> {
     pub len: u32,
 }
 
-impl<'a> CardPriorityQueue<'a> {
+impl CardPriorityQueue<'_> {
     pub fn push(&mut self, card: u32, key: u64)
         ensures same { self.new.rows.ghost_name ≡ self.old.rows.ghost_name }
         ensures pushed { queue self.new.rows.now self.new.len ≡ pushed (queue self.old.rows.now self.old.len) card key }
     {
         let at = self.len as usize;
-        if at < self.rows.len() && self.len < 4294967295 {
+        if at < self.rows.len() && self.len < u32::MAX {
             bubble_up(self.rows, at, [key, u64::from(card)]);
             self.len += 1;
         }

@@ -21,132 +21,87 @@ fn next(state: u64) -> u64
 fn key(v: u64) -> u64 {
     let day = (v % 3) as u32;
     let new = v / 3 % 2 == 1;
-    if v / 6 % 2 == 1 {
-        return queue::card_priority(day, new, 5.5);
-    }
-    queue::card_priority(day, new, -1.25)
+    let difficulty = if v / 6 % 2 == 1 { 5.5 } else { -1.25 };
+    queue::card_priority(day, new, difficulty)
 }
 
-fn write(rt: &impl Print, word: &str, card: u32) -> io::Result<()> {
-    println!(rt; "{word}{}", wide(card))
+// The queue, and for each card whether it is in it.
+#[derive(Drop)]
+struct Service<'a> {
+    queue: CardPriorityQueue<'a>,
+    queued: [bool; 64],
 }
 
-fn wide(x: u32) -> u64 {
-    x as u64
-}
+impl Service<'_> {
+    fn push(&mut self, card: u32, v: u64) {
+        let c = card as usize;
+        if c < self.queued.len() && !self.queued[c] {
+            self.queued[c] = true;
+            self.queue.push(card, key(v));
+        }
+    }
 
-fn push(
-    q: CardPriorityQueue,
-    rows: &mut [[u64; 2]],
-    queued: &mut [bool],
-    card: u32,
-    v: u64,
-) -> CardPriorityQueue {
-    let c = card as usize;
-    if queued.len() <= c {
-        return q;
+    fn pop(&mut self, rt: &impl Print) -> io::Result<()> {
+        if self.queue.len == 0 {
+            return Ok(());
+        }
+        let card = self.queue.peek_index();
+        println!(rt; "pop {card}")?;
+        let c = card as usize;
+        if c < self.queued.len() {
+            self.queued[c] = false;
+        }
+        self.queue.pop();
+        Ok(())
     }
-    if queued[c] {
-        return q;
-    }
-    queued[c] = true;
-    q.push(rows, card, key(v))
-}
 
-fn pop(
-    rt: &impl Print,
-    q: CardPriorityQueue,
-    rows: &mut [[u64; 2]],
-    queued: &mut [bool],
-) -> io::Result<CardPriorityQueue> {
-    if q.len == 0 {
-        return Ok(q);
+    fn change(&mut self, rt: &impl Print, v: u64) -> io::Result<()> {
+        if self.queue.len == 0 {
+            return Ok(());
+        }
+        println!(rt; "change {}", self.queue.peek_index())?;
+        self.queue.change_front(key(v));
+        Ok(())
     }
-    let card = q.peek_index(rows);
-    write(rt, "pop ", card)?;
-    forget(queued, card);
-    Ok(q.pop(rows))
-}
 
-fn forget(queued: &mut [bool], card: u32) {
-    let c = card as usize;
-    if c < queued.len() {
-        queued[c] = false;
+    fn operate(&mut self, rt: &impl Print, kind: u64, card: u32, v: u64) -> io::Result<()> {
+        match kind {
+            0 | 1 => self.push(card, v),
+            2 => self.pop(rt)?,
+            _ => self.change(rt, v)?,
+        }
+        Ok(())
     }
-}
 
-fn change(rt: &impl Print, q: CardPriorityQueue, rows: &mut [[u64; 2]], v: u64) -> io::Result<()> {
-    if q.len == 0 {
-        return Ok(());
+    fn operations(&mut self, rt: &impl Print) -> io::Result<()> {
+        let mut state: u64 = 1;
+        for _ in 0..6000u32 {
+            let kind = next(state);
+            let card = next(kind);
+            state = next(card);
+            self.operate(rt, kind / 65536 % 4, (card / 65536 % 64) as u32, state / 65536)?;
+        }
+        Ok(())
     }
-    write(rt, "change ", q.peek_index(rows))?;
-    q.change_front(rows, key(v));
-    Ok(())
-}
 
-fn operate(
-    rt: &impl Print,
-    q: CardPriorityQueue,
-    rows: &mut [[u64; 2]],
-    queued: &mut [bool],
-    kind: u64,
-    card: u32,
-    v: u64,
-) -> io::Result<CardPriorityQueue> {
-    if kind < 2 {
-        return Ok(push(q, rows, queued, card, v));
+    fn empty(&mut self, rt: &impl Print) -> io::Result<()> {
+        for _ in 0..64u32 {
+            self.pop(rt)?;
+        }
+        Ok(())
     }
-    if kind == 2 {
-        return pop(rt, q, rows, queued);
-    }
-    change(rt, q, rows, v)?;
-    Ok(q)
-}
-
-fn operations(
-    rt: &impl Print,
-    rows: &mut [[u64; 2]],
-    queued: &mut [bool],
-) -> io::Result<CardPriorityQueue> {
-    let mut q = CardPriorityQueue { len: 0 };
-    let mut state: u64 = 1;
-    let mut i: u32 = 0;
-    while i < 6000 {
-        let kind = next(state);
-        let card = next(kind);
-        state = next(card);
-        q = operate(
-            rt,
-            q,
-            rows,
-            queued,
-            kind / 65536 % 4,
-            (card / 65536 % 64) as u32,
-            state / 65536,
-        )?;
-        i += 1;
-    }
-    Ok(q)
-}
-
-fn empty(
-    rt: &impl Print,
-    all: CardPriorityQueue,
-    rows: &mut [[u64; 2]],
-    queued: &mut [bool],
-) -> io::Result<()> {
-    let mut q = all;
-    let mut i: u32 = 0;
-    while i < 64 {
-        q = pop(rt, q, rows, queued)?;
-        i += 1;
-    }
-    Ok(())
 }
 
 fn main(rt: HostRuntime) -> io::Result<()> {
     let mut rows = [[0u64; 2]; 64];
-    let mut queued = [false; 64];
-    let q = operations(&rt, &mut rows, &mut queued)?;
-    empty(&rt, q, &mut rows, &mut queued)
+    let queue = CardPriorityQueue {
+        rows: &mut rows,
+        len: 0,
+    };
+    let mut service = Service {
+        queue,
+        queued: [false; 64],
+    };
+    service.operations(&rt)?;
+    service.empty(&rt)
 }

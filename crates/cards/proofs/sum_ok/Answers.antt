@@ -1,7 +1,6 @@
+use lib.Ieee.{ne}
 use Rattle.cards.proofs.sum_ok.Goals as goal
 
 pub returns-then-is_finite : goal.returns-then-is_finite
+unfolding ne
 returns-then-is_finite c = rw (← c.is_finite.ensures, c.if-is_finite.true)
-
-pub returns-else-is_finite : goal.returns-else-is_finite
-returns-else-is_finite c = rw (← c.is_finite.ensures, c.if-is_finite.false)

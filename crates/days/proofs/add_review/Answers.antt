@@ -1,12 +1,9 @@
-use lib.Seq.{set_out}
-use mathlib.Core.Path.{sym}
-use Rattle.days.specs.Counts.{add_review}
+use mathlib.Core.Path.{◌∙◌, ap}
+use Rattle.days.proofs.Laws.{wrong_is, correct_is}
 use Rattle.days.proofs.add_review.Goals as goal
 
-pub returns-then-i-rows : goal.returns-then-i-rows
-unfolding add_review
-returns-then-i-rows c = rw (c.saturating_suc-more.ensures, c.saturating_suc_if-correct.ensures)
+pub returns-then-recalled : goal.returns-then-recalled
+returns-then-recalled c = rw (c.add_one-then-recalled.ensures, c.add_one.ensures, c.if-recalled.true) (correct_is c.args.rows.now c.args.d (c.told-rows c.args.d))
 
-pub returns-else-i-rows : goal.returns-else-i-rows
-unfolding add_review
-returns-else-i-rows c = sym (set_out _ _ _ c.if-i-rows.false)
+pub returns-else-recalled : goal.returns-else-recalled
+returns-else-recalled c = rw (c.add_one.ensures, c.if-recalled.false) (wrong_is c.args.rows.now c.args.d (c.told-rows c.args.d))

@@ -13,6 +13,3 @@ invariant-loop-i l =
     × ((r : Float → Float)
     → ((j : ℕ) → j < l.n → get_or l.chances j nan ≡ r (sub binary32 (of_int binary32 (pos (l.d + j))) l.last))
     → add_forgetting_curve_range r l.memorized (l.n - l.i) (l.d + l.i) l.last ≡ add_forgetting_curve_range r l.initial.memorized l.n l.d l.last)
-
-abbrev pub decreases-loop-i : goal.decreases-loop-i
-decreases-loop-i l = l.n - l.i

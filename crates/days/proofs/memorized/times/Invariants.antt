@@ -8,6 +8,3 @@ use Rattle.days.proofs.memorized.times.Given as goal
 
 abbrev pub invariant-loop-i : goal.invariant-loop-i
 invariant-loop-i l = (l.i ≤ l.n) × (l.a ≡ filled (λ i. sub binary32 (of_int binary32 (pos (l.d + i))) l.last) l.i l.initial.a)
-
-abbrev pub decreases-loop-i : goal.decreases-loop-i
-decreases-loop-i l = l.n - l.i
