@@ -1,30 +1,43 @@
--- The first number that passes a test: one turn of the search, and what holds before it.
+-- The first number that passes a test: where a search finds it, that it finds none, and what holds before it.
+--   first_found, first_none   the first number is the one that a search of all in order finds, or none passes
+--   Found                     what a search of all in order says
+--   none_before               no number before the first passes
 use mathlib.Core.Path.{◌≡◌, refl, sym, ap, ◌∙◌}
 use mathlib.Core.Bool.{Bool, true, false, cond}
-use Prim.Native.Nat.{ℕ, zero, suc, ◌+◌, ◌-◌, ◌≤◌, ◌<◌}
+use Prim.Native.Nat.{ℕ, zero, suc, ◌+◌, ◌≤◌, ◌<◌}
 use native.Mathlib.Decide.{ℕ_discrete}
 use native.Mathlib.Omega.{arith}
+use Rattle.std.specs.Prelude.{Option, MatchOption}
 use Rattle.entry.specs.Entry.{first_where}
 
 module _ (p : ℕ → Bool) where
-  one : (m i : ℕ) (b : Bool) → p i ≡ b → first_where p (suc m) i ≡ cond b i (first_where p m (i + 1))
+  found : (n j i : ℕ) → j ≤ i → i < j + n → p i ≡ true → ((k : ℕ) → j ≤ k → k < i → p k ≡ false)
+      → first_where p n j ≡ i
   unfolding first_where
-  one m i b e = rw e
-
-  pub first_here : (n i : ℕ) → i < n → p i ≡ true → first_where p (n - i) i ≡ i
-  first_here n i h e = ap (λ (z : ℕ). first_where p z i) (let z : n - i ≡ suc (n - (i + 1)) = omega arith in z)
-      ∙ one (n - (i + 1)) i true e
-
-  pub first_on : (n i : ℕ) → i < n → p i ≡ false → first_where p (n - (i + 1)) (i + 1) ≡ first_where p (n - i) i
-  first_on n i h e = sym
-      (ap (λ (z : ℕ). first_where p z i) (let z : n - i ≡ suc (n - (i + 1)) = omega arith in z)
-      ∙ one (n - (i + 1)) i false e)
-
-  pub first-end : (n i : ℕ) → n ≤ i → i ≤ n → first_where p (n - i) i ≡ n
-  first-end n i h l = ap (λ (z : ℕ). first_where p z i) (let z : n - i ≡ 0 = omega arith in z) ∙ none i ∙ omega arith
+  found zero j i l u e none = absurd (omega arith)
+  found (suc n) j i l u e none = at (ℕ_discrete j i)
+      (λ z. found n (j + 1) i (omega (arith, z)) (omega arith) e (λ k g h. none k (omega arith) h))
     where
-      none : (i : ℕ) → first_where p 0 i ≡ i
-      none i = unfold first_where in refl
+      at : Dec (j ≡ i) → ((j ≡ i → ⊥) → first_where p n (j + 1) ≡ i) → cond (p j) j (first_where p n (j + 1)) ≡ i
+      at (yes z) rest = rw (ap p z ∙ e) z
+      at (no z) rest = rw (none j (omega arith) (omega (arith, z))) (rest z)
+
+  pub first_found : (n i : ℕ) → i < n → p i ≡ true → ((k : ℕ) → k < i → p k ≡ false) → first_where p n 0 ≡ i
+  first_found n i u e none = found n 0 i (omega arith) (omega arith) e (λ k l h. none k h)
+
+  not_from : (n j : ℕ) → ((k : ℕ) → j ≤ k → k < j + n → p k ≡ false) → first_where p n j ≡ j + n
+  unfolding first_where
+  not_from zero j none = omega arith
+  not_from (suc n) j none = rw (none j (omega arith) (omega arith))
+      (not_from n (j + 1) (λ k l h. none k (omega arith) (omega arith)) ∙ omega arith)
+
+  pub first_none : (n : ℕ) → ((k : ℕ) → k < n → p k ≡ false) → first_where p n 0 ≡ n
+  first_none n none = not_from n 0 (λ k l h. none k (omega arith)) ∙ omega arith
+
+  -- what a search of the first n numbers says
+  abbrev pub Found : ℕ → Option ℕ → Type 0
+  Found n r = MatchOption r ((k : ℕ) → 0 ≤ k → k < n → p k ≡ false)
+      (λ i. (0 ≤ i) × (i < n) × (p i ≡ true) × ((k : ℕ) → 0 ≤ k → k < i → p k ≡ false))
 
   -- none before the first
   pub none_before : (n i j : ℕ) → i + n ≤ first_where p n i → i ≤ j → j < i + n → p j ≡ false

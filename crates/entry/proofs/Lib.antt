@@ -1,2 +1,3 @@
 pub mod FirstWhere
-pub mod Settings
+pub mod Tests
+pub mod Lent

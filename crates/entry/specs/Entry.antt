@@ -1,13 +1,14 @@
 -- The entry's tests, in their order (docs/RULES.md, E1 to E9). Definitions only.
 --   most_cards, most_days              the largest deck and the longest span
 --   Inputs, inputs, with_parameters   what a run is given besides the lists that it writes
+--   Check, passed                     what a test says: it is passed, or why not
 --   first_where p n i                 the first number that passes a test
 --   is_bad k                          whether refusal 5 turns a card away
 --   check_parameters, lengths_ok, check_first   refusals 1, 6 and 5
 --   short_list g n m x                which list refusal 6 is about
 --   check_settings ok lists w g n next   all tests before 5, with ok among those of refusal 4
 --   check_entry ok i x                all tests, in their order, by the lists' lengths
-use Rattle.std.specs.Prelude.{ℕ, zero, suc, ◌+◌, Bool, true, false, not, ◌&&◌, ◌||◌, cond, List, eqb, leb, ltb, length, get_or, Float}
+use Rattle.std.specs.Prelude.{ℕ, zero, suc, ◌+◌, Bool, true, false, not, ◌&&◌, ◌||◌, cond, List, eqb, leb, ltb, length, get_or, Float, Result, Ok, Err}
 use Rattle.std.specs.Float.{nan}
 use Rattle.float32.specs.Float32.{is_finite}
 use Rattle.cards.specs.declared.SimulatorConfig.{SimulatorConfig}
@@ -17,9 +18,7 @@ use Rattle.cards.specs.Config.{config_ok}
 use Rattle.days.specs.Due.{due_days}
 use Rattle.entry.specs.declared.Refusal.{Refusal}
 use Rattle.entry.specs.declared.Refusal.TheVariants as refusal
-use Rattle.entry.specs.declared.Check.{Check}
-use Rattle.entry.specs.declared.Check.TheVariants as check
-use Rattle.entry.specs.declared.Lengths.{Lengths}
+use Rattle.entry.specs.declared.lists.Lengths.{Lengths}
 
 -- the largest deck, and the longest span
 abbrev pub most_cards : ℕ
@@ -51,6 +50,13 @@ inputs config w retention seed existing counts = record {
 abbrev pub with_parameters : List Float → Inputs → Inputs
 with_parameters w i = inputs i.config w i.retention i.seed i.existing i.existing_counts
 
+-- what the entry's tests say: all are passed, or the first that is not
+abbrev pub Check : Type 0
+Check = Result (Unit {0}) Refusal
+
+abbrev pub passed : Check
+passed = Ok tt
+
 -- the first of the n numbers from i on that passes the test p, or i + n
 unfoldable pub first_where : (ℕ → Bool) → ℕ → ℕ → ℕ
 first_where p zero i = i
@@ -68,7 +74,7 @@ abbrev pub not_ok : List (List Float) → List (List ℕ) → ℕ → Bool
 not_ok cards counts i = is_bad (card_at cards counts i)
 
 abbrev pub fail_if : Bool → Refusal → Check → Check
-fail_if true r next = check.Failed r
+fail_if true r next = Err r
 fail_if false r next = next
 
 -- 1: too few parameters, or one that is not finite
@@ -94,7 +100,7 @@ lengths_ok g n m x =
     && leb (due_days span) x.due)))))))
 
 -- which list is the first that fails 6, by its number in the order of the tests; 0 where none does (`lists-told`,
--- proofs/Settings)
+-- proofs/Tests)
 unfoldable pub short_list : SimulatorConfig → ℕ → ℕ → Lengths → ℕ
 short_list g n m x =
     let deck = g.deck_size in
@@ -113,7 +119,7 @@ short_list g n m x =
 unfoldable pub check_first : List (List Float) → List (List ℕ) → ℕ → Check
 check_first cards counts n =
     let i = first_where (not_ok cards counts) n 0 in
-    fail_if (ltb i n) (refusal.ExistingCard i) check.Passed
+    fail_if (ltb i n) (refusal.ExistingCard i) passed
 
 -- all tests before that of the cards, of which n exist, and then `next`; `ok` is the test of what a run and a search
 -- each have of their own: a retention, rounds; `lists` is that of refusal 6

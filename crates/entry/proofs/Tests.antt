@@ -1,16 +1,17 @@
 -- The tests before that of the cards pass on what follows them, or fail whatever follows.
 --   PassesOn f        what f does with the tests that follow
---   settings_on       the tests of the settings are so
---   settings_pass, settings_fail   what passes with nothing behind it, and what fails
+--   goes_on, stays    what passes with nothing behind it, and what fails
+--   parameters_pass, parameters_fail, settings_pass, settings_fail   so for these tests
+--   raised            a refusal that `?` passes on is the same
 --   passes            one test that passes
 --   SettingsOk, settings_passed   what tests that pass say
 --   lists-told        refusal 6 is about no list exactly where the lists pass
-use mathlib.Core.Path.{◌≡◌, refl, sym, ◌∙◌}
+use mathlib.Core.Path.{◌≡◌, refl, sym, ap, ◌∙◌}
 use mathlib.Core.Bool.{Bool, true, false, not, cond, ◌||◌, ◌&&◌}
 use mathlib.Core.List.{List}
 use Prim.Native.Nat.{ℕ, suc, ◌≤◌, ◌<◌}
 use native.Mathlib.Omega.{arith}
-use borrow.Author.Tests.{eqb-false, ltb-false, ne_eqb}
+use borrow.Author.Tests.{eqb-false, ltb-false, ne_eqb, lt-ltb, le-ltb}
 use lib.Dec.{eqb, leb, ltb}
 use lib.ListN.{length}
 use lib.Ieee.{Float}
@@ -19,17 +20,17 @@ use Rattle.cards.specs.Config.{config_ok}
 use Rattle.days.specs.Due.{due_days}
 use Rattle.entry.specs.declared.Refusal.{Refusal}
 use Rattle.entry.specs.declared.Refusal.TheVariants as refusal
-use Rattle.entry.specs.declared.Check.{Check}
-use Rattle.entry.specs.declared.Check.TheVariants as check
-use Rattle.entry.specs.declared.Lengths.{Lengths}
-use Rattle.entry.specs.Entry.{first_where, not_finite, fail_if, check_parameters, lengths_ok}
+use Rattle.std.specs.Prelude.{Ok, Err, IsErrAnd, Some, None}
+use Rattle.entry.proofs.FirstWhere.{first_found, first_none, Found}
+use Rattle.entry.specs.declared.lists.Lengths.{Lengths}
+use Rattle.entry.specs.Entry.{Check, passed, first_where, not_finite, fail_if, check_parameters, lengths_ok, check_first, not_ok}
 use Rattle.entry.specs.Entry.{most_cards, most_days, short_list, check_settings}
 use Rattle.turns.proofs.Logic.{not-one, both, neither, not-false}
 
 -- what a test, or a chain of tests, does with the tests that follow
 data PassesOn (f : Check → Check) : Type 0 where
   passing : ((c : Check) → f c ≡ c) → PassesOn f
-  failing : (r : Refusal) → ((c : Check) → f c ≡ check.Failed r) → PassesOn f
+  failing : (r : Refusal) → ((c : Check) → f c ≡ Err r) → PassesOn f
 
 fail_on : (b : Bool) (r : Refusal) → PassesOn (fail_if b r)
 fail_on true r = failing r (λ c. refl)
@@ -41,41 +42,68 @@ infixr 20 ◌then◌
 (passing p) then (failing r q) = failing r (λ c. p _ ∙ q c)
 (failing r p) then q = failing r (λ c. p _)
 
-passed_not : (r : Refusal) → check.Passed ≡ check.Failed r → ⊥
-passed_not r e = not-one cc
+not_passed : (r : Refusal) → passed ≡ Err r → ⊥
+not_passed r e = not-one cc
 
-pub passes : (b : Bool) (r : Refusal) (next : Check) → fail_if b r next ≡ check.Passed
-    → (b ≡ false) × (next ≡ check.Passed)
+same_refusal : (r r' : Refusal) → (let x : Check = Err r in x ≡ Err r') → r ≡ r'
+same_refusal r r' e = cc
+
+goes_on : {f : Check → Check} → PassesOn f → f passed ≡ passed → (next : Check) → f next ≡ next
+goes_on (passing p) e next = p next
+goes_on (failing r p) e next = absurd (not_passed r (sym e ∙ p passed))
+
+stays : {f : Check → Check} → PassesOn f → (r : Refusal) → f passed ≡ Err r → (next : Check) → f next ≡ Err r
+stays (passing p) r e next = absurd (not_passed r (sym (p passed) ∙ e))
+stays (failing r' p) r e next = p next ∙ ap (λ (x : Refusal). Err x) (same_refusal r' r (sym (p passed) ∙ e))
+
+parameters_on : (w : List Float) → PassesOn (check_parameters w)
+unfolding check_parameters
+parameters_on w =
+    fail_on (ltb (length w) 34) (refusal.Parameters 34)
+    then fail_on (ltb (first_where (not_finite w) 34 0) 34) (refusal.Parameters (first_where (not_finite w) 34 0))
+
+-- a refusal that `?` passes on is the same
+pub raised : (r : Check) (e : Refusal) → IsErrAnd r (λ x. x ≡ e) → r ≡ Err e
+raised (Ok x) e h = absurd h
+raised (Err x) e h = ap (λ (z : Refusal). Err z) h
+
+pub passes : (b : Bool) (r : Refusal) (next : Check) → fail_if b r next ≡ passed
+    → (b ≡ false) × (next ≡ passed)
 passes true r next e = absurd (not-one cc)
 passes false r next e = (refl, e)
 
 module _ (ok lists : Bool) (w : List Float) (g : SimulatorConfig) (n : ℕ) where
   settings_on : PassesOn (check_settings ok lists w g n)
-  unfolding check_settings check_parameters
+  unfolding check_settings
   settings_on =
-      fail_on (ltb (length w) 34) (refusal.Parameters 34)
-      then (fail_on (ltb (first_where (not_finite w) 34 0) 34) (refusal.Parameters (first_where (not_finite w) 34 0))
+      parameters_on w
       then (fail_on (eqb g.deck_size 0 || ltb most_cards g.deck_size) refusal.DeckSize
       then (fail_on (eqb g.learn_span 0 || ltb most_days g.learn_span) refusal.LearnSpan
       then (fail_on (not (config_ok g && ok)) refusal.Config
       then (fail_on (not lists) refusal.Lists
-      then fail_on (ltb g.deck_size n) refusal.TooManyCards)))))
+      then fail_on (ltb g.deck_size n) refusal.TooManyCards))))
 
-  pub settings_pass : check_settings ok lists w g n check.Passed ≡ check.Passed → (next : Check)
+  pub settings_pass : check_settings ok lists w g n passed ≡ passed → (next : Check)
       → check_settings ok lists w g n next ≡ next
-  settings_pass e next = go settings_on
-    where
-      go : PassesOn (check_settings ok lists w g n) → check_settings ok lists w g n next ≡ next
-      go (passing p) = p next
-      go (failing r p) = absurd (passed_not r (sym e ∙ p check.Passed))
+  settings_pass e next = goes_on settings_on e next
 
-  pub settings_fail : {c : Check} → c ≡ check_settings ok lists w g n check.Passed
-      → (c ≡ check.Passed → ⊥) → (next : Check) → c ≡ check_settings ok lists w g n next
-  settings_fail {c} e t next = go settings_on
-    where
-      go : PassesOn (check_settings ok lists w g n) → c ≡ check_settings ok lists w g n next
-      go (passing p) = absurd (t (e ∙ p check.Passed))
-      go (failing r p) = e ∙ p check.Passed ∙ sym (p next)
+  pub settings_fail : (r : Refusal) → check_settings ok lists w g n passed ≡ Err r → (next : Check)
+      → check_settings ok lists w g n next ≡ Err r
+  settings_fail r e next = stays settings_on r e next
+
+  pub parameters_fail : (r : Refusal) → check_parameters w passed ≡ Err r → check_settings ok lists w g n passed ≡ Err r
+  unfolding check_settings
+  parameters_fail r e = stays (parameters_on w) r e _
+
+  -- where the parameters pass, the tests behind them decide
+  pub parameters_pass : check_parameters w passed ≡ passed → check_settings ok lists w g n passed
+      ≡ fail_if (eqb g.deck_size 0 || ltb most_cards g.deck_size) refusal.DeckSize
+      (fail_if (eqb g.learn_span 0 || ltb most_days g.learn_span) refusal.LearnSpan
+      (fail_if (not (config_ok g && ok)) refusal.Config
+      (fail_if (not lists) refusal.Lists
+      (fail_if (ltb g.deck_size n) refusal.TooManyCards passed))))
+  unfolding check_settings
+  parameters_pass e = goes_on (parameters_on w) e _
 
   -- what the tests ask, one after the other, and that those which follow pass
   pub record SettingsOk (next : Check) : Type 0 where
@@ -88,9 +116,9 @@ module _ (ok lists : Bool) (w : List Float) (g : SimulatorConfig) (n : ℕ) wher
     pub setting_ok : ok ≡ true
     pub lists_pass : lists ≡ true
     pub existing_few : n ≤ g.deck_size
-    pub next_passes : next ≡ check.Passed
+    pub next_passes : next ≡ passed
 
-  pub settings_passed : (next : Check) → check_settings ok lists w g n next ≡ check.Passed → SettingsOk next
+  pub settings_passed : (next : Check) → check_settings ok lists w g n next ≡ passed → SettingsOk next
   unfolding check_settings check_parameters
   settings_passed next e =
       let p₁ = passes (ltb (length w) 34) _ _ e in
@@ -118,6 +146,34 @@ module _ (ok lists : Bool) (w : List Float) (g : SimulatorConfig) (n : ℕ) wher
     where
       positive : (m : ℕ) → eqb m 0 ≡ false → 0 < m
       positive m h = omega (arith, eqb-false m 0 h)
+
+-- ---- what the searches of the parameters and of the cards say
+pub parameters_bad : (w : List Float) (i : ℕ) → 34 ≤ length w → Found (not_finite w) 34 (Some i)
+    → check_parameters w passed ≡ Err (refusal.Parameters i)
+unfolding check_parameters
+parameters_bad w i l f =
+    let e = first_found (not_finite w) 34 i f.1 f.2 (λ k h. f.3 k (omega arith) h) in
+    rw (le-ltb (length w) 34 l, e, lt-ltb i 34 f.1)
+
+pub parameters_ok : (w : List Float) → 34 ≤ length w → Found (not_finite w) 34 None → check_parameters w passed ≡ passed
+unfolding check_parameters
+parameters_ok w l f =
+    let e = first_none (not_finite w) 34 (λ k h. f k (omega arith) h) in
+    rw (le-ltb (length w) 34 l, e)
+
+pub cards_bad : (es : List (List Float)) (ns : List (List ℕ)) (n i : ℕ) → Found (not_ok es ns) n (Some i)
+    → check_first es ns n ≡ Err (refusal.ExistingCard i)
+unfolding check_first
+cards_bad es ns n i f =
+    let e = first_found (not_ok es ns) n i f.1 f.2 (λ k h. f.3 k (omega arith) h) in
+    rw (e, lt-ltb i n f.1)
+
+pub cards_ok : (es : List (List Float)) (ns : List (List ℕ)) (n : ℕ) → Found (not_ok es ns) n None
+    → check_first es ns n ≡ passed
+unfolding check_first
+cards_ok es ns n f =
+    let e = first_none (not_ok es ns) n (λ k h. f k (omega arith) h) in
+    rw (e, le-ltb n n (omega arith))
 
 told : (b : Bool) (k : ℕ) {rest : Bool} (n : ℕ) → rest ≡ eqb n 0 → (b && rest) ≡ eqb (cond (not b) (suc k) n) 0
 told true k n e = e

@@ -1,7 +1,0 @@
-use Rattle.entry.proofs.is_bad.Goals as goal
-
-pub returns-then-is_kept : goal.returns-then-is_kept
-returns-then-is_kept c = rw (← c.is_kept.ensures, c.if-is_kept.true, ← c.card_ok.ensures)
-
-pub returns-else-is_kept : goal.returns-else-is_kept
-returns-else-is_kept c = rw (← c.is_kept.ensures, c.if-is_kept.false)
