@@ -3,6 +3,8 @@
 // each with a room that is as it was.
 #![tactic(auto)]
 
+ghost use Rattle.std.specs.Prelude.{◌<◌, ◌≤◌};
+
 use cards::{Card, SimulatorConfig};
 use entry::{Learner, Lists, Settings, refusals};
 use simulation::{Progress, Refused};
@@ -48,30 +50,63 @@ fn card(stability: f32, last_date: f32, due: f32, lapses: u32) -> Card {
     }
 }
 
-// Makes a run over lists of its own, and shows its answer and its last day.
-fn shown(
+// The lists of a run.
+struct Memory {
+    cards: [[f32; 6]; 8],
+    counts: [[u32; 2]; 8],
+    rows: [[u64; 2]; 8],
+    days: [[u32; 4]; 10],
+    costs: [f32; 10],
+    memorized: [f32; 10],
+    due: [u32; 15],
+    keys: [[u32; 2]; 64],
+    intervals: [f32; 64],
+}
+
+impl Memory {
+    fn new() -> Memory {
+        Memory {
+            cards: [[0.0; 6]; 8],
+            counts: [[0; 2]; 8],
+            rows: [[0; 2]; 8],
+            days: [[0; 4]; 10],
+            costs: [0.0; 10],
+            memorized: [0.0; 10],
+            due: [0; 15],
+            keys: [[0; 2]; 64],
+            intervals: [0.0; 64],
+        }
+    }
+
+    fn lists(&mut self) -> Lists<'_> {
+        Lists {
+            cards: &mut self.cards,
+            counts: &mut self.counts,
+            rows: &mut self.rows,
+            days: &mut self.days,
+            costs: &mut self.costs,
+            memorized: &mut self.memorized,
+            due: &mut self.due,
+            keys: &mut self.keys,
+            intervals: &mut self.intervals,
+        }
+    }
+}
+
+// A run's answer, and its last day.
+fn show(
     rt: &impl Print,
-    run: impl FnOnce(&mut Lists<'_>) -> Result<Progress, Refused>,
+    answer: Result<Progress, Refused>,
+    memory: &Memory,
 ) -> io::Result<()> {
-    let mut lists = Lists {
-        cards: &mut [[0.0; 6]; 8],
-        counts: &mut [[0; 2]; 8],
-        rows: &mut [[0; 2]; 8],
-        days: &mut [[0; 4]; 10],
-        costs: &mut [0.0; 10],
-        memorized: &mut [0.0; 10],
-        due: &mut [0; 15],
-        keys: &mut [[0; 2]; 64],
-        intervals: &mut [0.0; 64],
-    };
-    match run(&mut lists) {
+    match answer {
         Ok(progress) => {
             print!(rt; "turns {} cards {} draws {:016x} day", progress.turns, progress.cards, progress.draws)?;
-            for count in lists.days[9] {
+            for count in memory.days[9] {
                 print!(rt; " {count}")?;
             }
-            let cost = float32::to_bits(lists.costs[9]);
-            let memorized = float32::to_bits(lists.memorized[9]);
+            let cost = float32::to_bits(memory.costs[9]);
+            let memorized = float32::to_bits(memory.memorized[9]);
             println!(rt; " {cost:08x} {memorized:08x}")
         }
         Err(refused) => {
@@ -82,25 +117,26 @@ fn shown(
 }
 
 // With a room of so many rows of floats, and four of counts; and what it holds then.
-fn by_records<const ROWS: usize>(rt: &impl Print, records: &[Card]) -> io::Result<()> {
+fn by_records<const ROWS: usize>(rt: &impl Print, records: &[Card]) -> io::Result<()>
+    requires some { 0 < ROWS }
+    requires few { ROWS ≤ 4 }
+{
     let mut existing = [[7.0; 6]; ROWS];
     let mut existing_counts = [[7; 2]; 4];
-    shown(rt, |lists| {
-        card_records::simulate(
-            lists,
-            &mut existing,
-            &mut existing_counts,
-            &PARAMETERS,
-            records,
-            settings(),
-        )
-    })?;
-    print!(rt; "room")?;
-    for row in existing.first().into_iter().chain(existing.last()) {
-        print!(rt; " {:08x}", float32::to_bits(row[1]))?;
-    }
+    let mut memory = Memory::new();
+    let answer = card_records::simulate(
+        &mut memory.lists(),
+        &mut existing,
+        &mut existing_counts,
+        &PARAMETERS,
+        records,
+        settings(),
+    );
+    show(rt, answer, &memory)?;
+    let first = float32::to_bits(existing[0][1]);
+    let last = float32::to_bits(existing[ROWS - 1][1]);
     let [reps, lapses] = existing_counts[2];
-    println!(rt; " {reps} {lapses}")
+    println!(rt; "room {first:08x} {last:08x} {reps} {lapses}")
 }
 
 fn by_rows(rt: &impl Print, records: &[Card; 3]) -> io::Result<()> {
@@ -115,7 +151,9 @@ fn by_rows(rt: &impl Print, records: &[Card; 3]) -> io::Result<()> {
         existing: &existing,
         existing_counts: &existing_counts,
     };
-    shown(rt, |lists| simulation::simulate(lists, learner, settings()))
+    let mut memory = Memory::new();
+    let answer = simulation::simulate(&mut memory.lists(), learner, settings());
+    show(rt, answer, &memory)
 }
 
 fn main(rt: HostRuntime) -> io::Result<()> {
