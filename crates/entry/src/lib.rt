@@ -2,7 +2,7 @@
 // with the numbers by which that is told (refusals.rt); and what a call is given (lists.rt).
 #![tactic(auto)]
 
-ghost use Rattle.std.specs.Prelude.{◌≡◌, ◌+◌, ◌/◌, ◌==◌, ◌||◌, nat_lt, get_or};
+ghost use Rattle.std.specs.Prelude.{◌≡◌, ◌==◌, ◌||◌, nat_lt, get_or};
 ghost use Rattle.std.specs.Float.{nan};
 ghost use Rattle.float32.specs.Numbers.{0ᶠ};
 ghost use Rattle.entry.specs.Entry.{inputs, is_bad, passed};
@@ -75,12 +75,6 @@ fn check_cards(learner: Learner<'_>, n: u32) -> Result<(), Refusal>
     }
 }
 
-fn due_days(span: u32) -> usize
-    ensures { result ≡ span + span / 2 }
-{
-    (span as usize) + (span / 2) as usize
-}
-
 #[tactic(auto, unfolding(crate::specs::Entry::lengths_ok))]
 pub fn lists_ok(
     config: SimulatorConfig,
@@ -100,7 +94,7 @@ pub fn lists_ok(
         && span <= x.days
         && span <= x.costs
         && span <= x.memorized
-        && due_days(config.learn_span) <= x.due
+        && days::due_days(config.learn_span) <= x.due
 }
 
 // Which list refusal 6 is about, by the number that the C interface tells; 0 where it is about none.
@@ -131,7 +125,7 @@ pub fn short_list(
         7
     } else if x.memorized < span {
         8
-    } else if x.due < due_days(config.learn_span) {
+    } else if x.due < days::due_days(config.learn_span) {
         9
     } else {
         0

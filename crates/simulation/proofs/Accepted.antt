@@ -10,10 +10,10 @@ use Rattle.float32.specs.Float32.{is_finite}
 use Rattle.cards.specs.Cards.{card_at, is_kept, card_ok}
 use Rattle.cards.specs.Config.{config_ok}
 use Rattle.days.specs.Due.{due_days}
-use Rattle.entry.specs.declared.Check.TheVariants as check
+use Rattle.entry.specs.Entry.{passed}
 use Rattle.simulation.specs.State.{State}
 use Rattle.entry.proofs.FirstWhere.{none_before}
-use Rattle.entry.proofs.Settings.{passes, settings_passed}
+use Rattle.entry.proofs.Tests.{passes, settings_passed}
 use Rattle.entry.specs.Entry.{most_cards, most_days, Inputs, first_where, not_ok, lengths_ok, check_first}
 use Rattle.simulation.specs.Checked.{lists_ok, checked}
 use Rattle.turns.proofs.Logic.{both, not-false}
@@ -60,7 +60,7 @@ lists_test i s =
     && (leb span (length s.memorized)
     && leb (due_days span) (length s.due))))))))
 
-pub accepted : {C : Type 0} (i : Inputs) (s : State C) → checked i s ≡ check.Passed → Accepted i s
+pub accepted : {C : Type 0} (i : Inputs) (s : State C) → checked i s ≡ passed → Accepted i s
 unfolding check_first lengths_ok
 accepted i s e =
     let g = i.config in

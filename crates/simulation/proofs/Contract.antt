@@ -17,11 +17,12 @@ use Rattle.model.specs.Runtime as Runtime
 use Rattle.events.specs.Scalars.{Scalars, kept}
 use Rattle.events.proofs.Loops.{kept_is}
 use Rattle.entry.specs.declared.Refusal.{Refusal}
-use Rattle.entry.specs.declared.Check.{Check}
-use Rattle.entry.specs.declared.Check.TheVariants as check
+use Rattle.entry.specs.Entry.{Check}
+use Rattle.entry.specs.Entry.{passed}
+use Rattle.std.specs.Prelude.{Err}
 use Rattle.simulation.specs.declared.Progress.{Progress}
-use Rattle.simulation.specs.declared.Answer.{Answer}
-use Rattle.simulation.specs.declared.Answer.TheVariants as answer
+use Rattle.simulation.specs.Simulate.{Answer}
+use Rattle.simulation.specs.Simulate.{finished, refused}
 use Rattle.simulation.specs.State.{State, Lent, lists_of, with_draws}
 use Rattle.simulation.specs.Rules.{rules_of}
 use Rattle.entry.specs.Entry.{Inputs, inputs}
@@ -30,13 +31,13 @@ use Rattle.simulation.specs.Simulate.{progress, rules_for, result_from, simulate
 use Rattle.simulation.specs.Steps.{InnerContract}
 use Rattle.simulation.specs.Demands.{start_of, RunContract}
 use Rattle.simulation.proofs.Accepted.{accepted}
-use Rattle.entry.proofs.Settings.{settings_passed}
+use Rattle.entry.proofs.Tests.{settings_passed}
 use Rattle.simulation.proofs.run.Suits.{suits}
 use Rattle.simulation.proofs.run.DemandThree.{has_stopped, stops_so}
 use Rattle.simulation.proofs.run.Answers.{ok_demand}
 use Rattle.turns.proofs.Logic.{not-one}
 
-not_finished : (r : Refusal) (p q : Progress) → answer.Refused r p ≡ answer.Finished q → ⊥
+not_finished : (r : Refusal) (p q : Progress) → refused r p ≡ finished q → ⊥
 not_finished r p q e = not-one cc
 
 module _ (i : Inputs) (s : State Float) where
@@ -52,15 +53,15 @@ module _ (i : Inputs) (s : State Float) where
       → c ≡ checked i s
   same_check ok f e = same_tests ok e ∙ ap (λ (b : Bool). checked_with b i s) f
 
-  pub refused_is : (r : Refusal) → checked i s ≡ check.Failed r
-      → RunContract i s (answer.Refused r (progress 0 0 0 i.seed)) (lists_of s)
+  pub refused_is : (r : Refusal) → checked i s ≡ Err r
+      → RunContract i s (refused r (progress 0 0 0 i.seed)) (lists_of s)
   unfolding simulated_by
   refused_is r e = record {
     result = rw e (record { answer = refl; lists = refl });
     demand_three = λ p f. absurd (not_finished r (progress 0 0 0 i.seed) p f);
   }
 
-  module _ (e : checked i s ≡ check.Passed) {r : Answer} {l' : Lent Float}
+  module _ (e : checked i s ≡ passed) {r : Answer} {l' : Lent Float}
       (d : InnerContract (rules_of i.config (kept (Runtime.runtime_of i.parameters)))
       (start_of (rules_for i) i s) r l') where
     plainly : InnerContract (rules_for i) (start_of (rules_for i) i s) r l'
@@ -83,11 +84,11 @@ module _ (i : Inputs) (s : State Float) where
     }
 
 -- a call that passes has passed the test of its own setting
-pub setting_ok : {C : Type 0} (ok : Bool) (i : Inputs) (s : State C) → checked_with ok i s ≡ check.Passed → ok ≡ true
+pub setting_ok : {C : Type 0} (ok : Bool) (i : Inputs) (s : State C) → checked_with ok i s ≡ passed → ok ≡ true
 setting_ok ok i s e =
     (settings_passed ok (lists_ok i s) i.parameters i.config (length i.existing) _ e).setting_ok
 
 -- a run that passes has lists that are long enough, and a day or more
-pub lists_and_span : {C : Type 0} (i : Inputs) (s : State C) → checked i s ≡ check.Passed
+pub lists_and_span : {C : Type 0} (i : Inputs) (s : State C) → checked i s ≡ passed
     → (lists_ok i s ≡ true) × (0 < i.config.learn_span)
 lists_and_span i s e = let ok = accepted i s e in (ok.lists_pass, ok.span_some)

@@ -13,11 +13,11 @@ use Rattle.events.specs.Scalars.{Scalars, plain, kept}
 use Rattle.events.proofs.Loops.{kept_is}
 use Rattle.entry.specs.declared.Refusal.{Refusal}
 use Rattle.entry.specs.declared.Refusal.TheVariants as refusal
-use Rattle.entry.specs.declared.Check.TheVariants as check
+use Rattle.entry.specs.Entry.{passed}
 use Rattle.simulation.specs.declared.Progress.{Progress}
-use Rattle.simulation.specs.declared.Answer.TheVariants as answer
-use Rattle.simulation.specs.declared.Stop.{Stop}
-use Rattle.simulation.specs.declared.Stop.TheVariants as stop
+use Rattle.simulation.specs.Simulate.{finished, refused}
+use Rattle.simulation.specs.Turn.{Stop}
+use Rattle.std.specs.Prelude.{Ok, Err}
 use Rattle.simulation.specs.State.{State}
 use Rattle.simulation.specs.Rules.{Rules, rules_with}
 use Rattle.entry.specs.Entry.{Inputs}
@@ -37,17 +37,17 @@ use Rattle.simulation.proofs.run.Due.{due_after, due_left, never_due}
 use Rattle.simulation.proofs.run.Answers.{ok_passed, told_stop, stop_told, ok_demand}
 
 module _ {C : Type 0} (R : Rules C) (i : Inputs) (s : State C) where
-  entry_refusal : (r : Refusal) → checked i s ≡ check.Failed r
-      → simulated_by R i s ≡ record { answer = some (answer.Refused r (progress 0 0 0 i.seed)); state = s }
+  entry_refusal : (r : Refusal) → checked i s ≡ Err r
+      → simulated_by R i s ≡ record { answer = some (refused r (progress 0 0 0 i.seed)); state = s }
   unfolding simulated_by
   entry_refusal r e = rw e
 
-  run_leaves : checked i s ≡ check.Passed → (simulated_by R i s).state ≡ end_of R i s
+  run_leaves : checked i s ≡ passed → (simulated_by R i s).state ≡ end_of R i s
   unfolding simulated_by result_from
   run_leaves e = rw e
 
 -- the answer tells the stop, and the stop has its condition
-stops_exactly : (w : DrawRule) (i : Inputs) (s : State Float) → checked i s ≡ check.Passed → (x : Stop)
+stops_exactly : (w : DrawRule) (i : Inputs) (s : State Float) → checked i s ≡ passed → (x : Stop)
     → (let R = rules_with w i.config (plain i.parameters) in
     ((simulated_by R i s).answer
     ≡ some (answer_of x (progress_of R i s))) ↔ StopCondition R
@@ -59,18 +59,18 @@ stops_exactly w i s e x =
     (λ z. by.0 (told_stop R i s fit e x _ z), λ z. stop_told R i s fit e x (by.1 z))
 
 -- the answer tells the stop, and no state of the run has the condition of refusal 9
-no_due_refusal : (w : DrawRule) (i : Inputs) (s : State Float) → checked i s ≡ check.Passed → (c : ℕ) (p : Progress)
+no_due_refusal : (w : DrawRule) (i : Inputs) (s : State Float) → checked i s ≡ passed → (c : ℕ) (p : Progress)
     → (simulated_by (rules_with w i.config (plain i.parameters)) i s).answer ≢ some
-    (answer.Refused (refusal.DueCount c) p)
+    (refused (refusal.DueCount c) p)
 no_due_refusal w i s e c p z =
     let R = rules_with w i.config (plain i.parameters) in
     let fit = suits w i s (accepted i s e) in
-    let stop = stop.Refused (refusal.DueCount c) in
+    let stop : Stop = Err (refusal.DueCount c) in
     let by = stops_iff w i.config (plain i.parameters) (end_of R i s) (end_sound R fit.slots i s) stop in
     never_due R i s (accepted i s e) fit c (by.0 (told_stop R i s fit e stop p z))
 
 -- the condition of a stop leaves only two refusals
-seven_or_eight : {C : Type 0} (R : Rules C) (s : State C) (r : Refusal) → StopCondition R s (stop.Refused r)
+seven_or_eight : {C : Type 0} (R : Rules C) (s : State C) (r : Refusal) → StopCondition R s (Err r)
     → ((c : ℕ) → r ≢ refusal.DueCount c) → (number_of r ≡ 7) ⊎ (number_of r ≡ 8)
 seven_or_eight R s (refusal.ChanceOutOfRange c) h n = inl refl
 seven_or_eight R s (refusal.TableFull c) h n = inr refl
@@ -84,16 +84,16 @@ seven_or_eight R s refusal.TooManyCards h n = absurd h
 seven_or_eight R s (refusal.ExistingCard i) h n = absurd h
 seven_or_eight R s (refusal.NotFound done) h n = absurd h
 
-run_refusal : (w : DrawRule) (i : Inputs) (s : State Float) → checked i s ≡ check.Passed → (r : Refusal) (p : Progress)
-    → (simulated_by (rules_with w i.config (plain i.parameters)) i s).answer ≡ some (answer.Refused r p)
+run_refusal : (w : DrawRule) (i : Inputs) (s : State Float) → checked i s ≡ passed → (r : Refusal) (p : Progress)
+    → (simulated_by (rules_with w i.config (plain i.parameters)) i s).answer ≡ some (refused r p)
     → (number_of r ≡ 7) ⊎ (number_of r ≡ 8)
 run_refusal w i s e r p z =
     let R = rules_with w i.config (plain i.parameters) in
     let fit = suits w i s (accepted i s e) in
     let by = stops_iff w i.config (plain i.parameters) (end_of R i s) (end_sound R fit.slots i s)
-    (stop.Refused r) in
-    seven_or_eight R (end_of R i s) r (by.0 (told_stop R i s fit e (stop.Refused r) p z))
-    (λ c q. no_due_refusal w i s e c p (z ∙ ap (λ (y : Refusal). some (answer.Refused y p)) q))
+    (Err r) in
+    seven_or_eight R (end_of R i s) r (by.0 (told_stop R i s fit e (Err r) p z))
+    (λ c q. no_due_refusal w i s e c p (z ∙ ap (λ (y : Refusal). some (refused y p)) q))
 
 -- ALL OF THEM, whatever is drawn
 pub demands : (w : DrawRule) (i : Inputs) (s : State Float)

@@ -5,9 +5,8 @@
 --   checked i s         those of a run
 use Rattle.std.specs.Prelude.{Bool, length}
 use Rattle.float32.specs.Float32.{is_finite}
-use Rattle.entry.specs.declared.Check.{Check}
-use Rattle.entry.specs.declared.Lengths.{Lengths}
-use Rattle.entry.specs.Entry.{Inputs, lengths_ok, check_entry}
+use Rattle.entry.specs.declared.lists.Lengths.{Lengths}
+use Rattle.entry.specs.Entry.{Check, Inputs, lengths_ok, check_entry}
 use Rattle.simulation.specs.State.{State}
 
 abbrev pub lengths_of : {C : Type 0} → State C → Lengths

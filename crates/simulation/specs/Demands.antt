@@ -6,7 +6,7 @@
 --   RunContract                    what `simulate` promises
 --   Demands                        all else that is claimed, whatever is drawn
 --   UnreadParameters               which parameters play no part
-use Rattle.std.specs.Prelude.{ℕ, suc, ◌+◌, ◌*◌, ◌≤◌, ◌≡◌, true, ◌↔◌, ◌≢◌, ◌⊎◌, List, [], Float, length}
+use Rattle.std.specs.Prelude.{ℕ, suc, ◌+◌, ◌*◌, ◌≤◌, ◌≡◌, true, ◌↔◌, ◌≢◌, ◌⊎◌, List, [], Float, length, Err}
 use Rattle.std.proofs.Math.Option.{some}
 use Rattle.turns.specs.Sums.{sum_to}
 use Rattle.turns.specs.Turns.{Turn, Demand, Rows}
@@ -20,22 +20,18 @@ use Rattle.events.specs.Scalars.{plain}
 use Rattle.events.specs.Drawn.{Drawn}
 use Rattle.entry.specs.declared.Refusal.{Refusal}
 use Rattle.entry.specs.declared.Refusal.TheVariants as refusal
-use Rattle.entry.specs.declared.Check.TheVariants as check
-use Rattle.simulation.specs.declared.Stop.{Stop}
 use Rattle.simulation.specs.declared.Progress.{Progress}
-use Rattle.simulation.specs.declared.Answer.{Answer}
-use Rattle.simulation.specs.declared.Answer.TheVariants as answer
 use Rattle.simulation.specs.State.{State, Lent, lists_of, with_table}
 use Rattle.simulation.specs.Invariant.{lapses_in, DueBounds}
 use Rattle.simulation.specs.Rules.{Rules, rules_with}
-use Rattle.simulation.specs.Turn.{next}
+use Rattle.simulation.specs.Turn.{Stop, next}
 use Rattle.simulation.specs.RunRefusals.{StopCondition}
-use Rattle.entry.specs.Entry.{Inputs, with_parameters}
+use Rattle.entry.specs.Entry.{passed, Inputs, with_parameters}
 use Rattle.simulation.specs.Checked.{lists_ok, checked}
 use Rattle.simulation.specs.Frame.{first_places, beyond, SameLengths}
 use Rattle.entry.specs.Refusals.{number_of}
 use Rattle.simulation.specs.SetUp.{kept_cards, introduced_before, new_card_count, set_up}
-use Rattle.simulation.specs.Simulate.{IsResult, progress, answer_of, rules_for, run_from, simulated_by, simulated}
+use Rattle.simulation.specs.Simulate.{Answer, finished, refused, IsResult, progress, answer_of, rules_for, run_from, simulated_by, simulated}
 
 -- a run's lists as set up, its cards, what it comes to, and its turns, latest first
 module _ {C : Type 0} (R : Rules C) (i : Inputs) (s : State C) where
@@ -98,52 +94,52 @@ pub record DemandThree {C : Type 0} (R : Rules C) (i : Inputs) (s : State C) (p 
 -- holds of them
 pub record RunContract (i : Inputs) (s : State Float) (r : Answer) (l : Lent Float) : Type 0 where
   pub result : IsResult (simulated i s) r l
-  pub demand_three : (p : Progress) → r ≡ answer.Finished p → DemandThree (rules_for i) i s p l
+  pub demand_three : (p : Progress) → r ≡ finished p → DemandThree (rules_for i) i s p l
 
 -- THE DEMANDS beside the contract, of a run by rules R: `demands` has them at any way to draw
 pub record Demands {C : Type 0} (R : Rules C) (i : Inputs) (s : State C) : Type 0 where
   -- 1: an entry refusal, exactly by the table, writes nothing and takes no turn
-  pub entry_refusal : (r : Refusal) → checked i s ≡ check.Failed r
-      → simulated_by R i s ≡ record { answer = some (answer.Refused r (progress 0 0 0 i.seed)); state = s }
+  pub entry_refusal : (r : Refusal) → checked i s ≡ Err r
+      → simulated_by R i s ≡ record { answer = some (refused r (progress 0 0 0 i.seed)); state = s }
   -- a run refusal leaves the state after the last finished turn: the state that the turns taken lead to
-  pub run_leaves : checked i s ≡ check.Passed → (simulated_by R i s).state ≡ end_of R i s
+  pub run_leaves : checked i s ≡ passed → (simulated_by R i s).state ≡ end_of R i s
   -- it ends Ok, or is refused by 7 or 8 with card c, exactly on the condition of that stop: Ok exactly when the queue
   -- is empty
-  pub stops_exactly : checked i s ≡ check.Passed → (x : Stop)
+  pub stops_exactly : checked i s ≡ passed → (x : Stop)
       → ((simulated_by R i s).answer ≡ some (answer_of x (progress_of R i s))) ↔ StopCondition R (end_of R i s) x
   -- a run's cards are the existing ones that are kept, and those created
-  pub cards_are : checked i s ≡ check.Passed → cards_of R i s ≡ kept_cards i + new_card_count i.config (kept_cards i)
+  pub cards_are : checked i s ≡ passed → cards_of R i s ≡ kept_cards i + new_card_count i.config (kept_cards i)
   -- places behind those that the run needs are as they were lent: of cards and queue behind the run's cards, of days
   -- behind the span, of due counts behind theirs
-  pub beyond_same : checked i s ≡ check.Passed
+  pub beyond_same : checked i s ≡ passed
       → beyond (cards_of R i s) R.span (end_of R i s) ≡ beyond (cards_of R i s) R.span s
   -- and every list keeps its length
-  pub lengths_same : checked i s ≡ check.Passed → SameLengths (lists_of s) (lists_of (end_of R i s))
+  pub lengths_same : checked i s ≡ passed → SameLengths (lists_of s) (lists_of (end_of R i s))
   -- 2: what the lists held before, and how long they are, plays no part: a second call with equal inputs and a table
   -- equally long has the same run
-  pub same_run : (s' : State C) → checked i s ≡ check.Passed → lists_ok i s' ≡ true
+  pub same_run : (s' : State C) → checked i s ≡ passed → lists_ok i s' ≡ true
       → length s'.table.keys ≡ length s.table.keys → SameRun R i s s'
   -- 3: whatever is drawn
-  pub demand_three : (p : Progress) → (simulated_by R i s).answer ≡ some (answer.Finished p)
+  pub demand_three : (p : Progress) → (simulated_by R i s).answer ≡ some (finished p)
       → DemandThree R i s p (lists_of (simulated_by R i s).state)
   -- of every accepted call, refused in the run or not: it comes to its end or to a refusal within cards × (span + 1)
   -- turns, so its bound never shows
-  pub ends_within : checked i s ≡ check.Passed → length (turns_of R i s) ≤ cards_of R i s * suc R.span
+  pub ends_within : checked i s ≡ passed → length (turns_of R i s) ≤ cards_of R i s * suc R.span
   -- of every accepted call, after any number of turns: on each day that is counted the due count is at most the cards,
   -- so it never comes to the top, and at least the queued cards with a last date whose day it is
-  pub due_counts : checked i s ≡ check.Passed → (n : ℕ) → DueBounds (cards_of R i s) R.span (state_after R i s n)
+  pub due_counts : checked i s ≡ passed → (n : ℕ) → DueBounds (cards_of R i s) R.span (state_after R i s n)
   -- and so at its end
-  pub due_counts_left : checked i s ≡ check.Passed → DueBounds (cards_of R i s) R.span (end_of R i s)
+  pub due_counts_left : checked i s ≡ passed → DueBounds (cards_of R i s) R.span (end_of R i s)
   -- no accepted call answers refusal 9: a card with a last date is put off only from a day that counts it
-  pub no_due_refusal : checked i s ≡ check.Passed → (c : ℕ) (p : Progress)
-      → (simulated_by R i s).answer ≢ some (answer.Refused (refusal.DueCount c) p)
+  pub no_due_refusal : checked i s ≡ passed → (c : ℕ) (p : Progress)
+      → (simulated_by R i s).answer ≢ some (refused (refusal.DueCount c) p)
   -- so an accepted call is refused by 7 or 8 or not at all
-  pub run_refusal : checked i s ≡ check.Passed → (r : Refusal) (p : Progress)
-      → (simulated_by R i s).answer ≡ some (answer.Refused r p) → (number_of r ≡ 7) ⊎ (number_of r ≡ 8)
+  pub run_refusal : checked i s ≡ passed → (r : Refusal) (p : Progress)
+      → (simulated_by R i s).answer ≡ some (refused r p) → (number_of r ≡ 7) ⊎ (number_of r ≡ 8)
 
 -- of two accepted calls that differ only in parameters 15 to 22 and in those past 33, one result, whatever is drawn
 abbrev pub UnreadParameters : DrawRule → Inputs → State Float → List Float → Type 0
 UnreadParameters w i s v =
-    SameRead i.parameters v → checked i s ≡ check.Passed → checked (with_parameters v i) s ≡ check.Passed
+    SameRead i.parameters v → checked i s ≡ passed → checked (with_parameters v i) s ≡ passed
     → simulated_by (rules_with w i.config (plain v)) (with_parameters v i) s
     ≡ simulated_by (rules_with w i.config (plain i.parameters)) i s

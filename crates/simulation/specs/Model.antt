@@ -2,7 +2,7 @@
 --   Model      what the turn rule asks
 --   model_of    FSRS-7 with its interval table, of a configuration and a model's scalars
 --   curve_for   a card's forgetting curve
-use Rattle.std.specs.Prelude.{ℕ, Bool, Float}
+use Rattle.std.specs.Prelude.{ℕ, Bool, Float, Option}
 use Rattle.draws.specs.Draws.{DrawRule}
 use Rattle.cards.specs.declared.SimulatorConfig.{SimulatorConfig}
 use Rattle.cards.specs.declared.Card.{Card}
@@ -10,7 +10,7 @@ use Rattle.model.specs.declared.parameters.Fsrs7Runtime.{Fsrs7Runtime}
 use Rattle.model.specs.declared.forgetting_curve.Curve.{Curve}
 use Rattle.model.specs.Model as Plain
 use Rattle.model.specs.Runtime as Runtime
-use Rattle.events.specs.declared.Event.{Event}
+use Rattle.events.specs.declared.Memory.{Memory}
 use Rattle.events.specs.Scalars.{Scalars}
 use Rattle.events.specs.Events.{event_of}
 use Rattle.events.specs.Drawn.{Drawn, ratings_of}
@@ -23,7 +23,7 @@ pub record Model : Type 0 where
   -- the chance to recall after so many days, at a stability
   pub chance : Float → Float → Float
   -- what an event does to a card, new or not, on a day, by a way to draw and from a state of the draws
-  pub event : DrawRule → Card → Bool → ℕ → ℕ → Event
+  pub event : DrawRule → Card → Bool → ℕ → ℕ → Option Memory
   -- and the ratings that are drawn in it
   pub ratings : DrawRule → Card → Bool → ℕ → ℕ → Drawn
   -- the interval for a stability and a retention: one that the table holds, a new one and its place, or none where the

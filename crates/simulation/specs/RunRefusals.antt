@@ -3,7 +3,7 @@
 --   turn_card, turn_day, turn_choice   that card, its day, and what the turn does with it
 --   ChanceRefused, TableRefused, DueRefused   refusals 7, 8 and 9, with card c
 --   StopCondition R s x             the condition for the stop x
-use Rattle.std.specs.Prelude.{ℕ, ◌<◌, Bool, true, false, ◌≡◌, pos}
+use Rattle.std.specs.Prelude.{ℕ, ◌<◌, Bool, true, false, ◌≡◌, pos, Ok, Err, Some}
 use Rattle.std.proofs.Math.Option.{none}
 use Rattle.std.specs.Float.{binary32}
 use Rattle.std.specs.Float.Ieee.{of_int}
@@ -17,16 +17,14 @@ use Rattle.days.specs.Counts.{learned_at, reviewed_at}
 use Rattle.days.specs.Sums.{cost_at}
 use Rattle.days.specs.Due.{none_due}
 use Rattle.events.specs.declared.Memory.{Memory}
-use Rattle.events.specs.declared.Event.TheVariants as event
 use Rattle.events.specs.Events.{chance_ok}
 use Rattle.queue.specs.Queue.{front}
 use Rattle.intervals.specs.Bucket.{stability_bucket, retention_bucket}
 use Rattle.intervals.specs.Table.{places, held_in, count_in}
 use Rattle.entry.specs.declared.Refusal.TheVariants as refusal
-use Rattle.simulation.specs.declared.Stop.{Stop}
-use Rattle.simulation.specs.declared.Stop.TheVariants as stop
 use Rattle.simulation.specs.State.{State, card_in}
 use Rattle.simulation.specs.Rules.{Rules}
+use Rattle.simulation.specs.Turn.{Stop}
 
 -- a learning of a new card, or a review
 abbrev pub event_choice : Bool → Choice
@@ -61,7 +59,7 @@ module _ {C : Type 0} (R : Rules C) (s : State C) where
     pub new : Bool
     pub event_chosen : turn_choice ≡ event_choice new
     pub memory : Memory
-    pub happens : R.model.event R.draw turn_card new turn_day s.draws ≡ event.Happened memory
+    pub happens : R.model.event R.draw turn_card new turn_day s.draws ≡ Some memory
     pub new-key : held_in s.table (stability_bucket memory.stability)
         (retention_bucket turn_card.desired_retention) ≡ none
     pub full : count_in s.table ≡ places s.table
@@ -76,15 +74,15 @@ module _ {C : Type 0} (R : Rules C) (s : State C) where
 
   -- the end: an empty queue; no other refusal comes in a run
   abbrev pub StopCondition : Stop → Type 0
-  StopCondition stop.Ended = s.queue.len ≡ 0
-  StopCondition (stop.Refused (refusal.ChanceOutOfRange c)) = ChanceRefused c
-  StopCondition (stop.Refused (refusal.TableFull c)) = TableRefused c
-  StopCondition (stop.Refused (refusal.DueCount c)) = DueRefused c
-  StopCondition (stop.Refused (refusal.Parameters i)) = ⊥
-  StopCondition (stop.Refused refusal.DeckSize) = ⊥
-  StopCondition (stop.Refused refusal.LearnSpan) = ⊥
-  StopCondition (stop.Refused refusal.Config) = ⊥
-  StopCondition (stop.Refused refusal.Lists) = ⊥
-  StopCondition (stop.Refused refusal.TooManyCards) = ⊥
-  StopCondition (stop.Refused (refusal.ExistingCard i)) = ⊥
-  StopCondition (stop.Refused (refusal.NotFound done)) = ⊥
+  StopCondition (Ok x) = s.queue.len ≡ 0
+  StopCondition (Err (refusal.ChanceOutOfRange c)) = ChanceRefused c
+  StopCondition (Err (refusal.TableFull c)) = TableRefused c
+  StopCondition (Err (refusal.DueCount c)) = DueRefused c
+  StopCondition (Err (refusal.Parameters i)) = ⊥
+  StopCondition (Err refusal.DeckSize) = ⊥
+  StopCondition (Err refusal.LearnSpan) = ⊥
+  StopCondition (Err refusal.Config) = ⊥
+  StopCondition (Err refusal.Lists) = ⊥
+  StopCondition (Err refusal.TooManyCards) = ⊥
+  StopCondition (Err (refusal.ExistingCard i)) = ⊥
+  StopCondition (Err (refusal.NotFound done)) = ⊥

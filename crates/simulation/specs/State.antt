@@ -1,6 +1,7 @@
 -- The state of a run: the lent lists, the queue's length and the state of the draws. Definitions only.
 --   State C, Lent C           the state of a run, and the lists as a caller has them
 --   state, lists_of            the one from the other
+--   lent_of, state_at          the lists that a call is lent, and the state between two turns
 --   key_of k, card_in s c       a card's order key; the card at place c
 --   with_cards, with_queue, ..  a state with one part written anew
 use Rattle.std.specs.Prelude.{ℕ, List, Float}
@@ -10,6 +11,8 @@ use Rattle.cards.specs.Cards.{card_at}
 use Rattle.queue.specs.Key.{card_priority}
 use Rattle.queue.specs.Queue.{Queue, queue}
 use Rattle.intervals.specs.Table.{Table, table}
+use Rattle.entry.specs.declared.lists.Lists.{Lists}
+use Rattle.simulation.specs.declared.Place.{Place}
 
 -- `C` is what a cost is
 pub record State (C : Type 0) : Type 0 where
@@ -164,3 +167,11 @@ module _ {C : Type 0} where
     table = s.table;
     draws = x;
   }
+
+-- the lists that a call is lent, and the state between two turns, of those lists
+abbrev pub lent_of : Lists → Lent Float
+lent_of x = lent x.cards.now x.counts.now x.rows.now x.days.now x.costs.now x.memorized.now x.due.now x.keys.now
+    x.intervals.now
+
+abbrev pub state_at : Lists → Place → State Float
+state_at x at = state (lent_of x) at.queued at.draws

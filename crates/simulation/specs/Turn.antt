@@ -1,10 +1,11 @@
 -- THE TURN RULE (docs/RULES.md, T3 to T7) as one definition, `next`, over any rules of a run. Definitions only.
+--   Stop                                   how a run stops
 --   card_after_put_off, card_after_event      the card after a turn
 --   add_forgetting_curve m memorized k e   what is memorized of a card up to day e
 --   after_retire, after_put_off, after_event the state after a turn
 --   event_on, act, turn_of_card             what a turn does: an event, by a choice, of a card
 --   next R s                             the next turn, or the stop
-use Rattle.std.specs.Prelude.{ℕ, ◌-◌, Bool, true, false, cond, List, eqb, pos, Float}
+use Rattle.std.specs.Prelude.{ℕ, ◌-◌, Bool, true, false, cond, List, eqb, pos, Float, Result, Ok, Err, Option, Some, None}
 use Rattle.std.specs.Float.{binary32}
 use Rattle.std.specs.Float.Ieee.{add, of_int, to_unsigned}
 use Rattle.turns.specs.Turns.{Kind, put_off, retire, Turn}
@@ -19,8 +20,6 @@ use Rattle.days.specs.Counts.{saturating_suc, learned_at, reviewed_at, add_event
 use Rattle.days.specs.Sums.{cost_at, add_cost, add_forgetting_curve_range}
 use Rattle.days.specs.Due.{add_due, move_due, none_due}
 use Rattle.events.specs.declared.Memory.{Memory}
-use Rattle.events.specs.declared.Event.{Event}
-use Rattle.events.specs.declared.Event.TheVariants as event
 use Rattle.events.specs.Drawn.{Drawn, kind_as}
 use Rattle.queue.specs.Queue.{front, front_changed, popped}
 use Rattle.intervals.specs.declared.Slot.{Slot}
@@ -28,15 +27,17 @@ use Rattle.intervals.specs.declared.Slot.TheVariants as slot
 use Rattle.intervals.specs.Schedule.{interval_of, entered}
 use Rattle.entry.specs.declared.Refusal.{Refusal}
 use Rattle.entry.specs.declared.Refusal.TheVariants as refusal
-use Rattle.simulation.specs.declared.Stop.{Stop}
-use Rattle.simulation.specs.declared.Stop.TheVariants as stop
 use Rattle.simulation.specs.State.{State, card_in, key_of, with_cards, with_queue, with_memorized, with_due}
 use Rattle.simulation.specs.Model.{Model}
 use Rattle.simulation.specs.Rules.{Rules}
 
+-- how a run stops: at its end, or refused
+abbrev pub Stop : Type 0
+Stop = Result (Unit {0}) Refusal
+
 -- a turn that is refused
 abbrev pub refuses : {S : Type 0} → Refusal → Next (Turn Drawn) S Stop
-refuses r = stops (stop.Refused r)
+refuses r = stops (Err r)
 
 -- a card put off from day d
 unfoldable pub card_after_put_off : Card → ℕ → Card
@@ -118,10 +119,10 @@ module _ {C : Type 0} (R : Rules C) where
       (after_event s c k new d x (slot.Enter p a b v))
   event_with_slot s c k new d x slot.Full = refuses (refusal.TableFull c)
 
-  abbrev pub event_with_draw : State C → ℕ → Card → Bool → ℕ → Event → Next (Turn Drawn) (State C) Stop
-  event_with_draw s c k new d (event.Happened x) = event_with_slot s c k new d x
+  abbrev pub event_with_draw : State C → ℕ → Card → Bool → ℕ → Option Memory → Next (Turn Drawn) (State C) Stop
+  event_with_draw s c k new d (Some x) = event_with_slot s c k new d x
       (R.model.slot s.table x.stability k.desired_retention)
-  event_with_draw s c k new d event.ChanceOutOfRange = refuses (refusal.ChanceOutOfRange c)
+  event_with_draw s c k new d None = refuses (refusal.ChanceOutOfRange c)
 
   unfoldable pub event_on : State C → ℕ → Card → Bool → ℕ → Next (Turn Drawn) (State C) Stop
   event_on s c k new d = event_with_draw s c k new d (R.model.event R.draw k new d s.draws)
@@ -142,5 +143,5 @@ module _ {C : Type 0} (R : Rules C) where
   -- a turn looks at the queue's first card; the run ends when the queue is empty
   unfoldable pub next : State C → Next (Turn Drawn) (State C) Stop
   next s =
-      or_else (eqb s.queue.len 0) (stops stop.Ended)
+      or_else (eqb s.queue.len 0) (stops (Ok tt))
       (let c = front s.queue in let k = card_in s c in turn_of_card s c k (day_of k.due))

@@ -1,12 +1,11 @@
 // The run: the types of its answer, and the call. Its parts are the entry's tests (crate `entry`), set_up, turn and run.
 #![tactic(auto)]
 
-ghost use Rattle.simulation.specs.State.{lent, state};
-ghost use Rattle.entry.specs.Entry.{inputs};
+ghost use Rattle.simulation.specs.State.{lent_of, state};
+ghost use Rattle.entry.specs.Lists.{SameLists, inputs_of};
 ghost use Rattle.simulation.specs.Demands.{RunContract};
 
-use cards::SimulatorConfig;
-use entry::{Check, Lengths, Refusal};
+use entry::{Learner, Lists, Refusal, Settings};
 
 mod run;
 mod set_up;
@@ -22,109 +21,40 @@ pub struct Progress {
     pub draws: u64,
 }
 
+// Why a run was refused, and how far it had come.
 #[derive(Clone, Copy)]
-pub enum Answer {
-    Finished(Progress),
-    Refused(Refusal, Progress),
+pub struct Refused {
+    pub refusal: Refusal,
+    pub progress: Progress,
 }
 
-// How a run stops: at its end, or refused.
+// Where a run stands between two turns: the queue's length and the state of the draws.
 #[derive(Clone, Copy)]
-pub enum Stop {
-    Ended,
-    Refused(Refusal),
-}
-
-// What a turn comes to: the queue's length and the state of the draws after it; or the run stops.
-#[derive(Clone, Copy)]
-pub enum Outcome {
-    Took(u32, u64),
-    Stopped(Stop),
-}
-
-// What a run of turns came to.
-#[derive(Clone, Copy)]
-pub struct RunEnd {
-    pub stop: Stop,
-    pub turns: u32,
+pub struct Place {
     pub queued: u32,
     pub draws: u64,
 }
 
-// A run, from its entry to its answer. The first nine lists are written: rows of cards and of their counts, of the
-// queue and of days' counts, the days' costs, what is memorized on each, the due counts, and the interval table; the
-// others are read.
+// A run, from its entry to its answer.
 pub fn simulate(
-    cards: &mut [[f32; 6]],
-    counts: &mut [[u32; 2]],
-    rows: &mut [[u64; 2]],
-    days: &mut [[u32; 4]],
-    costs: &mut [f32],
-    memorized: &mut [f32],
-    due: &mut [u32],
-    keys: &mut [[u32; 2]],
-    intervals: &mut [f32],
-    parameters: &[f32],
-    existing: &[[f32; 6]],
-    existing_counts: &[[u32; 2]],
-    config: SimulatorConfig,
-    retention: f32,
-    seed: u64,
-) -> Answer
-    ensures { let i = inputs config parameters.now retention seed existing.now
-        existing_counts.now in
-        let s = state (lent cards.old counts.old rows.old days.old
-        costs.old memorized.old due.old keys.old
-        intervals.old) 0 seed in
-        RunContract i s result
-        (lent cards.new counts.new rows.new days.new costs.new
-        memorized.new due.new keys.new intervals.new) }
+    lists: &mut Lists<'_>,
+    learner: Learner<'_>,
+    settings: Settings,
+) -> Result<Progress, Refused>
+    ensures run { RunContract (inputs_of learner.entry settings)
+        (state (lent_of lists.old) 0 settings.seed) result (lent_of lists.new) }
+    ensures same { SameLists lists.old lists.new }
 {
-    let lengths = Lengths {
-        cards: cards.len(),
-        counts: counts.len(),
-        rows: rows.len(),
-        days: days.len(),
-        costs: costs.len(),
-        memorized: memorized.len(),
-        due: due.len(),
-        keys: keys.len(),
-        intervals: intervals.len(),
-    };
-    let entry = entry::check_entry(
-        lengths,
-        parameters,
-        existing,
-        existing_counts,
-        config,
-        float32::is_finite(retention),
-    );
-    match entry {
-        Check::Failed(refusal) => Answer::Refused(
-            refusal,
-            Progress {
-                turns: 0,
-                cards: 0,
-                queued: 0,
-                draws: seed,
-            },
-        ),
-        Check::Passed => run::simulate_inner(
-            cards,
-            counts,
-            rows,
-            days,
-            costs,
-            memorized,
-            due,
-            keys,
-            intervals,
-            parameters,
-            existing,
-            existing_counts,
-            config,
-            retention,
-            seed,
-        ),
+    let retention_ok = float32::is_finite(settings.retention);
+    let entry = entry::check_entry(lists.lengths(), learner, settings.config, retention_ok);
+    if let Err(refusal) = entry {
+        let progress = Progress {
+            turns: 0,
+            cards: 0,
+            queued: 0,
+            draws: settings.seed,
+        };
+        return Err(Refused { refusal, progress });
     }
+    run::simulate_inner(lists, learner, settings)
 }

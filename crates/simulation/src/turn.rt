@@ -1,21 +1,92 @@
 // A turn: what the queue's first card does, and what that writes. A refusal comes before the turn's first write.
 ghost use Rattle.std.specs.Prelude.{◌≡◌, cond};
 ghost use Rattle.draws.specs.Draws.{split_mix};
-ghost use Rattle.days.specs.Counts.{saturating_suc};
+ghost use Rattle.cards.specs.declared.Choice.TheVariants as choice;
+ghost use Rattle.cards.specs.Cards.{card_at};
+ghost use Rattle.cards.specs.Choices.{limits, choice_of};
+ghost use Rattle.cards.specs.Day.{is_new};
+ghost use Rattle.days.specs.Counts.{saturating_suc, learned_at, reviewed_at};
+ghost use Rattle.days.specs.Sums.{cost_at};
+ghost use Rattle.days.specs.Due.{none_due};
+ghost use Rattle.float32.specs.Numbers.{0ᶠ};
+ghost use Rattle.queue.specs.Queue.{queue, card_index_at, front_changed, popped};
 ghost use Rattle.events.specs.Scalars.{kept};
 ghost use Rattle.events.specs.Events.{event_of};
-ghost use Rattle.simulation.specs.State.{lent, key_of, state};
+ghost use Rattle.intervals.specs.Table.{table};
+ghost use Rattle.entry.specs.Lists.{SameLists};
+ghost use Rattle.simulation.specs.State.{lent_of, key_of, state_at};
 ghost use Rattle.simulation.specs.Model.{model_of, curve_for};
-ghost use Rattle.simulation.specs.Rules.{rules_of};
-ghost use Rattle.simulation.specs.Turn.{card_after_put_off, card_after_event, add_forgetting_curve, event_on, next};
-ghost use Rattle.simulation.specs.Steps.{TurnContract, PutOff, PutOffStep, RetireStep, DaysWritten, CardWritten};
+ghost use Rattle.simulation.specs.Rules.{rules_as};
+ghost use Rattle.simulation.specs.Turn.{card_after_put_off, card_after_event, add_forgetting_curve, event_on, act, next};
+ghost use Rattle.simulation.specs.Steps.{TurnContract};
 
-use super::{Outcome, Stop};
-use cards::{Card, Choice, SimulatorConfig};
-use entry::Refusal;
-use events::{Event, Memory};
-use model::{Curve, Fsrs7Runtime};
+use super::Place;
+use cards::{Card, Choice};
+use entry::{Lists, Refusal};
+use events::{Memory, Rules};
+use intervals::Slot;
+use model::Curve;
 use queue::CardPriorityQueue;
+
+// ---- what a turn reads of the lists
+
+// The place of the queue's first card.
+fn first_in(lists: &Lists<'_>) -> u32
+    ensures { result ≡ card_index_at lists.now.rows.now 0 }
+{
+    queue::first_card(lists.rows)
+}
+
+fn card_in(lists: &Lists<'_>, c: u32) -> Card
+    ensures { result ≡ card_at lists.now.cards.now lists.now.counts.now c }
+{
+    cards::card_at(lists.cards, lists.counts, c)
+}
+
+// What a day's counts and cost let a card do.
+fn choice_in(lists: &Lists<'_>, rules: Rules, card: Card, d: u32) -> Choice
+    ensures { result ≡ choice_of rules.config.learn_span rules.config.suspend_after_lapses
+        (limits rules.config) d card (learned_at lists.now.days.now d)
+        (reviewed_at lists.now.days.now d) (cost_at 0ᶠ lists.now.costs.now d) }
+{
+    let learned = days::learned_at(lists.days, d);
+    let reviewed = days::reviewed_at(lists.days, d);
+    let cost = days::cost_at(lists.costs, d);
+    cards::decide(rules.config, card, learned, reviewed, cost)
+}
+
+fn none_due_in(lists: &Lists<'_>, new: bool, d: u32) -> bool
+    ensures { result ≡ none_due lists.now.due.now new d }
+{
+    days::none_due(lists.due, new, d)
+}
+
+// The place in the interval table, and the interval, for a stability and a retention.
+fn slot_for(lists: &Lists<'_>, rules: Rules, stability: f32, retention: f32) -> Slot
+    ensures { result ≡ (model_of rules.config (kept rules.model)).slot
+        (table lists.now.keys.now lists.now.intervals.now) stability retention }
+{
+    let most = rules.config.max_ivl;
+    let model = rules.model;
+    intervals::scheduled_interval(model, stability, retention, most, lists.keys, lists.intervals)
+}
+
+// ---- the queue, of the first `len` of its lent rows: the first card gets another key, or leaves
+
+fn change_front(rows: &mut [[u64; 2]], len: u32, key: u64)
+    ensures { queue rows.new len ≡ front_changed (queue rows.old len) key }
+{
+    let mut queue = CardPriorityQueue { rows, len };
+    queue.change_front(key);
+}
+
+fn pop(rows: &mut [[u64; 2]], len: u32) -> u32
+    ensures { queue rows.new result ≡ popped (queue rows.old len) }
+{
+    let mut queue = CardPriorityQueue { rows, len };
+    queue.pop();
+    queue.len
+}
 
 // ---- the turn's card
 
@@ -29,47 +100,25 @@ pub(crate) fn key_of(card: Card) -> u64
     )
 }
 
-// The same card once more: an event lends it on by address, and the turn's own stays in registers.
-fn copy_of(card: Card) -> Card
-    ensures { result ≡ card }
-{
-    Card {
-        difficulty: card.difficulty,
-        stability: card.stability,
-        last_date: card.last_date,
-        due: card.due,
-        interval: card.interval,
-        desired_retention: card.desired_retention,
-        reps: card.reps,
-        lapses: card.lapses,
-    }
-}
-
+#[tactic(auto, unfolding(crate::specs::Turn::card_after_put_off))]
 fn put_off_card(card: Card, d: u32) -> Card
     ensures { result ≡ card_after_put_off card d }
 {
     Card {
-        difficulty: card.difficulty,
-        stability: card.stability,
-        last_date: card.last_date,
         due: float32::from_u32(d) + 1.0,
-        interval: card.interval,
-        desired_retention: card.desired_retention,
-        reps: card.reps,
-        lapses: card.lapses,
+        ..card
     }
 }
 
+#[tactic(auto, using(days::proofs::Laws::saturated))]
 fn lapses_after(lapses: u32, new: bool, recalled: bool) -> u32
     ensures { result ≡ cond new lapses (cond recalled lapses (saturating_suc lapses)) }
 {
-    if new {
-        return lapses;
+    if new || recalled {
+        lapses
+    } else {
+        lapses.saturating_add(1)
     }
-    if recalled {
-        return lapses;
-    }
-    days::saturating_suc(lapses)
 }
 
 fn event_card(card: Card, new: bool, x: Memory, d: u32, v: f32) -> Card
@@ -83,263 +132,131 @@ fn event_card(card: Card, new: bool, x: Memory, d: u32, v: f32) -> Card
         due: day + v,
         interval: v,
         desired_retention: card.desired_retention,
-        reps: days::saturating_suc(card.reps),
+        reps: card.reps.saturating_add(1),
         lapses: lapses_after(card.lapses, new, x.recalled),
     }
 }
 
-fn add_forgetting_curve(
-    memorized: &mut [f32],
-    config: SimulatorConfig,
-    m: Fsrs7Runtime,
-    curve: Curve,
-    card: Card,
-    to: u32,
-)
-    requires { curve ≡ curve_for m card }
-    ensures { memorized.new ≡ add_forgetting_curve (model_of config (kept m)) memorized.old card
-        to }
+fn add_forgetting_curve(memorized: &mut [f32], rules: Rules, curve: Curve, card: Card, to: u32)
+    requires { curve ≡ curve_for rules.model card }
+    ensures { memorized.new
+        ≡ add_forgetting_curve (model_of rules.config (kept rules.model)) memorized.old card to }
 {
-    if cards::is_new(card.last_date) {
-        return;
+    if !cards::is_new(card.last_date) {
+        let from = float32::to_u32(card.last_date);
+        days::add_forgetting_curve_range(memorized, curve, from, to, card.last_date);
     }
-    let from = float32::to_u32(card.last_date);
-    days::add_forgetting_curve_range(memorized, curve, from, to, card.last_date);
 }
 
 // ---- the steps of a turn
 
-fn put_off(
-    cards: &mut [[f32; 6]],
-    rows: &mut [[u64; 2]],
-    due: &mut [u32],
-    span: u32,
+fn put_off_step(
+    lists: &mut Lists<'_>,
+    rules: Rules,
     c: u32,
     card: Card,
     d: u32,
-    len: u32,
-)
-    ensures { PutOff span c card d len
-        cards.old rows.old due.old
-        cards.new rows.new due.new }
+    at: Place,
+) -> Result<Option<Place>, Refusal>
+    ensures step { let before = state_at lists.old at in
+        TurnContract (act (rules_as rules) before c card d choice.PutOff) before result (lent_of lists.new) }
+    ensures same { SameLists lists.old lists.new }
 {
     let new = cards::is_new(card.last_date);
+    if none_due_in(lists, new, d) {
+        return Err(Refusal::DueCount(c));
+    }
     let later = put_off_card(card, d);
     let key = queue::card_priority(cards::day_after(d), new, card.difficulty);
-    cards::write_floats(cards, c, later);
-    let queue = CardPriorityQueue { len };
-    queue.change_front(rows, key);
-    days::move_due(due, span, new, d);
-}
-
-fn put_off_step(
-    cards: &mut [[f32; 6]],
-    rows: &mut [[u64; 2]],
-    due: &mut [u32],
-    span: u32,
-    c: u32,
-    card: Card,
-    d: u32,
-    len: u32,
-    draws: u64,
-) -> Outcome
-    ensures { PutOffStep span c card d len draws
-        cards.old rows.old due.old
-        result cards.new rows.new due.new }
-{
-    let new = cards::is_new(card.last_date);
-    if days::none_due(due, new, d) {
-        return Outcome::Stopped(Stop::Refused(Refusal::DueCount(c)));
-    }
-    put_off(cards, rows, due, span, c, card, d, len);
-    Outcome::Took(len, draws)
+    cards::write_floats(lists.cards, c, later);
+    change_front(lists.rows, at.queued, key);
+    days::move_due(lists.due, rules.config.learn_span, new, d);
+    Ok(Some(at))
 }
 
 fn retire_step(
-    memorized: &mut [f32],
-    rows: &mut [[u64; 2]],
-    config: SimulatorConfig,
-    m: Fsrs7Runtime,
-    card: Card,
-    len: u32,
-    draws: u64,
-) -> Outcome
-    ensures { RetireStep (rules_of config (kept m)) card len draws
-        memorized.old rows.old
-        result memorized.new rows.new }
-{
-    let curve = m.curve(card.stability);
-    add_forgetting_curve(memorized, config, m, curve, card, config.learn_span);
-    let queue = CardPriorityQueue { len };
-    let left = queue.pop(rows);
-    Outcome::Took(left.len, draws)
-}
-
-// The events' writes to the rows of days: the count, the cost, and what is memorized of the card up to its day.
-fn write_days(
-    days: &mut [[u32; 4]],
-    costs: &mut [f32],
-    memorized: &mut [f32],
-    config: SimulatorConfig,
-    m: Fsrs7Runtime,
-    curve: Curve,
-    card: Card,
-    new: bool,
-    d: u32,
-    x: Memory,
-)
-    requires { curve ≡ curve_for m card }
-    ensures { DaysWritten (rules_of config (kept m)) card new d x
-        days.old costs.old memorized.old days.new costs.new
-        memorized.new }
-{
-    days::add_event(days, config.learn_span, new, d, x.recalled);
-    days::add_cost(costs, d, x.cost);
-    add_forgetting_curve(memorized, config, m, curve, card, d);
-}
-
-fn write_card(
-    cards: &mut [[f32; 6]],
-    counts: &mut [[u32; 2]],
-    rows: &mut [[u64; 2]],
+    lists: &mut Lists<'_>,
+    rules: Rules,
     c: u32,
     card: Card,
-    len: u32,
-)
-    ensures { CardWritten c card len
-        cards.old counts.old rows.old cards.new counts.new
-        rows.new }
+    d: u32,
+    at: Place,
+) -> Result<Option<Place>, Refusal>
+    ensures step { let before = state_at lists.old at in
+        TurnContract (act (rules_as rules) before c card d choice.Retire) before result (lent_of lists.new) }
+    ensures same { SameLists lists.old lists.new }
 {
-    let key = key_of(card);
-    cards::write_floats(cards, c, card);
-    cards::write_counts(counts, c, card);
-    let queue = CardPriorityQueue { len };
-    queue.change_front(rows, key);
+    let curve = rules.model.curve(card.stability);
+    add_forgetting_curve(lists.memorized, rules, curve, card, rules.config.learn_span);
+    let queued = pop(lists.rows, at.queued);
+    Ok(Some(Place { queued, ..at }))
 }
 
 // The event of a card on a day; a review's chance is that of the card's curve.
-fn event_of(
-    config: SimulatorConfig,
-    m: Fsrs7Runtime,
-    curve: Curve,
-    card: Card,
-    new: bool,
-    d: u32,
-    draws: u64,
-) -> Event
-    requires { curve ≡ curve_for m card }
-    ensures { result ≡ event_of split_mix config (kept m) card new d draws }
+fn event_of(rules: Rules, curve: Curve, card: Card, new: bool, d: u32, draws: u64) -> Option<Memory>
+    requires { curve ≡ curve_for rules.model card }
+    ensures { result ≡ event_of split_mix rules.config (kept rules.model) card new d draws }
 {
     let chance = curve.retention(float32::from_u32(d) - card.last_date);
-    events::event_at(config, m, card, new, chance, draws)
+    rules.event_at(card, new, chance, draws)
 }
 
 fn event_step(
-    cards: &mut [[f32; 6]],
-    counts: &mut [[u32; 2]],
-    rows: &mut [[u64; 2]],
-    days: &mut [[u32; 4]],
-    costs: &mut [f32],
-    memorized: &mut [f32],
-    due: &mut [u32],
-    keys: &mut [[u32; 2]],
-    intervals: &mut [f32],
-    config: SimulatorConfig,
-    m: Fsrs7Runtime,
+    lists: &mut Lists<'_>,
+    rules: Rules,
     c: u32,
     card: Card,
-    new: bool,
     d: u32,
-    len: u32,
-    draws: u64,
-) -> Outcome
-    ensures { let before = state (lent cards.old counts.old rows.old days.old
-        costs.old memorized.old due.old keys.old
-        intervals.old) len draws in
-        TurnContract (event_on (rules_of config (kept m)) before c card new d) before result
-        (lent cards.new counts.new rows.new days.new costs.new
-        memorized.new due.new keys.new intervals.new) }
+    at: Place,
+) -> Result<Option<Place>, Refusal>
+    ensures step { let before = state_at lists.old at in
+        TurnContract (event_on (rules_as rules) before c card (is_new card.last_date) d)
+        before result (lent_of lists.new) }
+    ensures same { SameLists lists.old lists.new }
 {
-    let curve = m.curve(card.stability);
-    let drawn = event_of(config, m, curve, card, new, d, draws);
-    let Event::Happened(x) = drawn else {
-        return Outcome::Stopped(Stop::Refused(Refusal::ChanceOutOfRange(c)));
+    let new = cards::is_new(card.last_date);
+    let span = rules.config.learn_span;
+    let curve = rules.model.curve(card.stability);
+    let Some(x) = event_of(rules, curve, card, new, d, at.draws) else {
+        return Err(Refusal::ChanceOutOfRange(c));
     };
-    let slot = intervals::scheduled_interval(
-        m,
-        x.stability,
-        card.desired_retention,
-        config.max_ivl,
-        keys,
-        intervals,
-    );
+    let slot = slot_for(lists, rules, x.stability, card.desired_retention);
     if intervals::is_full(slot) {
-        return Outcome::Stopped(Stop::Refused(Refusal::TableFull(c)));
+        return Err(Refusal::TableFull(c));
     }
     let later = event_card(card, new, x, d, intervals::interval_in(slot));
+    let key = key_of(later);
     // ---- from here on it writes
-    write_card(cards, counts, rows, c, later, len);
-    write_days(days, costs, memorized, config, m, curve, card, new, d, x);
-    days::add_due(due, config.learn_span, cards::day_of(later.due));
-    intervals::enter_slot(keys, intervals, slot);
-    Outcome::Took(len, x.draws)
+    cards::write_floats(lists.cards, c, later);
+    cards::write_counts(lists.counts, c, later);
+    change_front(lists.rows, at.queued, key);
+    days::add_event(lists.days, span, new, d, x.recalled);
+    days::add_cost(lists.costs, d, x.cost);
+    add_forgetting_curve(lists.memorized, rules, curve, card, d);
+    days::add_due(lists.due, span, cards::day_of(later.due));
+    intervals::enter_slot(lists.keys, lists.intervals, slot);
+    Ok(Some(Place {
+        draws: x.draws,
+        ..at
+    }))
 }
 
-pub(crate) fn turn(
-    cards: &mut [[f32; 6]],
-    counts: &mut [[u32; 2]],
-    rows: &mut [[u64; 2]],
-    days: &mut [[u32; 4]],
-    costs: &mut [f32],
-    memorized: &mut [f32],
-    due: &mut [u32],
-    keys: &mut [[u32; 2]],
-    intervals: &mut [f32],
-    config: SimulatorConfig,
-    m: Fsrs7Runtime,
-    len: u32,
-    draws: u64,
-) -> Outcome
-    ensures { let before = state (lent cards.old counts.old rows.old days.old
-        costs.old memorized.old due.old keys.old
-        intervals.old) len draws in
-        TurnContract (next (rules_of config (kept m)) before) before result
-        (lent cards.new counts.new rows.new days.new costs.new
-        memorized.new due.new keys.new intervals.new) }
+// The next turn: where the run stands after it, or that it has ended, or why it is refused.
+pub(crate) fn turn(lists: &mut Lists<'_>, rules: Rules, at: Place) -> Result<Option<Place>, Refusal>
+    ensures turn { let before = state_at lists.old at in
+        TurnContract (next (rules_as rules) before) before result (lent_of lists.new) }
+    ensures same { SameLists lists.old lists.new }
 {
-    if len == 0 {
-        return Outcome::Stopped(Stop::Ended);
+    if at.queued == 0 {
+        return Ok(None);
     }
-    let queue = CardPriorityQueue { len };
-    let c = queue.peek_index(rows);
-    let card = cards::card_at(cards, counts, c);
+    let c = first_in(lists);
+    let card = card_in(lists, c);
     let d = cards::day_of(card.due);
-    let learned = days::learned_at(days, d);
-    let reviewed = days::reviewed_at(days, d);
-    let cost = days::cost_at(costs, d);
-    let choice = cards::decide(config, card, learned, reviewed, cost);
-    match choice {
-        Choice::Retire => retire_step(memorized, rows, config, m, card, len, draws),
-        Choice::PutOff => put_off_step(cards, rows, due, config.learn_span, c, card, d, len, draws),
-        // a learning or a review, by whether the card is new
-        _ => event_step(
-            cards,
-            counts,
-            rows,
-            days,
-            costs,
-            memorized,
-            due,
-            keys,
-            intervals,
-            config,
-            m,
-            c,
-            copy_of(card),
-            cards::is_new(card.last_date),
-            d,
-            len,
-            draws,
-        ),
+    match choice_in(lists, rules, card, d) {
+        Choice::Retire => retire_step(lists, rules, c, card, d, at),
+        Choice::PutOff => put_off_step(lists, rules, c, card, d, at),
+        // by whether the card is new
+        Choice::Learn | Choice::Review => event_step(lists, rules, c, card, d, at),
     }
 }

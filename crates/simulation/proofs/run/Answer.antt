@@ -4,8 +4,8 @@ use mathlib.Core.Path.{◌≡◌, ap, subst}
 use Prim.Native.Nat.{ℕ, ◌+◌, ◌*◌, ◌≤◌}
 use native.Mathlib.Nat.{mul-le-mul}
 use native.Mathlib.Omega.{arith}
-use Rattle.entry.specs.declared.Check.TheVariants as check
-use Rattle.simulation.specs.declared.RunEnd.{RunEnd}
+use Rattle.entry.specs.Entry.{passed}
+use Rattle.simulation.specs.declared.run.RunEnd.{RunEnd}
 use Rattle.simulation.specs.State.{State, Lent}
 use Rattle.simulation.specs.Rules.{Rules}
 use Rattle.simulation.specs.Steps.{RunTurns, InnerContract}
@@ -19,7 +19,7 @@ use Rattle.simulation.proofs.set_up.Invariant.{set_up_few}
 -- ---- the answer of a run from that state
 module _ {C : Type 0} (R : Rules C) (i : Inputs) (s : State C) {s₁ : State C}
     (up : s₁ ≡ set_up R.costs.none i s) where
-  pub few_cards : checked i s ≡ check.Passed → (s₁.queue.len ≤ 65536) × (i.config.learn_span ≤ 36500)
+  pub few_cards : checked i s ≡ passed → (s₁.queue.len ≤ 65536) × (i.config.learn_span ≤ 36500)
   few_cards e =
       let ok = accepted i s e in
       let few = set_up_few R.costs i s ok in
@@ -28,15 +28,15 @@ module _ {C : Type 0} (R : Rules C) (i : Inputs) (s : State C) {s₁ : State C}
 
   pub inner_is : {b : ℕ} {x : RunEnd} {l' : Lent C} → b ≡ bound R s₁ → RunTurns R s₁ b x l'
       → InnerContract R (set_up R.costs.none i s)
-      (answer_of x.stop (progress x.turns s₁.queue.len x.queued x.draws)) l'
+      (answer_of x.stop (progress x.turns s₁.queue.len x.at.queued x.at.draws)) l'
   unfolding run_from
   inner_is {b = b} {x = x} {l' = l'} eb r =
       subst (λ (z : State C). InnerContract R z
-      (answer_of x.stop (progress x.turns s₁.queue.len x.queued x.draws)) l') up
+      (answer_of x.stop (progress x.turns s₁.queue.len x.at.queued x.at.draws)) l') up
       (go (subst (λ (z : ℕ). RunTurns R s₁ z x l') eb r))
     where
       go : RunTurns R s₁ (bound R s₁) x l'
-          → InnerContract R s₁ (answer_of x.stop (progress x.turns s₁.queue.len x.queued x.draws)) l'
+          → InnerContract R s₁ (answer_of x.stop (progress x.turns s₁.queue.len x.at.queued x.at.draws)) l'
       go r₁ = record { answer = λ y e. rw (r₁.stop_is y e, r₁.turns, r₁.queued, r₁.draws); lists = r₁.lists }
 
 pub bound_fits : (len span : ℕ) → len ≤ 65536 → span ≤ 36500 → len * (span + 1) ≤ 2392129536

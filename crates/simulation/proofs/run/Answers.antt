@@ -7,19 +7,20 @@ use mathlib.Core.Path.{◌≡◌, refl, sym, ap, ◌∙◌}
 use mathlib.Core.Option.{Option, none, some}
 use Rattle.turns.specs.Run.{stops}
 use Rattle.entry.specs.declared.Refusal.{Refusal}
-use Rattle.entry.specs.declared.Check.{Check}
-use Rattle.entry.specs.declared.Check.TheVariants as check
+use Rattle.entry.specs.Entry.{Check}
+use Rattle.entry.specs.Entry.{passed}
 use Rattle.simulation.specs.declared.Progress.{Progress}
-use Rattle.simulation.specs.declared.Answer.{Answer}
-use Rattle.simulation.specs.declared.Answer.TheVariants as answer
-use Rattle.simulation.specs.declared.Stop.{Stop}
-use Rattle.simulation.specs.declared.Stop.TheVariants as stop
+use Rattle.simulation.specs.declared.Refused.{Refused}
+use Rattle.simulation.specs.Simulate.{Answer}
+use Rattle.simulation.specs.Simulate.{finished, refused}
+use Rattle.simulation.specs.Turn.{Stop}
+use Rattle.std.specs.Prelude.{Ok, Err}
 use Rattle.simulation.specs.State.{State, Lent, lists_of}
 use Rattle.simulation.specs.Rules.{Rules}
 use Rattle.simulation.specs.Turn.{next}
 use Rattle.entry.specs.Entry.{Inputs}
 use Rattle.simulation.specs.Checked.{checked}
-use Rattle.simulation.specs.Simulate.{Result, progress, answer_of, answer_if, result_from, after_check, simulated_by}
+use Rattle.simulation.specs.Simulate.{Outcome, progress, answer_of, answer_if, result_from, after_check, simulated_by}
 use Rattle.simulation.specs.Demands.{start_of, end_of, progress_of, DemandThree}
 use Rattle.simulation.proofs.Accepted.{accepted}
 use Rattle.simulation.proofs.run.Suits.{Suits}
@@ -27,14 +28,19 @@ use Rattle.simulation.proofs.run.DemandThree.{has_stopped, stops_so, daily_rules
 use Rattle.simulation.proofs.run.Frame.{longer_table}
 use Rattle.turns.proofs.Logic.{not-one}
 
-same_finished : (p q : Progress) → some (answer.Finished p) ≡ some (answer.Finished q) → p ≡ q
+same_finished : (p q : Progress) → some (finished p) ≡ some (finished q) → p ≡ q
 same_finished p q e = cc
 
-same-refused : (r r' : Refusal) (p q : Progress) → some (answer.Refused r p) ≡ some (answer.Refused r' q)
-    → (r ≡ r') × (p ≡ q)
-same-refused r r' p q e = (cc, cc)
+same_err : (x y : Refused) → (let a : Answer = Err x in some a ≡ some (Err y)) → x ≡ y
+same_err x y e = cc
 
-refused-not : (r : Refusal) (p q : Progress) → some (answer.Refused r p) ≡ some (answer.Finished q) → ⊥
+same-refused : (r r' : Refusal) (p q : Progress) → some (refused r p) ≡ some (refused r' q)
+    → (r ≡ r') × (p ≡ q)
+same-refused r r' p q e =
+    let same = same_err (record { refusal = r; progress = p }) (record { refusal = r'; progress = q }) e in
+    (ap (λ (z : Refused). z.refusal) same, ap (λ (z : Refused). z.progress) same)
+
+refused-not : (r : Refusal) (p q : Progress) → some (refused r p) ≡ some (finished q) → ⊥
 refused-not r p q e = not-one cc
 
 no_answer : (a : Answer) → none ≡ some a → ⊥
@@ -45,29 +51,29 @@ same_some x y e = cc
 
 -- an answer tells how the run stopped, and its progress
 told : (x : Option Stop) (y : Stop) (p q : Progress) → answer_if x p ≡ some (answer_of y q) → (x ≡ some y) × (p ≡ q)
-told none stop.Ended p q e = absurd (no_answer (answer.Finished q) e)
-told none (stop.Refused r) p q e = absurd (no_answer (answer.Refused r q) e)
-told (some stop.Ended) stop.Ended p q e = (refl, same_finished p q e)
-told (some stop.Ended) (stop.Refused r) p q e = absurd (refused-not r q p (sym e))
-told (some (stop.Refused r)) stop.Ended p q e = absurd (refused-not r p q e)
-told (some (stop.Refused r)) (stop.Refused r') p q e = let z = same-refused r r' p q e in
-    (ap (λ (w : Refusal). some (stop.Refused w)) z.0, z.1)
+told none (Ok y) p q e = absurd (no_answer (finished q) e)
+told none (Err r) p q e = absurd (no_answer (refused r q) e)
+told (some (Ok x)) (Ok y) p q e = (refl, same_finished p q e)
+told (some (Ok x)) (Err r) p q e = absurd (refused-not r q p (sym e))
+told (some (Err r)) (Ok y) p q e = absurd (refused-not r p q e)
+told (some (Err r)) (Err r') p q e = let z = same-refused r r' p q e in
+    (ap (λ (w : Refusal). some (Err w)) z.0, z.1)
 
 module _ {C : Type 0} (R : Rules C) (i : Inputs) (s : State C) where
   -- a call that ends Ok has passed its entry
-  pub ok_passed : (p : Progress) → (simulated_by R i s).answer ≡ some (answer.Finished p) → checked i s ≡ check.Passed
+  pub ok_passed : (p : Progress) → (simulated_by R i s).answer ≡ some (finished p) → checked i s ≡ passed
   unfolding simulated_by
   ok_passed p e = go (checked i s) e
     where
-      go : (c : Check) → (after_check R i c s).answer ≡ some (answer.Finished p) → c ≡ check.Passed
-      go check.Passed x = refl
-      go (check.Failed r) x = absurd (refused-not r (progress 0 0 0 i.seed) p x)
+      go : (c : Check) → (after_check R i c s).answer ≡ some (finished p) → c ≡ passed
+      go (Ok u) x = refl
+      go (Err r) x = absurd (refused-not r (progress 0 0 0 i.seed) p x)
 
-  pub passed_is : checked i s ≡ check.Passed → simulated_by R i s ≡ result_from R (start_of R i s)
+  pub passed_is : checked i s ≡ passed → simulated_by R i s ≡ result_from R (start_of R i s)
   unfolding simulated_by
   passed_is e = rw e
 
-  module _ (fit : Suits R i) (e : checked i s ≡ check.Passed) where
+  module _ (fit : Suits R i) (e : checked i s ≡ passed) where
     abbrev own : Progress
     own = progress_of R i s
 
@@ -76,7 +82,7 @@ module _ {C : Type 0} (R : Rules C) (i : Inputs) (s : State C) where
         → (next R (end_of R i s) ≡ stops y) × (own ≡ q)
     unfolding result_from
     told-all y q z =
-        let t = told _ y own q (sym (ap (λ (r : Result C). r.answer) (passed_is e)) ∙ z) in
+        let t = told _ y own q (sym (ap (λ (r : Outcome C). r.answer) (passed_is e)) ∙ z) in
         let h = has_stopped R i s (accepted i s e) fit in
         let x = stops_so R i s (accepted i s e) fit h.0 h.1 in
         (h.1 ∙ ap stops (same_some h.0 y (sym x ∙ t.0)), t.1)
@@ -88,20 +94,20 @@ module _ {C : Type 0} (R : Rules C) (i : Inputs) (s : State C) where
     -- and one that has stopped so answers so
     pub stop_told : (y : Stop) → next R (end_of R i s) ≡ stops y → (simulated_by R i s).answer ≡ some (answer_of y own)
     unfolding result_from
-    stop_told y z = ap (λ (r : Result C). r.answer) (passed_is e)
+    stop_told y z = ap (λ (r : Outcome C). r.answer) (passed_is e)
         ∙ ap (λ (x : Option Stop). answer_if x own) (stops_so R i s (accepted i s e) fit y z)
 
   -- DEMAND 3
-  pub ok_demand : Suits R i → (p : Progress) → (simulated_by R i s).answer ≡ some (answer.Finished p) → (l : Lent C)
+  pub ok_demand : Suits R i → (p : Progress) → (simulated_by R i s).answer ≡ some (finished p) → (l : Lent C)
       → l ≡ lists_of (simulated_by R i s).state → DemandThree R i s p l
   unfolding result_from
   ok_demand fit p e l el =
-      let passed = ok_passed p e in
-      let t = told-all fit passed stop.Ended p e in
+      let ok = ok_passed p e in
+      let t = told-all fit ok (Ok tt) p e in
       record {
-        demand = daily_rules R i s (accepted i s passed) fit;
-        rows = rows_are R i s (accepted i s passed) fit l
-            (el ∙ ap (λ (r : Result C). lists_of r.state) (passed_is passed));
+        demand = daily_rules R i s (accepted i s ok) fit;
+        rows = rows_are R i s (accepted i s ok) fit l
+            (el ∙ ap (λ (r : Outcome C). lists_of r.state) (passed_is ok));
         turns_reported = sym (ap (λ (z : Progress). z.turns) t.1);
-        longer_table = λ s' longer. longer_table R i fit s s' passed longer t.0;
+        longer_table = λ s' longer. longer_table R i fit s s' ok longer t.0;
       }

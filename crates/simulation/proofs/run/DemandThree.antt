@@ -13,7 +13,7 @@ use Rattle.turns.specs.Run.{stops, stop_of}
 use Rattle.turns.specs.Turns.{Demand}
 use Rattle.turns.proofs.Loop.{stop_is}
 use Rattle.turns.proofs.Columns.{SetUp}
-use Rattle.simulation.specs.declared.Stop.{Stop}
+use Rattle.simulation.specs.Turn.{Stop}
 use Rattle.simulation.specs.State.{State, Lent, lists_of}
 use Rattle.simulation.specs.Rules.{Rules}
 use Rattle.simulation.specs.Turn.{next}

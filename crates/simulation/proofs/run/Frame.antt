@@ -23,9 +23,9 @@ use Rattle.intervals.specs.Table.{Table, places}
 use Rattle.intervals.proofs.Emptied.{clear-places}
 use Rattle.intervals.proofs.Longer.{same-clear}
 use Rattle.events.specs.Drawn.{Drawn}
-use Rattle.entry.specs.declared.Check.TheVariants as check
-use Rattle.simulation.specs.declared.Stop.{Stop}
-use Rattle.simulation.specs.declared.Stop.TheVariants as stop
+use Rattle.entry.specs.Entry.{passed}
+use Rattle.simulation.specs.Turn.{Stop}
+use Rattle.std.specs.Prelude.{Ok, Err}
 use Rattle.simulation.specs.State.{State, Lent, lists_of, with_table}
 use Rattle.simulation.specs.Rules.{Rules}
 use Rattle.simulation.specs.Turn.{next}
@@ -110,8 +110,8 @@ same_answer : (x : Stop) {a a' b b' n n' c c' : ℕ} → a ≡ a' → b ≡ b' �
     → some (answer_of x (progress a b n c)) ≡ some (answer_of x (progress a' b' n' c'))
 same_answer x p q m r = rw (p, q, m, r)
 
-module _ {C : Type 0} (R : Rules C) (i : Inputs) (fit : Suits R i) (s s' : State C) (e : checked i s ≡ check.Passed)
-    (e' : checked i s' ≡ check.Passed) where
+module _ {C : Type 0} (R : Rules C) (i : Inputs) (fit : Suits R i) (s s' : State C) (e : checked i s ≡ passed)
+    (e' : checked i s' ≡ passed) where
   abbrev none : C
   none = R.costs.none
 
@@ -233,22 +233,22 @@ module _ {C : Type 0} (R : Rules C) (i : Inputs) (fit : Suits R i) (s s' : State
         }
 
 -- ---- the second call passes the entry too, and its table has as many places or more
-pub passes_too : {C : Type 0} (i : Inputs) (s s' : State C) → checked i s ≡ check.Passed → lists_ok i s' ≡ true
-    → checked i s' ≡ check.Passed
+pub passes_too : {C : Type 0} (i : Inputs) (s s' : State C) → checked i s ≡ passed → lists_ok i s' ≡ true
+    → checked i s' ≡ passed
 unfolding check_settings
 passes_too i s s' e l = rw l (rw (accepted i s e).lists_pass at e)
 
 -- THE LONGER TABLE: a run that ends Ok has the same run with any lists that are long enough and a table that is as long
 -- or longer
-pub longer_table : {C : Type 0} (R : Rules C) (i : Inputs) → Suits R i → (s s' : State C) → checked i s ≡ check.Passed
-    → LongerTable i s s' → next R (end_of R i s) ≡ stops stop.Ended → SameRun R i s s'
+pub longer_table : {C : Type 0} (R : Rules C) (i : Inputs) → Suits R i → (s s' : State C) → checked i s ≡ passed
+    → LongerTable i s s' → next R (end_of R i s) ≡ stops (Ok tt) → SameRun R i s s'
 longer_table R i fit s s' e l q =
     let e' = passes_too i s s' e l.lists_pass in
     same_run R i fit s s' e e' ⊥ (omega (arith, l.longer, (accepted i s e).table_even, (accepted i s' e').table_even))
-    (λ z. absurd z) stop.Ended (inl refl) q
+    (λ z. absurd z) (Ok tt) (inl refl) q
 
 -- WHATEVER THE LISTS HELD: with a table equally long every call has the same run
-pub lists_free : {C : Type 0} (R : Rules C) (i : Inputs) → Suits R i → (s s' : State C) → checked i s ≡ check.Passed
+pub lists_free : {C : Type 0} (R : Rules C) (i : Inputs) → Suits R i → (s s' : State C) → checked i s ≡ passed
     → lists_ok i s' ≡ true → length s'.table.keys ≡ length s.table.keys → SameRun R i s s'
 lists_free R i fit s s' e l k =
     let e' = passes_too i s s' e l in
@@ -259,7 +259,7 @@ lists_free R i fit s s' e l k =
 
 -- ---- one call
 -- the run's cards: the existing ones that are kept, and those created
-pub cards_are : {C : Type 0} (R : Rules C) (i : Inputs) (s : State C) → checked i s ≡ check.Passed
+pub cards_are : {C : Type 0} (R : Rules C) (i : Inputs) (s : State C) → checked i s ≡ passed
     → (let kept = kept_count i.existing i.existing_counts (length i.existing) in cards_of R i s
     ≡ kept + new_card_count i.config kept)
 cards_are R i s e =
@@ -267,7 +267,7 @@ cards_are R i s e =
     ap (λ (z : State _). z.queue.len) a.here ∙ a.count
 
 pub beyond_same : {C : Type 0} (R : Rules C) (i : Inputs) (fit : Suits R i) (s : State C)
-    (e : checked i s ≡ check.Passed)
+    (e : checked i s ≡ passed)
     → beyond (cards_of R i s) R.span (end_of R i s) ≡ beyond (cards_of R i s) R.span s
 beyond_same R i fit s e =
     let h = has_stopped R i s (accepted i s e) fit in
@@ -299,7 +299,7 @@ own_lengths n span x s ex a b c d e f g h k = record {
 }
 
 pub lengths_same : {C : Type 0} (R : Rules C) (i : Inputs) (fit : Suits R i) (s : State C)
-    (e : checked i s ≡ check.Passed) → SameLengths (lists_of s) (lists_of (end_of R i s))
+    (e : checked i s ≡ passed) → SameLengths (lists_of s) (lists_of (end_of R i s))
 lengths_same {C = C} R i fit s e =
     let ok = accepted i s e in
     let h = has_stopped R i s ok fit in

@@ -14,14 +14,13 @@ use Rattle.turns.specs.Turns.{Turn}
 use Rattle.turns.specs.Run.{Next, takes, stops, RunState, run, stop_of}
 use Rattle.turns.proofs.Loop.{run_one_more, run_enough, stop_takes, stop_stops}
 use Rattle.events.specs.Drawn.{Drawn}
-use Rattle.simulation.specs.declared.Outcome.{Outcome}
-use Rattle.simulation.specs.declared.Outcome.TheVariants as outcome
-use Rattle.simulation.specs.declared.Stop.{Stop}
-use Rattle.simulation.specs.declared.Stop.TheVariants as stop
+use Rattle.std.specs.Prelude.{Result, Ok, Err, Option, Some, None}
+use Rattle.entry.specs.declared.Refusal.{Refusal}
+use Rattle.simulation.specs.declared.Place.{Place}
 use Rattle.simulation.specs.State.{State, Lent, lists_of, state}
 use Rattle.simulation.specs.Rules.{Rules}
-use Rattle.simulation.specs.Turn.{next}
-use Rattle.simulation.specs.Steps.{stop_in, TurnContract, RunTurns}
+use Rattle.simulation.specs.Turn.{Stop, next}
+use Rattle.simulation.specs.Steps.{stopped, TurnContract, RunTurns}
 use Rattle.turns.proofs.Logic.{not-one}
 
 -- the state of a state's lists
@@ -30,11 +29,18 @@ state_is : {C : Type 0} (s : State C) (l : Lent C) (n r : ℕ) → l ≡ lists_o
 state_is s l n r e en er = rw (e, en, er)
 
 -- a stop is no turn taken
-stop_took : (x : Stop) (n r : ℕ) → outcome.Stopped x ≡ outcome.Took n r → ⊥
-stop_took x n r e = not-one cc
+stop_took : (x : Stop) (at : Place) → stopped x ≡ Ok (Some at) → ⊥
+stop_took (Ok x) at e = not-one cc
+stop_took (Err r) at e = not-one cc
 
-took_both : (a b n r : ℕ) → outcome.Took n r ≡ outcome.Took a b → (n ≡ a) × (r ≡ b)
-took_both a b n r e = (cc, cc)
+took_same : (a b : Place) → (let x : Result (Option Place) Refusal = Ok (Some a) in x ≡ Ok (Some b)) → a ≡ b
+took_same a b e = cc
+
+stopped_same : (x y : Stop) → stopped x ≡ stopped y → x ≡ y
+stopped_same (Ok x) (Ok y) e = refl
+stopped_same (Ok x) (Err r) e = absurd (not-one cc)
+stopped_same (Err r) (Ok y) e = absurd (not-one cc)
+stopped_same (Err r) (Err r') e = cc
 
 same_stop : (x y : Stop) → some x ≡ some y → x ≡ y
 same_stop x y e = cc
@@ -53,24 +59,25 @@ module _ {C : Type 0} (R : Rules C) (s₀ : State C) (bound : ℕ) where
     pub within : k ≤ bound
     pub left : stop_of (next R) (bound - k) s ≡ stop_of (next R) bound s₀
 
-  module _ {st : State C} {k : ℕ} (i : Going st k) {o : Outcome}
+  module _ {st : State C} {k : ℕ} (i : Going st k) {o : Result (Option Place) Refusal}
       {l' : Lent C}
       (p : TurnContract (next R st) st o l') (l : k < bound) where
     one_left : bound - k ≡ suc (bound - (k + 1))
     one_left = omega arith
 
-    pub going_on : (n' r : ℕ) → o ≡ outcome.Took n' r → Going (state l' n' r) (k + 1)
-    going_on n' r e = go (next R st) refl p
+    pub going_on : (at : Place) → o ≡ Ok (Some at) → Going (state l' at.queued at.draws) (k + 1)
+    going_on at e = go (next R st) refl p
       where
         go : (x : Next (Turn Drawn) (State C) Stop) → next R st ≡ x → TurnContract x st o l'
-            → Going (state l' n' r) (k + 1)
-        go (stops x) q h = absurd (stop_took x n' r (sym h.outcome ∙ e))
+            → Going (state l' at.queued at.draws) (k + 1)
+        go (stops x) q h = absurd (stop_took x at (sym h.outcome ∙ e))
         go (takes t s') q h =
-            let u = took_both s'.queue.len s'.draws n' r (sym e ∙ h.outcome) in
+            let u : at ≡ record { queued = s'.queue.len; draws = s'.draws } = took_same at _ (sym e ∙ h.outcome) in
             let q' : next R (after k).state ≡ takes t s' = rw (← i.at) q in
             let one : after (k + 1)
             ≡ record { turns = t ∷ (after k).turns; state = s' } = run_one_more (next R) k [] s₀ t s' q' in
-            let now : state l' n' r ≡ s' = state_is s' l' n' r h.lists u.0 u.1 in
+            let now : state l' at.queued at.draws ≡ s' = state_is s' l' at.queued at.draws h.lists
+            (ap (λ (z : Place). z.queued) u) (ap (λ (z : Place). z.draws) u) in
             record {
               at = now ∙ sym (ap (λ (z : RunState (Turn Drawn) (State C)). z.state) one);
               many = ap (λ (z : RunState (Turn Drawn) (State C)). length z.turns) one ∙ omega (arith, i.many);
@@ -80,13 +87,15 @@ module _ {C : Type 0} (R : Rules C) (s₀ : State C) (bound : ℕ) where
                   ∙ sym (ap (λ (z : ℕ). stop_of (next R) z st) one_left) ∙ i.left;
             }
 
-    pub going_stops : ((n r : ℕ) → o ≡ outcome.Took n r → ⊥) → (z : Stop) → z ≡ stop_in o
-        → RunTurns R s₀ bound (record { stop = z; turns = k; queued = st.queue.len; draws = st.draws }) l'
-    going_stops t z ez = go (next R st) refl p
+    pub going_stops : (z : Stop) → o ≡ stopped z
+        → RunTurns R s₀ bound
+        (record { stop = z; turns = k; at = record { queued = st.queue.len; draws = st.draws } }) l'
+    going_stops z ez = go (next R st) refl p
       where
         go : (x : Next (Turn Drawn) (State C) Stop) → next R st ≡ x → TurnContract x st o l'
-            → RunTurns R s₀ bound (record { stop = z; turns = k; queued = st.queue.len; draws = st.draws }) l'
-        go (takes u s') q h = absurd (t s'.queue.len s'.draws h.outcome)
+            → RunTurns R s₀ bound
+            (record { stop = z; turns = k; at = record { queued = st.queue.len; draws = st.draws } }) l'
+        go (takes u s') q h = absurd (stop_took z _ (sym ez ∙ h.outcome))
         go (stops x) q h =
             let q' : next R (after k).state ≡ stops x = rw (← i.at) q in
             let one : after bound ≡ after k = run_enough (next R) k bound [] s₀ x i.within q' in
@@ -95,7 +104,7 @@ module _ {C : Type 0} (R : Rules C) (s₀ : State C) (bound : ℕ) where
             let y : stop_of (next R) bound s₀ ≡ some x = sym i.left ∙ ap (λ (z : ℕ). stop_of (next R) z st) one_left
             ∙ stop_stops (next R) (bound - (k + 1)) st x q in
             record {
-              stop_is = λ w ew. ez ∙ ap stop_in h.outcome ∙ same_stop x w (sym y ∙ ew);
+              stop_is = λ w ew. stopped_same z x (sym ez ∙ h.outcome) ∙ same_stop x w (sym y ∙ ew);
               turns = sym (ap (λ (z : RunState (Turn Drawn) (State C)). length z.turns) one ∙ i.many);
               queued = ap (λ (z : State C). z.queue.len) s;
               draws = ap (λ (z : State C). z.draws) s;
@@ -103,7 +112,7 @@ module _ {C : Type 0} (R : Rules C) (s₀ : State C) (bound : ℕ) where
             }
 
   pub going_spent : {x : Lent C} {n draws k : ℕ} → Going (state x n draws) k → bound ≤ k
-      → RunTurns R s₀ bound (record { stop = stop.Ended; turns = k; queued = n; draws = draws }) x
+      → RunTurns R s₀ bound (record { stop = Ok tt; turns = k; at = record { queued = n; draws = draws } }) x
   going_spent {x} {n} {draws} {k} i l =
       let e : k ≡ bound = omega (arith, i.within) in
       let zero_left : bound - k ≡ 0 = omega arith in

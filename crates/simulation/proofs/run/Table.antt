@@ -22,8 +22,7 @@ use Rattle.days.specs.Counts.{learned_at, reviewed_at}
 use Rattle.days.specs.Sums.{cost_at}
 use Rattle.days.specs.Due.{none_due}
 use Rattle.events.specs.declared.Memory.{Memory}
-use Rattle.events.specs.declared.Event.{Event}
-use Rattle.events.specs.declared.Event.TheVariants as event
+use Rattle.std.specs.Prelude.{Option, Some, None}
 use Rattle.queue.specs.Queue.{front}
 use Rattle.intervals.specs.declared.Slot.{Slot}
 use Rattle.intervals.specs.declared.Slot.TheVariants as slot
@@ -32,8 +31,8 @@ use Rattle.intervals.proofs.Emptied.{clear_sound}
 use Rattle.intervals.specs.Table.{Table, Sound}
 use Rattle.events.specs.Drawn.{Drawn}
 use Rattle.entry.specs.declared.Refusal.TheVariants as refusal
-use Rattle.simulation.specs.declared.Stop.{Stop}
-use Rattle.simulation.specs.declared.Stop.TheVariants as stop
+use Rattle.simulation.specs.Turn.{Stop}
+use Rattle.std.specs.Prelude.{Ok, Err}
 use Rattle.simulation.specs.State.{State, card_in}
 use Rattle.simulation.specs.Rules.{Rules}
 use Rattle.entry.specs.Entry.{Inputs}
@@ -63,9 +62,9 @@ module _ {C : Type 0} (R : Rules C) (J : Table → Type 0)
       unfolding event_on
       event_after c k new d = go (R.model.event R.draw k new d s.draws)
         where
-          go : (e : Event) → After (event_with_draw R s c k new d e)
-          go event.ChanceOutOfRange = tt
-          go (event.Happened y) =
+          go : (e : Option Memory) → After (event_with_draw R s c k new d e)
+          go None = tt
+          go (Some y) =
               let r = k.desired_retention in
               given c k new d y (R.model.slot s.table y.stability r) (law s.table ok y.stability r)
 
@@ -94,7 +93,7 @@ module _ {C : Type 0} (R : Rules C) (J : Table → Type 0)
           d : ℕ
           d = day_of k.due
 
-          go : (b : Bool) → After (or_else b (stops stop.Ended) (turn_of_card R s c k d))
+          go : (b : Bool) → After (or_else b (stops (Ok tt)) (turn_of_card R s c k d))
           go true = tt
           go false = act-after c k d
               (choice_of R.span R.lapse_limit R.limits d k (learned_at s.days d) (reviewed_at s.days d)

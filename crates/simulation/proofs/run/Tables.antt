@@ -18,8 +18,7 @@ use Rattle.days.specs.Counts.{learned_at, reviewed_at}
 use Rattle.days.specs.Sums.{cost_at}
 use Rattle.days.specs.Due.{none_due}
 use Rattle.events.specs.declared.Memory.{Memory}
-use Rattle.events.specs.declared.Event.{Event}
-use Rattle.events.specs.declared.Event.TheVariants as event
+use Rattle.std.specs.Prelude.{Option, Some, None}
 use Rattle.queue.specs.Queue.{front}
 use Rattle.intervals.specs.declared.Slot.{Slot}
 use Rattle.intervals.specs.declared.Slot.TheVariants as slot
@@ -28,8 +27,8 @@ use Rattle.intervals.specs.Schedule.{is_full, interval_of, entered}
 use Rattle.intervals.proofs.Longer.{SameEntries}
 use Rattle.events.specs.Drawn.{Drawn}
 use Rattle.entry.specs.declared.Refusal.TheVariants as refusal
-use Rattle.simulation.specs.declared.Stop.{Stop}
-use Rattle.simulation.specs.declared.Stop.TheVariants as stop
+use Rattle.simulation.specs.Turn.{Stop}
+use Rattle.std.specs.Prelude.{Ok, Err}
 use Rattle.simulation.specs.State.{State, card_in, with_table}
 use Rattle.simulation.specs.Rules.{Rules}
 use Rattle.simulation.specs.Turn.{refuses, turn_as, after_retire, after_put_off, after_event, event_with_slot}
@@ -49,7 +48,7 @@ pub record Alike {C : Type 0} (E : Type 0) (s s' : State C) : Type 0 where
 
 -- the stops that both runs come to: the end, and with tables that are equally long every refusal
 abbrev pub Shared : Type 0 → Stop → Type 0
-Shared E x = (x ≡ stop.Ended) ⊎ E
+Shared E x = (x ≡ Ok tt) ⊎ E
 
 entered-places : (t : Table) (x : Slot) → places (entered t x) ≡ places t
 entered-places t (slot.Keep v) = refl
@@ -82,7 +81,7 @@ module _ {C : Type 0} (E : Type 0) (R : Rules C) (laws : Slots R.model) where
         → Follow (event_with_slot R s c k new d y x) (event_with_slot R s' c k new d y x')
     slots_follow c k new d y slot.Full x' true e h f = full
       where
-        full : Shared E (stop.Refused (refusal.TableFull c))
+        full : Shared E (Err (refusal.TableFull c))
             → event_with_slot R s' c k new d y x' ≡ refuses (refusal.TableFull c)
         full (inl z) = absurd (not-one cc)
         full (inr z) = event_full R s' c k new d y x' (f z refl)
@@ -97,9 +96,9 @@ module _ {C : Type 0} (E : Type 0) (R : Rules C) (laws : Slots R.model) where
     unfolding event_on
     event_follows c k new d = go (R.model.event R.draw k new d s.draws)
       where
-        go : (e : Event) → Follow (event_with_draw R s c k new d e) (event_with_draw R s' c k new d e)
-        go event.ChanceOutOfRange = λ z. refl
-        go (event.Happened y) =
+        go : (e : Option Memory) → Follow (event_with_draw R s c k new d e) (event_with_draw R s' c k new d e)
+        go None = λ z. refl
+        go (Some y) =
             let r = k.desired_retention in
             slots_follow c k new d y (R.model.slot s.table y.stability r) (R.model.slot t y.stability r)
             (is_full (R.model.slot s.table y.stability r)) refl
@@ -132,8 +131,8 @@ module _ {C : Type 0} (E : Type 0) (R : Rules C) (laws : Slots R.model) where
         d : ℕ
         d = day_of k.due
 
-        go : (b : Bool) → Follow (or_else b (stops stop.Ended) (turn_of_card R s c k d))
-            (or_else b (stops stop.Ended) (turn_of_card R s' c k d))
+        go : (b : Bool) → Follow (or_else b (stops (Ok tt)) (turn_of_card R s c k d))
+            (or_else b (stops (Ok tt)) (turn_of_card R s' c k d))
         go true = λ z. refl
         go false = act_follows c k d
             (choice_of R.span R.lapse_limit R.limits d k (learned_at s.days d) (reviewed_at s.days d)

@@ -1,37 +1,33 @@
 -- A call that an entry test fails is turned away as it came; any other is set up and run.
-use mathlib.Core.Path.{sym, ◌∙◌}
-use Rattle.simulation.specs.State.{lent, state}
-use Rattle.entry.specs.Entry.{inputs}
+use mathlib.Core.Path.{sym, ap, ◌∙◌}
+use Rattle.entry.specs.declared.lists.Lengths.{Lengths}
+use Rattle.entry.specs.Entry.{inputs, check_entry}
+use Rattle.entry.specs.Lists.{inputs_of}
+use Rattle.simulation.specs.State.{lent_of, state}
 use Rattle.simulation.proofs.Contract.{same_check, refused_is, accepted_is}
 use Rattle.simulation.proofs.simulate.Goals as goal
 
 pub simulate_inner-requires : goal.simulate_inner-requires
 simulate_inner-requires c =
     let a = c.args in
-    let i = inputs a.config a.parameters.now a.retention a.seed a.existing.now
-    a.existing_counts.now in
-    let s = state (lent a.cards.now a.counts.now a.rows.now a.days.now a.costs.now
-    a.memorized.now a.due.now a.keys.now a.intervals.now) 0 a.seed in
-    sym (same_check i s c.is_finite.result c.is_finite.ensures
-    c.check_entry-entry.ensures) ∙ c.in-Passed.is
+    let i = inputs_of a.learner a.settings in
+    let s = state (lent_of a.lists.now) 0 a.settings.seed in
+    sym (same_check i s c.is_finite-retention_ok.result c.is_finite-retention_ok.ensures
+    (rw c.lengths.ensures at c.check_entry-entry.ensures)) ∙ c.in_default.is
 
-pub returns-in-Failed : goal.returns-in-Failed
-returns-in-Failed c =
+pub returns-in-Err-clause-run : goal.returns-in-Err-clause-run
+returns-in-Err-clause-run c =
     let a = c.args in
-    let i = inputs a.config a.parameters.now a.retention a.seed a.existing.now
-    a.existing_counts.now in
-    let s = state (lent a.cards.now a.counts.now a.rows.now a.days.now a.costs.now
-    a.memorized.now a.due.now a.keys.now a.intervals.now) 0 a.seed in
-    refused_is i s _ (sym (same_check i s c.is_finite.result c.is_finite.ensures
-    c.check_entry-entry.ensures) ∙ c.in-Failed.is)
+    let i = inputs_of a.learner a.settings in
+    let s = state (lent_of a.lists.now) 0 a.settings.seed in
+    refused_is i s _ (sym (same_check i s c.is_finite-retention_ok.result c.is_finite-retention_ok.ensures
+    (rw c.lengths.ensures at c.check_entry-entry.ensures)) ∙ c.in-Err.is)
 
-pub returns-in-Passed : goal.returns-in-Passed
-returns-in-Passed c =
+pub returns-clause-run : goal.returns-clause-run
+returns-clause-run c =
     let a = c.args in
-    let i = inputs a.config a.parameters.now a.retention a.seed a.existing.now
-    a.existing_counts.now in
-    let s = state (lent a.cards.now a.counts.now a.rows.now a.days.now a.costs.now
-    a.memorized.now a.due.now a.keys.now a.intervals.now) 0 a.seed in
-    let e = sym (same_check i s c.is_finite.result c.is_finite.ensures
-    c.check_entry-entry.ensures) ∙ c.in-Passed.is in
-    accepted_is i s e c.simulate_inner.ensures
+    let i = inputs_of a.learner a.settings in
+    let s = state (lent_of a.lists.now) 0 a.settings.seed in
+    let e = sym (same_check i s c.is_finite-retention_ok.result c.is_finite-retention_ok.ensures
+    (rw c.lengths.ensures at c.check_entry-entry.ensures)) ∙ c.in_default.is in
+    accepted_is i s e c.simulate_inner.ensures.run

@@ -27,8 +27,7 @@ use Rattle.days.proofs.Laws.{cost_long}
 use Rattle.days.proofs.Frame.{event_own, event_long, cost_own, range_own, range_long, add_due-own, move_due-own}
 use Rattle.days.proofs.Due.{add-long, move_long}
 use Rattle.events.specs.declared.Memory.{Memory}
-use Rattle.events.specs.declared.Event.{Event}
-use Rattle.events.specs.declared.Event.TheVariants as event
+use Rattle.std.specs.Prelude.{Option, Some, None}
 use Rattle.events.specs.Drawn.{Drawn}
 use Rattle.queue.specs.Queue.{front}
 use Rattle.queue.proofs.Frame.{front-widened, popped-widened, popped-long, popped_less, changed_widened, changed_long}
@@ -37,8 +36,8 @@ use Rattle.intervals.specs.declared.Slot.{Slot}
 use Rattle.intervals.specs.declared.Slot.TheVariants as slot
 use Rattle.intervals.specs.Schedule.{interval_of}
 use Rattle.entry.specs.declared.Refusal.TheVariants as refusal
-use Rattle.simulation.specs.declared.Stop.{Stop}
-use Rattle.simulation.specs.declared.Stop.TheVariants as stop
+use Rattle.simulation.specs.Turn.{Stop}
+use Rattle.std.specs.Prelude.{Ok, Err}
 use Rattle.simulation.specs.State.{State, Lent, card_in, key_of}
 use Rattle.simulation.specs.Model.{Model}
 use Rattle.simulation.specs.Rules.{Rules}
@@ -218,9 +217,9 @@ module _ {C : Type 0} (R : Rules C) (cards : ℕ) (fine : RunBounds R.span cards
       unfolding event_on
       event_framed new = go (R.model.event R.draw k new d s.draws)
         where
-          go : (e : Event) → Framed (event_with_draw R s c k new d e) (event_with_draw R wide c k new d e)
-          go (event.Happened x) = slot_framed new x (R.model.slot s.table x.stability k.desired_retention)
-          go event.ChanceOutOfRange = refl
+          go : (e : Option Memory) → Framed (event_with_draw R s c k new d e) (event_with_draw R wide c k new d e)
+          go (Some x) = slot_framed new x (R.model.slot s.table x.stability k.desired_retention)
+          go None = refl
 
       due_same : none_due wide.due (is_new k.last_date) d ≡ none_due s.due (is_new k.last_date) d
       unfolding none_due
@@ -277,10 +276,10 @@ module _ {C : Type 0} (R : Rules C) (cards : ℕ) (fine : RunBounds R.span cards
   framed = go (eqb s.queue.len 0) refl
     where
       go : (t : Bool) → eqb s.queue.len 0 ≡ t
-          → Framed (or_else t (stops stop.Ended)
+          → Framed (or_else t (stops (Ok tt))
           (turn_of_card R s (front s.queue) (card_in s (front s.queue))
           (day_of (card_in s (front s.queue)).due)))
-          (or_else t (stops stop.Ended)
+          (or_else t (stops (Ok tt))
           (turn_of_card R wide (front wide.queue) (card_in wide (front wide.queue))
           (day_of (card_in wide (front wide.queue)).due)))
       go true e = refl

@@ -28,16 +28,15 @@ use Rattle.days.specs.Counts.{learned_at, reviewed_at}
 use Rattle.days.specs.Sums.{cost_at}
 use Rattle.days.specs.Due.{none_due}
 use Rattle.events.specs.declared.Memory.{Memory}
-use Rattle.events.specs.declared.Event.{Event}
-use Rattle.events.specs.declared.Event.TheVariants as event
+use Rattle.std.specs.Prelude.{Option, Some, None}
 use Rattle.queue.specs.Queue.{front}
 use Rattle.intervals.specs.declared.Slot.{Slot}
 use Rattle.intervals.specs.declared.Slot.TheVariants as slot
 use Rattle.intervals.specs.Schedule.{is_full, interval_of}
 use Rattle.events.specs.Drawn.{Drawn}
 use Rattle.entry.specs.declared.Refusal.TheVariants as refusal
-use Rattle.simulation.specs.declared.Stop.{Stop}
-use Rattle.simulation.specs.declared.Stop.TheVariants as stop
+use Rattle.simulation.specs.Turn.{Stop}
+use Rattle.std.specs.Prelude.{Ok, Err}
 use Rattle.simulation.specs.State.{State, card_in}
 use Rattle.simulation.specs.Turn.{refuses, turn_as, event_turn, after_put_off, after_event, event_with_slot}
 use Rattle.simulation.specs.Turn.{event_with_draw, event_on, or_else, act, turn_of_card, next}
@@ -92,9 +91,9 @@ module _ {C : Type 0} (R : Rules C) (cards : ℕ) (fine : RunBounds R.span cards
     unfolding event_on
     law_event new h = go (R.model.event R.draw k new d s.draws)
       where
-        go : (e : Event) → Lawful Steps Fit ts s (event_with_draw R s c k new d e)
-        go event.ChanceOutOfRange = tt
-        go (event.Happened y) =
+        go : (e : Option Memory) → Lawful Steps Fit ts s (event_with_draw R s c k new d e)
+        go None = tt
+        go (Some y) =
             let r = k.desired_retention in
             law_slot new y (R.model.slot s.table y.stability r)
             (laws.fair s.table good.table y.stability r)
@@ -167,7 +166,7 @@ module _ {C : Type 0} (R : Rules C) (cards : ℕ) (fine : RunBounds R.span cards
     where
       go : (b : Bool) → eqb s.queue.len 0 ≡ b
           → Lawful Steps Fit ts s
-          (or_else b (stops stop.Ended)
+          (or_else b (stops (Ok tt))
           (turn_of_card R s (front s.queue) (card_in s (front s.queue)) (day_of (card_in s (front s.queue)).due)))
       go true e = tt
       go false e = let ne = eqb-false s.queue.len 0 e in law_turn ts s good (omega (arith, ne))

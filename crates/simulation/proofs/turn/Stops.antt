@@ -1,6 +1,6 @@
 -- When the next turn stops the run, and how: `stops_iff` says that it is by x exactly on the `StopCondition` of x.
 use mathlib.Core.Path.{◌≡◌, refl, sym, ap, ◌∙◌}
-use mathlib.Core.Bool.{Bool, true, false}
+use mathlib.Core.Bool.{Bool, true, false, cond}
 use mathlib.Core.Logic.{◌↔◌}
 use mathlib.Core.Option.{none}
 use Prim.Native.Nat.{ℕ, ◌<◌}
@@ -18,11 +18,10 @@ use Rattle.cards.specs.declared.Choice.TheVariants as choice
 use Rattle.cards.specs.Day.{is_new}
 use Rattle.days.specs.Due.{none_due}
 use Rattle.events.specs.declared.Memory.{Memory}
-use Rattle.events.specs.declared.Event.{Event}
-use Rattle.events.specs.declared.Event.TheVariants as event
+use Rattle.std.specs.Prelude.{Option, Some, None}
 use Rattle.events.specs.Scalars.{Scalars}
 use Rattle.events.specs.Drawn.{Drawn}
-use Rattle.events.specs.Events.{chance_ok, chance_on, pick_event, learning, success, lapse, reviewing, event_at, event_of}
+use Rattle.events.specs.Events.{chance_ok, chance_on, learning, success, lapse, reviewing, event_at, event_of}
 use Rattle.queue.specs.Queue.{front}
 use Rattle.intervals.specs.declared.Slot.{Slot}
 use Rattle.intervals.specs.declared.Slot.TheVariants as slot
@@ -32,8 +31,8 @@ use Rattle.intervals.specs.Table.{places, held_in, count_in}
 use Rattle.intervals.specs.Table.{Sound}
 use Rattle.intervals.proofs.Schedule.{slot_full_iff}
 use Rattle.entry.specs.declared.Refusal.TheVariants as refusal
-use Rattle.simulation.specs.declared.Stop.{Stop}
-use Rattle.simulation.specs.declared.Stop.TheVariants as stop
+use Rattle.simulation.specs.Turn.{Stop}
+use Rattle.std.specs.Prelude.{Ok, Err}
 use Rattle.simulation.specs.State.{State}
 use Rattle.simulation.specs.Rules.{Rules, rules_with}
 use Rattle.simulation.specs.Turn.{refuses, turn_as, after_put_off, event_with_slot, event_with_draw, event_on, or_else}
@@ -43,26 +42,25 @@ use Rattle.simulation.specs.RunRefusals.{DueRefused, StopCondition}
 use Rattle.simulation.proofs.turn.Calls.{event_full}
 use Rattle.turns.proofs.Logic.{not-one}
 
-happened_not : (y : Memory) → event.Happened y ≡ event.ChanceOutOfRange → ⊥
+happened_not : (y : Memory) → Some y ≡ None → ⊥
 happened_not y e = not-one cc
 
 -- an event of FSRS-7 is refused exactly where it is a review at a chance that is not 0 to 1
 module _ (w : DrawRule) (g : SimulatorConfig) (x : Scalars) (k : Card) (d state : ℕ) where
-  refused-chance : (new : Bool) → event_of w g x k new d state ≡ event.ChanceOutOfRange
+  refused-chance : (new : Bool) → event_of w g x k new d state ≡ None
       → (new ≡ false) × (chance_ok (chance_on x k d) ≡ false)
   unfolding event_of event_at reviewing
   refused-chance true e = absurd (happened_not (learning w g x state) e)
   refused-chance false e = (refl, go (chance_ok (chance_on x k d)) (recalled (chance_on x k d) (w.word state)) e)
     where
       go : (ok recall : Bool)
-          → pick_event ok (pick_event recall (event.Happened (success w g x k (chance_on x k d) (w.after state)))
-          (event.Happened (lapse w g x k (chance_on x k d) (w.after state)))) event.ChanceOutOfRange
-          ≡ event.ChanceOutOfRange → ok ≡ false
+          → cond ok (Some (cond recall (success w g x k (chance_on x k d) (w.after state))
+          (lapse w g x k (chance_on x k d) (w.after state)))) None
+          ≡ None → ok ≡ false
       go false recall z = refl
-      go true true z = absurd (happened_not _ z)
-      go true false z = absurd (happened_not _ z)
+      go true recall z = absurd (happened_not _ z)
 
-  chance-refused : chance_ok (chance_on x k d) ≡ false → event_of w g x k false d state ≡ event.ChanceOutOfRange
+  chance-refused : chance_ok (chance_on x k d) ≡ false → event_of w g x k false d state ≡ None
   unfolding event_of event_at reviewing
   chance-refused e = rw e
 
@@ -91,7 +89,7 @@ module _ (w : DrawRule) (g : SimulatorConfig) (x : Scalars) (s : State Float) (o
 
   module _ (some : 0 < s.queue.len) where
     slot_tells : (new : Bool) (y : Memory) (t : Slot) → turn_choice R s ≡ event_choice new
-        → R.model.event R.draw k new d s.draws ≡ event.Happened y
+        → R.model.event R.draw k new d s.draws ≡ Some y
         → t ≡ R.model.slot s.table y.stability k.desired_retention
         → Tells (event_with_slot R s c k new d y t)
     slot_tells new y (slot.Keep v) e h q = tt
@@ -113,9 +111,9 @@ module _ (w : DrawRule) (g : SimulatorConfig) (x : Scalars) (s : State Float) (o
     unfolding event_on
     event_tells new e = go (R.model.event R.draw k new d s.draws) refl
       where
-        go : (z : Event) → R.model.event R.draw k new d s.draws ≡ z → Tells (event_with_draw R s c k new d z)
-        go (event.Happened y) q = slot_tells new y _ e q refl
-        go event.ChanceOutOfRange q =
+        go : (z : Option Memory) → R.model.event R.draw k new d s.draws ≡ z → Tells (event_with_draw R s c k new d z)
+        go (Some y) q = slot_tells new y _ e q refl
+        go None q =
             let h = refused-chance w g x k d s.draws new q in
             unfold chance_on in (record {
               queued = some;
@@ -139,7 +137,7 @@ module _ (w : DrawRule) (g : SimulatorConfig) (x : Scalars) (s : State Float) (o
   unfolding next
   tells = go (eqb s.queue.len 0) refl
     where
-      go : (b : Bool) → eqb s.queue.len 0 ≡ b → Tells (or_else b (stops stop.Ended) (turn_of_card R s c k d))
+      go : (b : Bool) → eqb s.queue.len 0 ≡ b → Tells (or_else b (stops (Ok tt)) (turn_of_card R s c k d))
       go true e = eqb-true s.queue.len 0 e
       go false e = let ne = eqb-false s.queue.len 0 e in act_tells (omega (arith, ne)) (turn_choice R s) refl
 
@@ -148,7 +146,7 @@ module _ (w : DrawRule) (g : SimulatorConfig) (x : Scalars) (s : State Float) (o
   unfolding next
   turn_is z h e = rw (ne_eqb s.queue.len 0 (omega (arith, h)), e)
 
-  end_meets : s.queue.len ≡ 0 → next R s ≡ stops stop.Ended
+  end_meets : s.queue.len ≡ 0 → next R s ≡ stops (Ok tt)
   unfolding next
   end_meets h = rw (eq-eqb s.queue.len 0 h)
 
@@ -176,18 +174,18 @@ module _ (w : DrawRule) (g : SimulatorConfig) (x : Scalars) (s : State Float) (o
       acts false = refl
 
   meets : (y : Stop) → StopCondition R s y → next R s ≡ stops y
-  meets stop.Ended h = end_meets h
-  meets (stop.Refused (refusal.ChanceOutOfRange c')) h = chance_meets c' h
-  meets (stop.Refused (refusal.TableFull c')) h = table_meets c' h
-  meets (stop.Refused (refusal.DueCount c')) h = due_meets c' h
-  meets (stop.Refused (refusal.Parameters i)) h = absurd h
-  meets (stop.Refused refusal.DeckSize) h = absurd h
-  meets (stop.Refused refusal.LearnSpan) h = absurd h
-  meets (stop.Refused refusal.Config) h = absurd h
-  meets (stop.Refused refusal.Lists) h = absurd h
-  meets (stop.Refused refusal.TooManyCards) h = absurd h
-  meets (stop.Refused (refusal.ExistingCard i)) h = absurd h
-  meets (stop.Refused (refusal.NotFound done)) h = absurd h
+  meets (Ok x) h = end_meets h
+  meets (Err (refusal.ChanceOutOfRange c')) h = chance_meets c' h
+  meets (Err (refusal.TableFull c')) h = table_meets c' h
+  meets (Err (refusal.DueCount c')) h = due_meets c' h
+  meets (Err (refusal.Parameters i)) h = absurd h
+  meets (Err refusal.DeckSize) h = absurd h
+  meets (Err refusal.LearnSpan) h = absurd h
+  meets (Err refusal.Config) h = absurd h
+  meets (Err refusal.Lists) h = absurd h
+  meets (Err refusal.TooManyCards) h = absurd h
+  meets (Err (refusal.ExistingCard i)) h = absurd h
+  meets (Err (refusal.NotFound done)) h = absurd h
 
   pub stops_iff : (y : Stop) → (next R s ≡ stops y) ↔ StopCondition R s y
   stops_iff y = (λ e. rw e at tells, meets y)

@@ -1,15 +1,9 @@
--- The invariant of its loop: the lists are those of the first i new cards joined. The measure is the cards left.
-use mathlib.Core.List.{[]}
-use Prim.Native.Nat.{◌-◌, ◌≤◌}
-use lib.ListN.{length}
-use mathlib.Core.Path.{◌≡◌}
-use Rattle.simulation.specs.SetUp.{deck, add_new_cards}
+-- The invariant of its loop: the lists are those of the first i new cards joined.
+use Rattle.simulation.specs.SetUp.{add_new_cards}
+use Rattle.simulation.specs.Steps.{deck_of, Joined}
 use Rattle.simulation.proofs.set_up.add_new_cards.Given as goal
 
 abbrev pub invariant-loop-i : goal.invariant-loop-i
 invariant-loop-i l =
-    (deck l.cards l.counts l.rows [] l.len ≡ add_new_cards l.retention l.limit l.i (deck l.initial.cards l.initial.counts l.initial.rows [] l.from)) × (l.i ≤ l.n)
-    × (length l.cards ≡ length l.initial.cards) × (length l.counts ≡ length l.initial.counts) × (length l.rows ≡ length l.initial.rows)
-
-abbrev pub decreases-loop-i : goal.decreases-loop-i
-decreases-loop-i l = l.n - l.i
+    Joined (add_new_cards l.settings.retention l.settings.config.learn_limit l.i
+    (deck_of l.initial.lists l.fn.from)) l.initial.lists l.len l.lists

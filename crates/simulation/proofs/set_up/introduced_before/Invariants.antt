@@ -1,13 +1,8 @@
--- The invariant of its loop: `count` is the number of introduced ones among the first i cards. The measure is the cards
--- left.
-use Prim.Native.Nat.{◌-◌, ◌≤◌}
-use mathlib.Core.Path.{◌≡◌}
+-- The invariant of its loop: `count` is the number of introduced ones among the first i cards.
+use Rattle.std.proofs.Common.{◌≡◌, ◌≤◌}
 use Rattle.simulation.specs.SetUp.{introduced_before}
 use Rattle.simulation.proofs.set_up.introduced_before.Given as goal
 
 abbrev pub invariant-loop-i : goal.invariant-loop-i
-invariant-loop-i l = (l.count ≡ introduced_before l.existing l.existing_counts l.i)
-    × (l.count ≤ l.i) × (l.i ≤ l.n)
-
-abbrev pub decreases-loop-i : goal.decreases-loop-i
-decreases-loop-i l = l.n - l.i
+invariant-loop-i l =
+    (l.count ≡ introduced_before l.learner.existing.now l.learner.existing_counts.now l.i) × (l.count ≤ l.i)

@@ -1,20 +1,24 @@
--- The calls of set-up leave, one after the other, the parts of `set_up`; nothing of it reads the parameters, the seed or
--- the table's keys.
-use mathlib.Core.Path.{refl, ◌∙◌}
+-- The calls of set-up leave, one after the other, the parts of `set_up`.
+use mathlib.Core.Path.{ap, ◌∙◌}
+use mathlib.Core.List.{List}
+use lib.Ieee.{Float, of_bits, binary32}
+use lib.ListN.{length, replicate}
+use Rattle.simulation.specs.SetUp.{filled}
 use Rattle.simulation.proofs.set_up.State.{set_up_is}
 use Rattle.simulation.proofs.set_up.set_up.Goals as goal
 
-pub shape_of-due : goal.shape_of-due
-shape_of-due c =
-    c.add_existing_cards-retained.auto.due ∙ c.first_due.auto.due
-
-pub returns : goal.returns
-returns c =
+pub returns-clause-state : goal.returns-clause-state
+returns-clause-state c =
     let a = c.args in
-    λ w seed keys. set_up_is a.config w a.retention seed a.existing.now a.existing_counts.now
-    a.cards.now a.counts.now a.rows.now a.days.now a.costs.now a.memorized.now
-    a.due.now keys a.intervals.now _ _ refl refl
-    c.first_due.ensures c.add_existing_cards-retained.ensures
-    c.new_card_count-more.ensures c.add_new_cards-len.ensures
-    c.introduced_before.ensures c.first_day_counts.ensures
-    c.first_zeros.ensures c.first_zeros-2.ensures c.clear.ensures
+    let x = a.lists.now in
+    let p = c.add_existing_cards-kept.ensures.joined in
+    let q = c.add_new_cards-len.ensures.joined in
+    set_up_is a.settings.config a.learner.parameters.now a.settings.retention a.settings.seed a.learner.existing.now
+    a.learner.existing_counts.now x.cards.now x.counts.now x.rows.now x.days.now x.costs.now x.memorized.now
+    x.due.now x.keys.now x.intervals.now
+    (rw c.due_days.ensures at c.fill_first.ensures) p.deck_is c.new_card_count-more.ensures q.deck_is
+    c.introduced_before.ensures (c.fill_first-2.ensures ∙ ap (filled _ _) (q.days_are ∙ p.days_are))
+    (c.fill_first-3.ensures ∙ ap (filled _ _) (q.costs_are ∙ p.costs_are))
+    (c.fill_first-4.ensures ∙ ap (filled _ _) (q.memorized_are ∙ p.memorized_are))
+    (c.clear.ensures ∙ ap (λ (z : List Float). replicate (length z) (of_bits binary32 0))
+    (q.intervals_are ∙ p.intervals_are)) (q.keys_are ∙ p.keys_are)

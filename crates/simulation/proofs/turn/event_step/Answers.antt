@@ -1,50 +1,37 @@
-use Rattle.events.specs.Scalars.{kept}
-use Rattle.simulation.specs.State.{lent}
-use Rattle.simulation.specs.Rules.{rules_of}
-use Rattle.intervals.specs.Schedule.{slot_of}
-use Rattle.simulation.proofs.turn.Calls.{not_happened, chance_is, full_is, handled_is}
 use mathlib.Core.Path.{sym, ◌∙◌}
 use Rattle.draws.specs.Draws.{split_mix}
+use Rattle.events.specs.Scalars.{kept}
 use Rattle.events.proofs.Costs.{event_cost}
+use Rattle.simulation.specs.State.{lent_of}
+use Rattle.simulation.specs.Rules.{rules_as}
+use Rattle.simulation.proofs.turn.Calls.{none_is, chance_is, full_is, handled_is}
 use Rattle.simulation.proofs.turn.event_step.Goals as goal
 
-pub returns-in_default : goal.returns-in_default
-returns-in_default c =
-    chance_is (rules_of c.args.config (kept c.args.m))
-    (lent c.args.cards.now c.args.counts.now
-    c.args.rows.now c.args.days.now c.args.costs.now c.args.memorized.now
-    c.args.due.now c.args.keys.now
-    c.args.intervals.now) c.args.len c.args.draws c.args.c c.args.card
-    c.args.new c.args.d _
-    c.event_of-drawn.ensures (not_happened _ c.in_default.not-Happened)
+pub returns-in_default-clause-step : goal.returns-in_default-clause-step
+returns-in_default-clause-step c =
+    let a = c.args in
+    rw (← c.is_new-new.ensures)
+    (chance_is (rules_as a.rules) (lent_of a.lists.now) a.at.queued a.at.draws a.c a.card c.is_new-new.result a.d
+    (sym c.event_of.ensures ∙ none_is _ c.in_default.not-Some))
 
-pub returns-then-is_full : goal.returns-then-is_full
-unfolding slot_of
-returns-then-is_full c =
-    full_is (rules_of c.args.config (kept c.args.m))
-    (lent c.args.cards.now c.args.counts.now
-    c.args.rows.now c.args.days.now c.args.costs.now c.args.memorized.now
-    c.args.due.now c.args.keys.now
-    c.args.intervals.now) c.args.len c.args.draws c.args.c c.args.card
-    c.args.new c.args.d _ _
-    c.event_of-drawn.ensures c.in-Happened.is _
-    c.scheduled_interval-slot.ensures _ c.is_full.ensures
-    c.if-is_full.true
+pub returns-then-is_full-clause-step : goal.returns-then-is_full-clause-step
+returns-then-is_full-clause-step c =
+    let a = c.args in
+    rw (← c.is_new-new.ensures)
+    (full_is (rules_as a.rules) (lent_of a.lists.now) a.at.queued a.at.draws a.c a.card c.is_new-new.result a.d
+    _ (sym c.event_of.ensures ∙ c.in-Some.is) _ c.slot_for-slot.ensures
+    (sym c.is_full.ensures ∙ c.if-is_full.true))
 
-pub returns : goal.returns
-unfolding slot_of
-returns c =
-    handled_is (rules_of c.args.config (kept c.args.m))
-    (lent c.args.cards.now c.args.counts.now
-    c.args.rows.now c.args.days.now c.args.costs.now c.args.memorized.now
-    c.args.due.now c.args.keys.now
-    c.args.intervals.now) c.args.len c.args.draws c.args.c c.args.card
-    c.args.new c.args.d _ _
-    c.event_of-drawn.ensures c.in-Happened.is _
-    c.scheduled_interval-slot.ensures _ c.is_full.ensures
-    c.if-is_full.false _ c.interval_in.ensures _ c.event_card-later.ensures _
-    c.day_of.ensures _
-    c.write_card.ensures c.write_days.ensures
-    (event_cost split_mix c.args.config (kept c.args.m) c.args.card c.args.new
-    c.args.d c.args.draws _ (sym c.event_of-drawn.ensures ∙ c.in-Happened.is))
-    c.add_due.ensures c.enter_slot.ensures
+pub returns-clause-step : goal.returns-clause-step
+returns-clause-step c =
+    let a = c.args in
+    rw (← c.is_new-new.ensures)
+    (handled_is (rules_as a.rules) (lent_of a.lists.now) a.at.queued a.at.draws a.c a.card c.is_new-new.result a.d
+    _ (sym c.event_of.ensures ∙ c.in-Some.is) _ c.slot_for-slot.ensures
+    (sym c.is_full.ensures ∙ c.if-is_full.false) _ c.interval_in.ensures _ c.event_card-later.ensures _
+    c.write_floats.ensures c.write_counts.ensures
+    (rw (← c.key_of-key.ensures) c.change_front.ensures)
+    c.add_event.ensures c.add_cost.ensures c.add_forgetting_curve.ensures
+    (rw (← c.day_of.ensures) c.add_due.ensures) c.enter_slot.ensures
+    (event_cost split_mix a.rules.config (kept a.rules.model) a.card c.is_new-new.result a.d a.at.draws _
+    (sym c.event_of.ensures ∙ c.in-Some.is)))

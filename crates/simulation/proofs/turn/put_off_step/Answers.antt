@@ -1,18 +1,22 @@
+use mathlib.Core.Path.{sym, ◌∙◌}
+use Rattle.simulation.specs.State.{lent_of}
+use Rattle.simulation.specs.Rules.{rules_as}
+use Rattle.simulation.specs.Turn.{card_after_put_off}
 use Rattle.simulation.proofs.turn.Calls.{put_off-refused, put_off_done}
 use Rattle.simulation.proofs.turn.put_off_step.Goals as goal
 
-pub returns-then-none_due : goal.returns-then-none_due
-returns-then-none_due c =
-    put_off-refused c.args.span c.args.c c.args.card c.args.d c.args.len
-    c.args.draws
-    c.args.cards.now c.args.rows.now c.args.due.now _ _ c.is_new-new.ensures
-    c.none_due.ensures
-    c.if-none_due.true
+pub returns-then-none_due_in-clause-step : goal.returns-then-none_due_in-clause-step
+returns-then-none_due_in-clause-step c =
+    let a = c.args in
+    put_off-refused (rules_as a.rules) (lent_of a.lists.now) a.at.queued a.at.draws a.c a.card a.d
+    (rw (← c.is_new-new.ensures) (sym c.none_due_in.ensures ∙ c.if-none_due_in.true))
 
-pub returns : goal.returns
-returns c =
-    put_off_done c.args.span c.args.c c.args.card c.args.d c.args.len
-    c.args.draws
-    c.args.cards.now c.args.rows.now c.args.due.now _ _ _ _ _ c.is_new-new.ensures
-    c.none_due.ensures
-    c.if-none_due.false c.put_off.ensures
+pub returns-clause-step : goal.returns-clause-step
+unfolding card_after_put_off
+returns-clause-step c =
+    let a = c.args in
+    put_off_done (rules_as a.rules) (lent_of a.lists.now) a.at.queued a.at.draws a.c a.card a.d
+    (rw (← c.is_new-new.ensures) (sym c.none_due_in.ensures ∙ c.if-none_due_in.false)) _ _ _
+    (rw (← c.put_off_card-later.ensures) c.write_floats.ensures)
+    (rw (← c.is_new-new.ensures, ← c.day_after.ensures, ← c.card_priority-key.ensures) c.change_front.ensures)
+    (rw (← c.is_new-new.ensures) c.move_due.ensures)

@@ -1,12 +1,10 @@
-use mathlib.Core.Path.{ap}
-use Rattle.queue.specs.Queue.{Queue}
-use Rattle.simulation.specs.declared.Outcome.TheVariants as outcome
+use Rattle.simulation.specs.State.{lent_of}
+use Rattle.simulation.specs.Rules.{rules_as}
+use Rattle.simulation.proofs.turn.Calls.{retired_is}
 use Rattle.simulation.proofs.turn.retire_step.Goals as goal
 
-pub returns : goal.returns
-returns c =
-    record {
-      outcome = ap (λ (q : Queue). outcome.Took q.len c.args.draws) c.pop-left.ensures;
-      memorized_are = c.add_forgetting_curve.ensures;
-      rows_are = ap (λ (q : Queue). q.rows) c.pop-left.ensures;
-    }
+pub returns-clause-step : goal.returns-clause-step
+returns-clause-step c =
+    let a = c.args in
+    retired_is (rules_as a.rules) (lent_of a.lists.now) a.at.queued a.at.draws a.c a.card a.d _ _ _
+    c.add_forgetting_curve.ensures c.pop-queued.ensures
