@@ -14,7 +14,7 @@ returns-in_err-check_entry-clause-search c =
     let l = lent_of a.lists.now in
     let p = err_from_is_err_and c.from_residual.result c.from_residual.ensures.1 in
     rw (p.1, p.2) (search_contract i a.rounds l (search-refused i a.rounds l _
-    (sym (entry_is i a.rounds l c.rounds_ok.result c.rounds_ok.ensures c.check_entry.ensures)
+    (sym (entry_is i a.rounds l c.rounds_ok.result c.rounds_ok.ensures (rw c.lengths.ensures at c.check_entry.ensures))
     ∙ c.in_err-check_entry.was)))
 
 pub search-requires : goal.search-requires
@@ -22,7 +22,7 @@ search-requires c =
     let a = c.args in
     let i = search_of a.learner a.config in
     let l = lent_of a.lists.now in
-    rounds_few i a.rounds l (sym (entry_is i a.rounds l c.rounds_ok.result c.rounds_ok.ensures c.check_entry.ensures)
+    rounds_few i a.rounds l (sym (entry_is i a.rounds l c.rounds_ok.result c.rounds_ok.ensures (rw c.lengths.ensures at c.check_entry.ensures))
     ∙ c.in_ok-check_entry.was)
 
 pub returns-clause-search : goal.returns-clause-search
@@ -31,5 +31,5 @@ returns-clause-search c =
     let i = search_of a.learner a.config in
     let l = lent_of a.lists.now in
     search_contract i a.rounds l (search_passed i a.rounds l
-    (sym (entry_is i a.rounds l c.rounds_ok.result c.rounds_ok.ensures c.check_entry.ensures)
+    (sym (entry_is i a.rounds l c.rounds_ok.result c.rounds_ok.ensures (rw c.lengths.ensures at c.check_entry.ensures))
     ∙ c.in_ok-check_entry.was) c.search.ensures.searched)
