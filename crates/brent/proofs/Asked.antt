@@ -12,7 +12,7 @@ use lib.Dec.{T, ltb}
 use lib.Ieee.{Float}
 use Rattle.brent.specs.declared.Brent.{Brent}
 use Rattle.brent.specs.declared.Stepper.{Stepper}
-use Rattle.brent.specs.declared.Next.TheVariants as next
+use Rattle.std.proofs.Common.{Some, None}
 use Rattle.brent.specs.Step.{r_min, converged, trial, begun, step_of, within}
 use Rattle.brent.specs.Search.{Sampled, gives, refuses, found, not_found, Searched, ended, noted, tried}
 use Rattle.brent.specs.Search.{settled}
@@ -141,7 +141,7 @@ unfolding next_retention
 next-within t h = go t.begun (goes_on t.rounds t.state) h refl
   where
     go : (b c : Bool) → (b ≡ true → Ranged t.state) → goes_on t.rounds t.state ≡ c
-        → AskedWithin (cond b (cond c (next.Retention (trial t.state).u) next.Nothing) (next.Retention r_min))
+        → AskedWithin (cond b (cond c (Some (trial t.state).u) None) (Some r_min))
     go true true h e = trial-within t.state (h refl) (going_open t.rounds t.state e)
     go true false h e = tt
     go false c h e = first-within

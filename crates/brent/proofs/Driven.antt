@@ -9,7 +9,7 @@ use lib.Dec.{ltb}
 use lib.Ieee.{Float, lt}
 use Rattle.brent.specs.declared.Brent.{Brent}
 use Rattle.brent.specs.declared.Stepper.{Stepper}
-use Rattle.brent.specs.declared.Next.TheVariants as next
+use Rattle.std.proofs.Common.{Some, None}
 use Rattle.brent.specs.declared.Verdict.TheVariants as verdict
 use Rattle.brent.specs.Step.{r_min, converged, trial, begun, step_of, after_trial, after_worse, after_better, within}
 use Rattle.brent.specs.Search.{Sampled, gives, refuses, Searched, found, not_found, ended, noted, tried}
@@ -53,11 +53,11 @@ module _ {W R : Type 0} (run : W → Float → Sampled W R) (rounds : ℕ) where
       go false = refl
 
   asks : (s : Brent) → s.done < rounds → converged s ≡ false
-      → next_retention (going rounds s) ≡ next.Retention (trial s).u
+      → next_retention (going rounds s) ≡ Some (trial s).u
   unfolding next_retention goes_on
   asks s h e = rw (lt-ltb s.done rounds h, e)
 
-  rests : (s : Brent) → goes_on rounds s ≡ false → next_retention (going rounds s) ≡ next.Nothing
+  rests : (s : Brent) → goes_on rounds s ≡ false → next_retention (going rounds s) ≡ None
   unfolding next_retention
   rests s e = rw e
 
@@ -107,12 +107,12 @@ driven_is run rounds (suc fuel) world h =
     (omega arith))
 
 -- what asks for no retention has an answer
-pub closed : (t : Stepper) → next_retention t ≡ next.Nothing → answer t ≡ verdict.Open → ⊥
+pub closed : (t : Stepper) → next_retention t ≡ None → answer t ≡ verdict.Open → ⊥
 unfolding next_retention answer judged goes_on
 closed t = go t.begun (ltb t.state.done t.rounds) (converged t.state) (within t.state.x)
   where
-    go : (b c d e : Bool) → cond b (cond (c && not d) (next.Retention (trial t.state).u) next.Nothing)
-        (next.Retention r_min) ≡ next.Nothing
+    go : (b c d e : Bool) → cond b (cond (c && not d) (Some (trial t.state).u) None)
+        (Some r_min) ≡ None
         → cond b (cond c (cond d (cond e (verdict.Found
         t.state.x) verdict.NotFound) verdict.Open) verdict.NotFound) verdict.Open ≡ verdict.Open → ⊥
     go true true true true p q = let z : ◌≡◌ {A = ℕ} 0 1 = cc in omega arith

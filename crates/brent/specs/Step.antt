@@ -106,7 +106,7 @@ stepped x rat = x +ᶠ cond (lt (Float32.abs rat) (tol1 x)) (tol1 x *ᶠ cond (l
 
 -- the next retention u, and what the state keeps of the way to it
 unfoldable pub trial_of : Brent → Move → Trial
-trial_of s m = record { u = stepped s.x m.rat; deltax = m.deltax; rat = m.rat }
+trial_of s m = record { u = stepped s.x m.rat; step = m }
 
 unfoldable pub trial : Brent → Trial
 trial s = trial_of s (moved s)
@@ -143,8 +143,8 @@ after_worse s t fu =
       fx = s.fx;
       fv = cond second s.fw (cond third fu s.fv);
       fw = cond second fu s.fw;
-      deltax = t.deltax;
-      rat = t.rat;
+      deltax = t.step.deltax;
+      rat = t.step.rat;
       done = s.done + 1;
     }
 
@@ -161,8 +161,8 @@ after_better s t fu =
       fx = fu;
       fv = s.fw;
       fw = s.fx;
-      deltax = t.deltax;
-      rat = t.rat;
+      deltax = t.step.deltax;
+      rat = t.step.rat;
       done = s.done + 1;
     }
 

@@ -3,10 +3,9 @@
 --   driven run n world t    a host that asks, tries and hands the mean in, at most n times
 --   fed t means             a stepper that was handed these means
 use Rattle.std.specs.Prelude.{ℕ, zero, suc, Bool, true, false, not, cond, ◌&&◌, List, [], ◌∷◌, T, ltb, Float}
+use Rattle.std.specs.Prelude.{Option, Some, None}
 use Rattle.brent.specs.declared.Brent.{Brent}
 use Rattle.brent.specs.declared.Stepper.{Stepper}
-use Rattle.brent.specs.declared.Next.{Next}
-use Rattle.brent.specs.declared.Next.TheVariants as next
 use Rattle.brent.specs.declared.Verdict.{Verdict}
 use Rattle.brent.specs.declared.Verdict.TheVariants as verdict
 use Rattle.brent.specs.Step.{r_min, converged, trial, begun, step_of, within}
@@ -19,10 +18,10 @@ started rounds = record { begun = false; rounds = rounds; state = begun r_min }
 unfoldable pub goes_on : ℕ → Brent → Bool
 goes_on rounds s = ltb s.done rounds && not (converged s)
 
-unfoldable pub next_retention : Stepper → Next
+unfoldable pub next_retention : Stepper → Option Float
 next_retention t =
-    cond t.begun (cond (goes_on t.rounds t.state) (next.Retention (trial t.state).u) next.Nothing)
-    (next.Retention r_min)
+    cond t.begun (cond (goes_on t.rounds t.state) (Some (trial t.state).u) None)
+    (Some r_min)
 
 -- a mean that nobody asked for changes nothing
 unfoldable pub taken_in : ℕ → Brent → Float → Brent
@@ -56,9 +55,9 @@ told s verdict.Open = Search.not_found s.done
 unfoldable pub closing : {W R : Type 0} → W → Stepper → Search.Searched W R
 closing world t = Search.ended world (told t.state (answer t))
 
-unfoldable pub asked : {X : Type 0} → Next → (Float → X) → X → X
-asked (next.Retention u) go stop = go u
-asked next.Nothing go stop = stop
+unfoldable pub asked : {X : Type 0} → Option Float → (Float → X) → X → X
+asked (Some u) go stop = go u
+asked None go stop = stop
 
 -- the host asks for the next retention, tries it, hands its mean in, and does so at most n times
 unfoldable pub driven : {W R : Type 0} → (W → Float → Search.Sampled W R) → ℕ → W → Stepper → Search.Searched W R
@@ -72,6 +71,6 @@ unfoldable pub fed : Stepper → List Float → Stepper
 fed t [] = t
 fed t (mean ∷ means) = fed (take_mean t mean) means
 
-abbrev pub AskedWithin : Next → Type 0
-AskedWithin (next.Retention u) = T (within u)
-AskedWithin next.Nothing = Unit {0}
+abbrev pub AskedWithin : Option Float → Type 0
+AskedWithin (Some u) = T (within u)
+AskedWithin None = Unit {0}

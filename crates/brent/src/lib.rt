@@ -1,7 +1,7 @@
 // The search for the cheapest retention by Brent's method, one trial at a time.
 #![tactic(auto)]
 
-ghost use Rattle.std.specs.Prelude.{◌≡◌, cond, ◌&&◌, ◌||◌, ◌<◌};
+ghost use Rattle.std.specs.Prelude.{◌≡◌, cond, ◌<◌};
 ghost use Rattle.brent.specs.Step as Step;
 ghost use Rattle.brent.specs.Stepping as Stepping;
 
@@ -56,11 +56,11 @@ pub struct Move {
 #[derive(Clone, Copy)]
 pub struct Trial {
     pub u: f32,
-    pub deltax: f32,
-    pub rat: f32,
+    pub step: Move,
 }
 
-// A search that is under way: whether the first mean, that at 0.70, is in; the most rounds; the state.
+// A search that is under way: whether the first mean, that at 0.70, is in; the most rounds; the state. A flag beside
+// the state, not an Option: C holds this struct.
 #[repr(C)]
 #[derive(Clone, Copy)]
 pub struct Stepper {
@@ -69,14 +69,8 @@ pub struct Stepper {
     pub state: Brent,
 }
 
-// The retention to try next, or nothing: the search has ended.
-#[derive(Clone, Copy)]
-pub enum Next {
-    Retention(f32),
-    Nothing,
-}
-
-// Not ended; the retention found; or refusal 10, with the rounds done in the state.
+// Not ended; the retention found; or refusal 10, with the rounds done in the state. Three cases, so no Option, and no
+// Result: an open search has neither come to a value nor failed.
 #[derive(Clone, Copy)]
 pub enum Verdict {
     Open,
@@ -86,24 +80,28 @@ pub enum Verdict {
 
 // ---- a state's measures
 
+#[tactic(auto, using(crate::proofs::Numbers::literals), unfolding(crate::specs::Step::tol1))]
 fn tol1(x: f32) -> f32
     ensures { result ≡ Step.tol1 x }
 {
     mul_add(TOL, abs(x), MIN_TOL)
 }
 
+#[tactic(auto, using(crate::proofs::Numbers::literals), unfolding(crate::specs::Step::tol2))]
 fn tol2(x: f32) -> f32
     ensures { result ≡ Step.tol2 x }
 {
     2.0 * tol1(x)
 }
 
+#[tactic(auto, using(crate::proofs::Numbers::literals), unfolding(crate::specs::Step::middle))]
 fn middle(a: f32, b: f32) -> f32
     ensures { result ≡ Step.middle a b }
 {
     0.5 * (a + b)
 }
 
+#[tactic(auto, using(crate::proofs::Numbers::literals), unfolding(crate::specs::Step::converged))]
 pub fn converged(s: Brent) -> bool
     ensures { result ≡ Step.converged s }
 {
@@ -112,24 +110,15 @@ pub fn converged(s: Brent) -> bool
 
 // ---- the next trial
 
-fn choose(test: bool, x: f32, y: f32) -> f32
-    ensures { result ≡ cond test x y }
-{
-    if test { x } else { y }
-}
-
-fn both(p: bool, q: bool) -> bool
-    ensures { result ≡ p && q }
-{
-    if p { q } else { false }
-}
-
+#[tactic(auto, unfolding(crate::specs::Step::to_end))]
 fn to_end(s: Brent) -> f32
     ensures { result ≡ Step.to_end s }
 {
-    choose(s.x >= middle(s.a, s.b), s.a, s.b) - s.x
+    let end = if s.x >= middle(s.a, s.b) { s.a } else { s.b };
+    end - s.x
 }
 
+#[tactic(auto, using(crate::proofs::Numbers::literals), unfolding(crate::specs::Step::golden))]
 fn golden(s: Brent) -> Move
     ensures { result ≡ Step.golden s }
 {
@@ -140,6 +129,7 @@ fn golden(s: Brent) -> Move
     }
 }
 
+#[tactic(auto, using(crate::proofs::Numbers::literals), unfolding(crate::specs::Step::parabola))]
 fn fit(s: Brent) -> Parabola
     ensures { result ≡ Step.parabola s }
 {
@@ -148,50 +138,51 @@ fn fit(s: Brent) -> Parabola
     let p = mul_add(s.x - s.v, t2, -(s.x - s.w) * t1);
     let q = 2.0 * (t2 - t1);
     Parabola {
-        p: choose(q > 0.0, -p, p),
+        p: if q > 0.0 { -p } else { p },
         q: abs(q),
     }
 }
 
+#[tactic(auto, using(crate::proofs::Numbers::literals), unfolding(crate::specs::Step::useful))]
 fn useful(s: Brent, f: Parabola) -> bool
     ensures { result ≡ Step.useful s f }
 {
-    both(
-        f.p > f.q * (s.a - s.x),
-        both(
-            f.p < f.q * (s.b - s.x),
-            abs(f.p) < abs(0.5 * f.q * s.deltax),
-        ),
-    )
+    f.p > f.q * (s.a - s.x) && f.p < f.q * (s.b - s.x) && abs(f.p) < abs(0.5 * f.q * s.deltax)
 }
 
-fn either(p: bool, q: bool) -> bool
-    ensures { result ≡ p || q }
-{
-    if p { true } else { q }
-}
-
+#[tactic(auto, unfolding(crate::specs::Step::near_end))]
 fn near_end(s: Brent, u: f32) -> bool
     ensures { result ≡ Step.near_end s u }
 {
     let tol2 = tol2(s.x);
-    either(u - s.a < tol2, s.b - u < tol2)
+    u - s.a < tol2 || s.b - u < tol2
 }
 
+#[tactic(auto, unfolding(crate::specs::Step::inward))]
 fn inward(s: Brent) -> f32
     ensures { result ≡ Step.inward s }
 {
     let tol1 = tol1(s.x);
-    choose(middle(s.a, s.b) - s.x >= 0.0, tol1, -tol1)
+    if middle(s.a, s.b) - s.x >= 0.0 {
+        tol1
+    } else {
+        -tol1
+    }
 }
 
+#[tactic(auto, unfolding(crate::specs::Step::fitted))]
 fn fitted(s: Brent, f: Parabola) -> f32
     ensures { result ≡ Step.fitted s f }
 {
     let rat = f.p / f.q;
-    choose(near_end(s, s.x + rat), inward(s), rat)
+    if near_end(s, s.x + rat) {
+        inward(s)
+    } else {
+        rat
+    }
 }
 
+#[tactic(auto, unfolding(crate::specs::Step::parabolic))]
 fn parabolic(s: Brent, f: Parabola) -> Move
     ensures { result ≡ Step.parabolic s f }
 {
@@ -205,6 +196,7 @@ fn parabolic(s: Brent, f: Parabola) -> Move
     }
 }
 
+#[tactic(auto, unfolding(crate::specs::Step::moved))]
 fn moved(s: Brent) -> Move
     ensures { result ≡ Step.moved s }
 {
@@ -215,26 +207,29 @@ fn moved(s: Brent) -> Move
     }
 }
 
+#[tactic(auto, unfolding(crate::specs::Step::stepped))]
 fn stepped(x: f32, rat: f32) -> f32
     ensures { result ≡ Step.stepped x rat }
 {
     let tol1 = tol1(x);
-    x + choose(abs(rat) < tol1, tol1 * choose(rat >= 0.0, 1.0, -1.0), rat)
+    let sign = if rat >= 0.0 { 1.0 } else { -1.0 };
+    x + if abs(rat) < tol1 { tol1 * sign } else { rat }
 }
 
+#[tactic(auto, unfolding(crate::specs::Step::trial, crate::specs::Step::trial_of))]
 pub fn next_trial(s: Brent) -> Trial
     ensures { result ≡ Step.trial s }
 {
-    let m = moved(s);
+    let step = moved(s);
     Trial {
-        u: stepped(s.x, m.rat),
-        deltax: m.deltax,
-        rat: m.rat,
+        u: stepped(s.x, step.rat),
+        step,
     }
 }
 
 // ---- what a trial's mean teaches
 
+#[tactic(auto, using(crate::proofs::Numbers::literals), unfolding(crate::specs::Step::begun))]
 pub fn begun(mean: f32) -> Brent
     ensures { result ≡ Step.begun mean }
 {
@@ -253,48 +248,58 @@ pub fn begun(mean: f32) -> Brent
     }
 }
 
+#[tactic(auto, unfolding(crate::specs::Step::after_worse))]
 fn after_worse(s: Brent, t: Trial, fu: f32) -> Brent
     requires { s.done < 4294967295 }
     ensures { result ≡ Step.after_worse s t fu }
 {
-    let second = either(fu <= s.fw, s.w == s.x);
-    let third = either(fu <= s.fv, either(s.v == s.x, s.v == s.w));
+    let second = fu <= s.fw || s.w == s.x;
+    let third = fu <= s.fv || s.v == s.x || s.v == s.w;
     let left = t.u < s.x;
+    let (v, fv) = if second {
+        (s.w, s.fw)
+    } else if third {
+        (t.u, fu)
+    } else {
+        (s.v, s.fv)
+    };
+    let (w, fw) = if second { (t.u, fu) } else { (s.w, s.fw) };
     Brent {
-        a: choose(left, t.u, s.a),
-        b: choose(left, s.b, t.u),
-        x: s.x,
-        v: choose(second, s.w, choose(third, t.u, s.v)),
-        w: choose(second, t.u, s.w),
-        fx: s.fx,
-        fv: choose(second, s.fw, choose(third, fu, s.fv)),
-        fw: choose(second, fu, s.fw),
-        deltax: t.deltax,
-        rat: t.rat,
+        a: if left { t.u } else { s.a },
+        b: if left { s.b } else { t.u },
+        v,
+        w,
+        fv,
+        fw,
+        deltax: t.step.deltax,
+        rat: t.step.rat,
         done: s.done + 1,
+        ..s
     }
 }
 
+#[tactic(auto, unfolding(crate::specs::Step::after_better))]
 fn after_better(s: Brent, t: Trial, fu: f32) -> Brent
     requires { s.done < 4294967295 }
     ensures { result ≡ Step.after_better s t fu }
 {
     let right = t.u >= s.x;
     Brent {
-        a: choose(right, s.x, s.a),
-        b: choose(right, s.b, s.x),
+        a: if right { s.x } else { s.a },
+        b: if right { s.b } else { s.x },
         x: t.u,
         v: s.w,
         w: s.x,
         fx: fu,
         fv: s.fw,
         fw: s.fx,
-        deltax: t.deltax,
-        rat: t.rat,
+        deltax: t.step.deltax,
+        rat: t.step.rat,
         done: s.done + 1,
     }
 }
 
+#[tactic(auto, unfolding(crate::specs::Step::after_trial))]
 fn after_trial(s: Brent, t: Trial, fu: f32) -> Brent
     requires { s.done < 4294967295 }
     ensures { result ≡ Step.after_trial s t fu }
@@ -306,15 +311,17 @@ fn after_trial(s: Brent, t: Trial, fu: f32) -> Brent
     }
 }
 
+#[tactic(auto, using(crate::proofs::Numbers::literals), unfolding(crate::specs::Step::within))]
 fn within(x: f32) -> bool
     ensures { result ≡ Step.within x }
 {
-    both(x >= R_MIN, x <= R_MAX)
+    x >= R_MIN && x <= R_MAX
 }
 
 // ---- the stepper
 
 // A search of so many rounds at the most.
+#[tactic(auto, using(crate::proofs::Numbers::literals), unfolding(crate::specs::Stepping::started))]
 pub fn start(rounds: u32) -> Stepper
     ensures { result ≡ Stepping.started rounds }
 {
@@ -325,41 +332,33 @@ pub fn start(rounds: u32) -> Stepper
     }
 }
 
+#[tactic(auto, unfolding(crate::specs::Stepping::goes_on))]
 fn goes_on(rounds: u32, s: Brent) -> bool
     ensures { result ≡ Stepping.goes_on rounds s }
 {
-    if s.done < rounds {
-        !converged(s)
-    } else {
-        false
-    }
+    s.done < rounds && !converged(s)
 }
 
-pub fn next_retention(t: Stepper) -> Next
+// The retention to try next, or None: the search has ended.
+#[tactic(auto, using(crate::proofs::Numbers::literals), unfolding(crate::specs::Stepping::next_retention))]
+pub fn next_retention(t: Stepper) -> Option<f32>
     ensures { result ≡ Stepping.next_retention t }
 {
-    if t.begun {
-        let s = t.state;
-        if goes_on(t.rounds, s) {
-            let tried = next_trial(s);
-            Next::Retention(tried.u)
-        } else {
-            Next::Nothing
-        }
+    if !t.begun {
+        Some(R_MIN)
+    } else if goes_on(t.rounds, t.state) {
+        Some(next_trial(t.state).u)
     } else {
-        Next::Retention(R_MIN)
+        None
     }
 }
 
+#[tactic(auto, unfolding(crate::specs::Stepping::taken_in, crate::specs::Step::step_of))]
 fn taken_in(rounds: u32, s: Brent, mean: f32) -> Brent
     ensures { result ≡ Stepping.taken_in rounds s mean }
 {
-    if s.done < rounds {
-        if converged(s) {
-            s
-        } else {
-            after_trial(s, next_trial(s), mean)
-        }
+    if goes_on(rounds, s) {
+        after_trial(s, next_trial(s), mean)
     } else {
         s
     }
@@ -369,13 +368,13 @@ fn taken(t: Stepper, mean: f32) -> Brent
     ensures { result ≡ cond t.begun (Stepping.taken_in t.rounds t.state mean) (Step.begun mean) }
 {
     if t.begun {
-        let s = t.state;
-        taken_in(t.rounds, s, mean)
+        taken_in(t.rounds, t.state, mean)
     } else {
         begun(mean)
     }
 }
 
+#[tactic(auto, unfolding(crate::specs::Stepping::take_mean))]
 pub fn take_mean(t: Stepper, mean: f32) -> Stepper
     ensures { result ≡ Stepping.take_mean t mean }
 {
@@ -386,30 +385,27 @@ pub fn take_mean(t: Stepper, mean: f32) -> Stepper
     }
 }
 
+#[tactic(auto, unfolding(crate::specs::Stepping::judged))]
 fn judged(rounds: u32, s: Brent) -> Verdict
     ensures { result ≡ Stepping.judged rounds s }
 {
-    if s.done < rounds {
-        if converged(s) {
-            if within(s.x) {
-                Verdict::Found(s.x)
-            } else {
-                Verdict::NotFound
-            }
-        } else {
-            Verdict::Open
-        }
+    if s.done >= rounds {
+        Verdict::NotFound
+    } else if !converged(s) {
+        Verdict::Open
+    } else if within(s.x) {
+        Verdict::Found(s.x)
     } else {
         Verdict::NotFound
     }
 }
 
+#[tactic(auto, unfolding(crate::specs::Stepping::answer))]
 pub fn answer(t: Stepper) -> Verdict
     ensures { result ≡ Stepping.answer t }
 {
     if t.begun {
-        let s = t.state;
-        judged(t.rounds, s)
+        judged(t.rounds, t.state)
     } else {
         Verdict::Open
     }

@@ -3,14 +3,13 @@
 --   numbers_of      the refusal's number and second number, 0 and 0 where there is none, its list, and how far the run
 --   came
 --   CallContract   what `drill_simulate` promises
-use Rattle.std.specs.Prelude.{ℕ, cond, ◌≡◌, eqb, length, Float}
+use Rattle.std.specs.Prelude.{ℕ, cond, ◌≡◌, eqb, length, Float, Ok, Err}
 use Rattle.simulation.specs.declared.Progress.{Progress}
-use Rattle.simulation.specs.declared.Answer.{Answer}
-use Rattle.simulation.specs.declared.Answer.TheVariants as answer
 use Rattle.entry.specs.Refusals.{number_of, second_of}
 use Rattle.simulation.specs.State.{State, Lent}
 use Rattle.entry.specs.Entry.{Inputs, short_list}
 use Rattle.simulation.specs.Checked.{lengths_of}
+use Rattle.simulation.specs.Simulate.{Answer}
 use Rattle.simulation.specs.Demands.{RunContract}
 use Rattle.capi.specs.declared.run.RunNumbers.{RunNumbers}
 
@@ -34,8 +33,8 @@ numbers_from number second list p = record {
 }
 
 abbrev pub numbers_of : Answer → ℕ → RunNumbers
-numbers_of (answer.Finished p) list = numbers_from 0 0 list p
-numbers_of (answer.Refused r p) list = numbers_from (number_of r) (second_of r) list p
+numbers_of (Ok p) list = numbers_from 0 0 list p
+numbers_of (Err x) list = numbers_from (number_of x.refusal) (second_of x.refusal) list x.progress
 
 -- the numbers are those of an answer, and what the run promises holds of that answer and of the lists
 pub record CallContract (i : Inputs) (s : State Float) (numbers : RunNumbers) (l : Lent Float) : Type 0 where

@@ -3,18 +3,15 @@
 --                retention and its mean, 0 where nothing was found
 --   SearchCall   what `drill_optimal_retention` promises
 --   asked, verdict_number   the retention to try, and the verdict, as numbers
-use Rattle.std.specs.Prelude.{ℕ, ◌≡◌, Float}
+use Rattle.std.specs.Prelude.{ℕ, ◌≡◌, Float, Option, Some, None, Ok, Err}
 use Rattle.std.specs.Float.{nan}
 use Rattle.float32.specs.Numbers.{0ᶠ}
-use Rattle.brent.specs.declared.Next.{Next}
-use Rattle.brent.specs.declared.Next.TheVariants as next
 use Rattle.brent.specs.declared.Verdict.{Verdict}
 use Rattle.brent.specs.declared.Verdict.TheVariants as verdict
 use Rattle.simulation.specs.State.{Lent, state}
 use Rattle.entry.specs.Entry.{Inputs}
-use Rattle.retention.specs.declared.SearchAnswer.{SearchAnswer}
-use Rattle.retention.specs.declared.SearchAnswer.TheVariants as said
-use Rattle.retention.specs.Retention.{number_of, second_of, SearchContract}
+use Rattle.entry.specs.Refusals.{number_of, second_of}
+use Rattle.retention.specs.Retention.{SearchAnswer, SearchContract}
 use Rattle.capi.specs.declared.search.SearchNumbers.{SearchNumbers}
 use Rattle.capi.specs.Answer.{list_of, list_in}
 
@@ -29,9 +26,8 @@ numbers_from number second list rounds retention mean = record {
 }
 
 abbrev pub numbers_of : SearchAnswer → ℕ → SearchNumbers
-numbers_of (said.Found x) list = numbers_from 0 0 list x.rounds x.retention x.mean
-numbers_of (said.Refused r) list =
-    numbers_from (number_of (said.Refused r)) (second_of (said.Refused r)) list 0 0ᶠ 0ᶠ
+numbers_of (Ok x) list = numbers_from 0 0 list x.rounds x.retention x.mean
+numbers_of (Err r) list = numbers_from (number_of r) (second_of r) list 0 0ᶠ 0ᶠ
 
 -- the numbers are those of an answer, and what the search promises holds of that answer and of the lists
 pub record SearchCall (i : Inputs) (rounds : ℕ) (l : Lent Float) (numbers : SearchNumbers)
@@ -41,9 +37,9 @@ pub record SearchCall (i : Inputs) (rounds : ℕ) (l : Lent Float) (numbers : Se
   pub search : SearchContract i rounds l answer after
 
 -- the retention to try, or a NaN: there is none
-unfoldable pub asked : Next → Float
-asked (next.Retention u) = u
-asked next.Nothing = nan
+unfoldable pub asked : Option Float → Float
+asked (Some u) = u
+asked None = nan
 
 -- 0: found; 10: not found; 2^32 - 1: a retention is still to be tried
 unfoldable pub verdict_number : Verdict → ℕ

@@ -17,32 +17,31 @@ pub extern "C" fn drill_card_priority(day: u32, new: bool, difficulty: f32) -> u
 pub extern "C" fn drill_push(rows: &mut [[u64; 2]], len: u32, card: u32, key: u64) -> u32
     ensures { queue rows.new result ≡ pushed (queue rows.old len) card key }
 {
-    let queue = CardPriorityQueue { len };
-    let after = queue.push(rows, card, key);
-    after.len
+    let mut queue = CardPriorityQueue { rows, len };
+    queue.push(card, key);
+    queue.len
 }
 
 #[unsafe(no_mangle)]
 pub extern "C" fn drill_peek_index(rows: &[[u64; 2]], len: u32) -> u32
     ensures { result ≡ front (queue rows.now len) }
 {
-    let queue = CardPriorityQueue { len };
-    queue.peek_index(rows)
+    queue::first_card(rows)
 }
 
 #[unsafe(no_mangle)]
 pub extern "C" fn drill_pop(rows: &mut [[u64; 2]], len: u32) -> u32
     ensures { queue rows.new result ≡ popped (queue rows.old len) }
 {
-    let queue = CardPriorityQueue { len };
-    let after = queue.pop(rows);
-    after.len
+    let mut queue = CardPriorityQueue { rows, len };
+    queue.pop();
+    queue.len
 }
 
 #[unsafe(no_mangle)]
 pub extern "C" fn drill_change_front(rows: &mut [[u64; 2]], len: u32, key: u64)
     ensures { queue rows.new len ≡ front_changed (queue rows.old len) key }
 {
-    let queue = CardPriorityQueue { len };
-    queue.change_front(rows, key);
+    let mut queue = CardPriorityQueue { rows, len };
+    queue.change_front(key);
 }

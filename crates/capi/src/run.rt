@@ -1,12 +1,12 @@
 // The run over lists of numbers.
 ghost use Rattle.simulation.specs.State.{lent, state};
 ghost use Rattle.entry.specs.Entry.{inputs};
-ghost use Rattle.capi.specs.Answer.{list_in, numbers_from, numbers_of, CallContract};
+ghost use Rattle.capi.specs.Answer.{list_in, numbers_of, CallContract};
 ghost use Rattle.std.specs.Prelude.{◌≡◌};
 
 use cards::SimulatorConfig;
-use entry::{Lengths, refusals};
-use simulation::{Answer, Progress};
+use entry::{Learner, Lists, Settings, refusals};
+use simulation::{Progress, Refused};
 
 // An answer as numbers: the refusal's number, 0 where the run ended, its second number and, for 6, its list; how far
 // the run came.
@@ -28,9 +28,17 @@ pub(crate) fn list_in(number: u32, list: u32) -> u32
     if number == 6 { list } else { 0 }
 }
 
-fn numbers_from(number: u32, second: u32, list: u32, p: Progress) -> RunNumbers
-    ensures { result ≡ numbers_from number second list p }
+fn numbers_of(answer: Result<Progress, Refused>, list: u32) -> RunNumbers
+    ensures { result ≡ numbers_of answer list }
 {
+    let (number, second, p) = match answer {
+        Ok(p) => (0, 0, p),
+        Err(it) => (
+            refusals::number_of(it.refusal),
+            refusals::second_of(it.refusal),
+            it.progress,
+        ),
+    };
     RunNumbers {
         refusal: number,
         second,
@@ -39,20 +47,6 @@ fn numbers_from(number: u32, second: u32, list: u32, p: Progress) -> RunNumbers
         cards: p.cards,
         queued: p.queued,
         draws: p.draws,
-    }
-}
-
-fn numbers_of(answer: Answer, list: u32) -> RunNumbers
-    ensures { result ≡ numbers_of answer list }
-{
-    match answer {
-        Answer::Finished(p) => numbers_from(0, 0, list, p),
-        Answer::Refused(r, p) => numbers_from(
-            refusals::number_of(r),
-            refusals::second_of(r),
-            list,
-            p,
-        ),
     }
 }
 
@@ -84,34 +78,33 @@ pub extern "C" fn drill_simulate(
         (lent cards.new counts.new queue.new days.new costs.new
         memorized.new due.new keys.new intervals.new) }
 {
-    let lengths = Lengths {
-        cards: cards.len(),
-        counts: counts.len(),
-        rows: queue.len(),
-        days: days.len(),
-        costs: costs.len(),
-        memorized: memorized.len(),
-        due: due.len(),
-        keys: keys.len(),
-        intervals: intervals.len(),
-    };
-    let list = entry::short_list(config, existing.len(), existing_counts.len(), lengths);
-    let told = simulation::simulate(
+    let mut lists = Lists {
         cards,
         counts,
-        queue,
+        rows: queue,
         days,
         costs,
         memorized,
         due,
         keys,
         intervals,
+    };
+    let learner = Learner {
         parameters,
         existing,
         existing_counts,
+    };
+    let settings = Settings {
         config,
-        desired_retention,
+        retention: desired_retention,
         seed,
+    };
+    let list = entry::short_list(
+        config,
+        existing.len(),
+        existing_counts.len(),
+        lists.lengths(),
     );
+    let told = simulation::simulate(&mut lists, learner, settings);
     numbers_of(told, list)
 }

@@ -4,13 +4,13 @@ ghost use Rattle.brent.specs.Stepping.{started, next_retention, take_mean, answe
 ghost use Rattle.simulation.specs.State.{lent};
 ghost use Rattle.retention.specs.SampleSize.{sample_size};
 ghost use Rattle.retention.specs.Trials.{search_inputs, total, target, mean_of};
-ghost use Rattle.capi.specs.Search.{numbers_of, numbers_from, SearchCall, asked, verdict_number};
+ghost use Rattle.capi.specs.Search.{numbers_of, SearchCall, asked, verdict_number};
 
 use super::run::list_in;
-use brent::{Next, Stepper, Verdict};
+use brent::{Stepper, Verdict};
 use cards::SimulatorConfig;
-use entry::Lengths;
-use retention::SearchAnswer;
+use entry::{Learner, Lists, Refusal};
+use retention::Optimum;
 
 // An answer as numbers: the refusal's number, 0 where a retention was found, its second number and, for 6, its list;
 // the rounds done, the retention and its mean, 0 where none was found.
@@ -25,39 +25,22 @@ pub struct SearchNumbers {
     pub mean: f32,
 }
 
-fn numbers_from(
-    number: u32,
-    second: u32,
-    list: u32,
-    rounds: u32,
-    retention: f32,
-    mean: f32,
-) -> SearchNumbers
-    ensures { result ≡ numbers_from number second list rounds retention mean }
-{
-    SearchNumbers {
-        refusal: number,
-        second,
-        list: list_in(number, list),
-        rounds,
-        retention,
-        mean,
-    }
-}
-
-fn numbers_of(answer: SearchAnswer, list: u32) -> SearchNumbers
+fn numbers_of(answer: Result<Optimum, Refusal>, list: u32) -> SearchNumbers
     ensures { result ≡ numbers_of answer list }
 {
-    match answer {
-        SearchAnswer::Found(x) => numbers_from(0, 0, list, x.rounds, x.retention, x.mean),
-        SearchAnswer::Refused(_) => numbers_from(
-            retention::number_of(answer),
-            retention::second_of(answer),
-            list,
-            0,
-            0.0,
-            0.0,
-        ),
+    let number = retention::number_of(answer);
+    let found = answer.unwrap_or(Optimum {
+        rounds: 0,
+        retention: 0.0,
+        mean: 0.0,
+    });
+    SearchNumbers {
+        refusal: number,
+        second: retention::second_of(answer),
+        list: list_in(number, list),
+        rounds: found.rounds,
+        retention: found.retention,
+        mean: found.mean,
     }
 }
 
@@ -86,34 +69,29 @@ pub extern "C" fn drill_optimal_retention(
         (lent cards.new counts.new queue.new days.new costs.new
         memorized.new due.new keys.new intervals.new) }
 {
-    let lengths = Lengths {
-        cards: cards.len(),
-        counts: counts.len(),
-        rows: queue.len(),
-        days: days.len(),
-        costs: costs.len(),
-        memorized: memorized.len(),
-        due: due.len(),
-        keys: keys.len(),
-        intervals: intervals.len(),
-    };
-    let list = entry::short_list(config, existing.len(), existing_counts.len(), lengths);
-    let told = retention::optimal_retention(
+    let mut lists = Lists {
         cards,
         counts,
-        queue,
+        rows: queue,
         days,
         costs,
         memorized,
         due,
         keys,
         intervals,
+    };
+    let learner = Learner {
         parameters,
         existing,
         existing_counts,
+    };
+    let list = entry::short_list(
         config,
-        rounds,
+        existing.len(),
+        existing_counts.len(),
+        lists.lengths(),
     );
+    let told = retention::optimal_retention(&mut lists, learner, config, rounds);
     numbers_of(told, list)
 }
 
@@ -149,21 +127,12 @@ pub extern "C" fn drill_search_start(rounds: u32) -> Stepper
     brent::start(rounds)
 }
 
-fn asked(next: Next) -> f32
-    ensures { result ≡ asked next }
-{
-    match next {
-        Next::Retention(u) => u,
-        Next::Nothing => 0.0 / 0.0,
-    }
-}
-
 // The retention to try, or a NaN: there is none.
 #[unsafe(no_mangle)]
 pub extern "C" fn drill_search_next(s: Stepper) -> f32
     ensures { result ≡ asked (next_retention s) }
 {
-    asked(brent::next_retention(s))
+    brent::next_retention(s).unwrap_or(f32::NAN)
 }
 
 #[unsafe(no_mangle)]

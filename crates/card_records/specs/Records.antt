@@ -4,25 +4,20 @@
 --   float_rows, count_rows cs  the records as the rows of the core's two lists
 --   record_bad cs i           refusal 5 turns record i away
 --   has_room, checked_records  the entry's tests: the core's, with the room for the rows in refusal 6
---   copied c n               how many of n records are copied
 --   laid c new old           a list that is written over from its first place on where the tests pass
---   RowsContract             what the run over the copied rows promises
+--   record_inputs w cs s     the core's inputs, with the records' rows as their existing cards
 --   RecordsContract          WHAT A CALL PROMISES
-use Rattle.std.specs.Prelude.{ℕ, ◌≡◌, Bool, ◌&&◌, List, ◌++◌, map, leb, Float, length, get_or, drop}
+use Rattle.std.specs.Prelude.{ℕ, ◌≡◌, Bool, ◌&&◌, List, ◌++◌, map, leb, Float, length, get_or, drop, Ok, Err}
 use Rattle.float32.specs.Float32.{is_finite}
 use Rattle.cards.specs.declared.Card.{Card}
 use Rattle.cards.specs.Cards.{card_of, no_floats, no_counts, floats_of, counts_of}
-use Rattle.entry.specs.declared.Refusal.{Refusal}
-use Rattle.entry.specs.declared.Check.{Check}
-use Rattle.entry.specs.declared.Check.TheVariants as check
+use Rattle.entry.specs.declared.lists.Settings.{Settings}
+use Rattle.entry.specs.Entry.{Check, Inputs, inputs, is_bad, check_first, check_settings}
 use Rattle.simulation.specs.declared.Progress.{Progress}
-use Rattle.simulation.specs.declared.Answer.{Answer}
-use Rattle.simulation.specs.declared.Answer.TheVariants as answer
-use Rattle.simulation.specs.State.{State, Lent, lists_of}
-use Rattle.entry.specs.Entry.{Inputs, is_bad, check_first, check_settings}
+use Rattle.simulation.specs.State.{State, Lent}
 use Rattle.simulation.specs.Checked.{lists_ok}
-use Rattle.simulation.specs.Simulate.{IsResult, progress, rules_for, after_check}
-use Rattle.simulation.specs.Demands.{DemandThree, RunContract}
+use Rattle.simulation.specs.Simulate.{Answer, finished, IsResult, rules_for, after_check}
+use Rattle.simulation.specs.Demands.{DemandThree}
 
 -- what stands past a list's end
 unfoldable pub blank : Card
@@ -56,22 +51,14 @@ checked_records i s floats counts =
     check_settings (is_finite i.retention) (lists_ok i s && has_room n floats counts) i.parameters i.config n
     (check_first i.existing i.existing_counts n)
 
--- how many of n records are copied: all, or none where a test fails
-abbrev pub copied : Check → ℕ → ℕ
-copied check.Passed n = n
-copied (check.Failed r) n = 0
-
 -- a list with others at its first places where the tests pass, and else as it was
 abbrev pub laid : {A : Type 0} → Check → List A → List A → List A
-laid check.Passed new old = new ++ drop (length new) old
-laid (check.Failed r) new old = old
+laid (Ok x) new old = new ++ drop (length new) old
+laid (Err r) new old = old
 
--- what the run over the copied rows promises, when the tests say c: that of the core, or the refusal with nothing
--- written
-pub record RowsContract (c : Check) (i : Inputs) (s : State Float) (r : Answer) (l : Lent Float) : Type 0 where
-  pub passed : c ≡ check.Passed → RunContract i s r l
-  pub failed : (x : Refusal) → c ≡ check.Failed x
-      → (r ≡ answer.Refused x (progress 0 0 0 i.seed)) × (l ≡ lists_of s)
+-- the core's inputs: the records' rows are their existing cards
+abbrev pub record_inputs : List Float → List Card → Settings → Inputs
+record_inputs w cs s = inputs s.config w s.retention s.seed (float_rows cs) (count_rows cs)
 
 -- WHAT A CALL PROMISES. `i` has the records' rows as its existing cards, `room` and `room-counts` are lent for them.
 pub record RecordsContract (i : Inputs) (s : State Float) (room : List (List Float)) (room-counts : List (List ℕ))
@@ -80,7 +67,7 @@ pub record RecordsContract (i : Inputs) (s : State Float) (room : List (List Flo
   -- answer is the first refusal, and every list is as it was
   pub result : IsResult (after_check (rules_for i) i (checked_records i s (length room) (length room-counts)) s) r l
   -- demand 3 where it ends Ok
-  pub demand_three : (p : Progress) → r ≡ answer.Finished p → DemandThree (rules_for i) i s p l
+  pub demand_three : (p : Progress) → r ≡ finished p → DemandThree (rules_for i) i s p l
   -- the room holds the rows where the tests pass, and behind them what it held; else it is as it was
   pub floats_left : room' ≡ laid (checked_records i s (length room) (length room-counts)) i.existing room
   pub counts_left : room-counts' ≡ laid (checked_records i s (length room) (length room-counts))

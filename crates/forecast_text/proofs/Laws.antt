@@ -10,9 +10,9 @@ use lib.Dec.{eqb, ltb}
 use lib.Ieee.{Float}
 use borrow.Author.Tests.{le-leb, le-ltb, ltb-false}
 use Rattle.listing.specs.declared.Settings.{Settings}
-use Rattle.listing.specs.declared.Verdict.{Verdict}
-use Rattle.listing.specs.declared.Verdict.TheVariants.{Read, Refused}
-use Rattle.listing.specs.Forms.{reading}
+use Rattle.std.specs.Prelude.{Result, Ok, Err}
+use Rattle.listing.specs.declared.ReadError.{ReadError}
+use Rattle.listing.specs.Forms.{reading, told}
 use Rattle.report.specs.Lines.{forecast_line, refused_line}
 use Rattle.report.specs.Rows.{day_lines}
 use Rattle.report.proofs.WriteLaws.{forecast-short, refused-short}
@@ -90,10 +90,10 @@ answer_fits span (some (answer.Finished p)) days costs memorized h =
 answer_fits span (some (answer.Refused r p)) days costs memorized h =
     omega (arith, refused-short (number_of r) (second_of r))
 
-verdict_fits : (v : Verdict) (s : Settings) → length (verdict_text v s) ≤ room
+verdict_fits : (v : Result Unit ReadError) (s : Settings) → length (verdict_text v s) ≤ room
 unfolding verdict_text run_text config_of
-verdict_fits (Refused line) s = omega (arith, refused-short 11 line)
-verdict_fits Read s =
+verdict_fits (Err e) s = omega (arith, refused-short 11 (told e))
+verdict_fits (Ok u) s =
     let r = forecast_run s in
     answer_fits (within most_span s.span) r.answer r.state.days r.state.costs r.state.memorized
     (within-short most_span s.span _ refl)

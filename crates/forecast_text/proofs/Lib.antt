@@ -1,4 +1,3 @@
-pub mod Maps
 pub mod Texts
 pub mod Call
 pub mod Laws

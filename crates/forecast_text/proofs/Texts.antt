@@ -14,16 +14,15 @@ use lib.Seq.{sets, sets-eq, length-sets}
 use lib.Dec.{leb}
 use lib.Ieee.{Float}
 use borrow.Author.Tests.{le-leb, lt-leb, leb-false}
-use Rattle.report.specs.declared.Placed.{Placed}
-use Rattle.report.specs.declared.Placed.TheVariants.{To, Full}
+use Rattle.std.specs.Prelude.{Option, Some, None, Ok, Err}
 use Rattle.report.specs.Lines.{forecast_line, refused_line, placed, written}
 use Rattle.report.specs.Rows.{day_lines, has_rows, span_placed, span_written}
 use Rattle.report.proofs.WriteLaws.{sets_append, forecast-short, refused-short}
 use Rattle.report.proofs.RowLaws.{placed_to, placed-full, written_sets, days_whole, days_short}
 use Rattle.listing.specs.declared.Settings.{Settings}
 use Rattle.listing.specs.declared.Reading.{Reading}
-use Rattle.listing.specs.declared.Verdict.TheVariants.{Read, Refused}
-use Rattle.listing.specs.Forms.{reading}
+use Rattle.listing.specs.declared.ReadError.{ReadError}
+use Rattle.listing.specs.Forms.{reading, told}
 use Rattle.simulation.specs.declared.Answer.{Answer}
 use Rattle.simulation.specs.declared.Answer.TheVariants as answer
 use Rattle.simulation.specs.declared.Progress.{Progress}
@@ -40,7 +39,7 @@ sets_first out t h =
     sets-eq t out 0 (omega arith) ∙ ap (λ (n : ℕ). t ++ drop n out) e
 
 -- a line
-pub line-printed : (out line : List ℕ) (r : Placed) (after : List ℕ) → length line ≤ length out
+pub line-printed : (out line : List ℕ) (r : Option ℕ) (after : List ℕ) → length line ≤ length out
     → r ≡ placed out 0 line → after ≡ written out 0 line → Printed out line r after
 unfolding placed
 line-printed out line r after h p w =
@@ -51,7 +50,7 @@ line-printed out line r after h p w =
       bytes = w ∙ written_sets out line 0 (omega arith) ∙ sets_first out line h;
     }
 
-pub refused-printed : (out : List ℕ) (number second : ℕ) (r : Placed) (after : List ℕ) → room ≤ length out
+pub refused-printed : (out : List ℕ) (number second : ℕ) (r : Option ℕ) (after : List ℕ) → room ≤ length out
     → r ≡ placed out 0 (refused_line number second) → after ≡ written out 0 (refused_line number second)
     → Printed out (refused_line number second) r after
 refused-printed out number second r after h =
@@ -74,8 +73,8 @@ module _ (out : List ℕ) (days : List (List ℕ)) (costs memorized : List Float
   unfolding has_rows
   has_rows_lem = rw (le-leb span (length days) d, le-leb span (length costs) c, le-leb span (length memorized) m)
 
-  pub run-printed : (at : ℕ) (mid : List ℕ) (r : Placed) (after : List ℕ)
-      → placed out 0 line ≡ To at → mid ≡ written out 0 line
+  pub run-printed : (at : ℕ) (mid : List ℕ) (r : Option ℕ) (after : List ℕ)
+      → placed out 0 line ≡ Some at → mid ≡ written out 0 line
       → r ≡ span_placed days costs memorized span mid at → after ≡ span_written days costs memorized span mid at
       → Printed out (line ++ rows) r after
   unfolding span_placed span_written
@@ -90,13 +89,13 @@ module _ (out : List ℕ) (days : List (List ℕ)) (costs memorized : List Float
       let g : sets (sets out 0 line) at rows ≡ sets out 0 (line ++ rows) =
       rw (sym k) (sym (sets_append out 0 line rows)) in
       record {
-        place = q ∙ (rw has_rows_lem) ∙ whole.0 ∙ ap To f;
+        place = q ∙ (rw has_rows_lem) ∙ whole.0 ∙ ap Some f;
         bytes = x ∙ (rw has_rows_lem) ∙ whole.1 ∙ written_sets mid rows at fits ∙ ap (λ (l : List ℕ). sets l at rows) s ∙ g
             ∙ sets_first out (line ++ rows) (omega (arith, both-short, a));
       }
 
   -- there is room for the first line
-  pub never_full : placed out 0 line ≡ Full → ⊥
+  pub never_full : placed out 0 line ≡ None → ⊥
   never_full e =
       let h : length out < 0 + length line = leb-false (0 + length line) (length out) (placed-full out line 0 e) in
       omega (arith, both-short)
@@ -119,25 +118,25 @@ module _ (s : Settings) (a : Answer) (days : List (List ℕ)) (costs memorized :
 -- ---- what is printed of a text
 
 module _ (text : List ℕ) (base : Settings) (x : Reading) (b : base ≡ default_settings) (e : x ≡ reading text base) where
-  pub line_text : (line : ℕ) → x.verdict ≡ Refused line → forecast_text text ≡ refused_line 11 line
+  pub line_text : (r : ReadError) → x.verdict ≡ Err r → forecast_text text ≡ refused_line 11 (told r)
   unfolding forecast_text verdict_text
-  line_text line v = rw (sym b, sym e, v)
+  line_text r v = rw (sym b, sym e, v)
 
-  pub read_text : x.verdict ≡ Read → forecast_text text ≡ run_text x.settings
+  pub read_text : x.verdict ≡ Ok tt → forecast_text text ≡ run_text x.settings
   unfolding forecast_text verdict_text
   read_text v = rw (sym b, sym e, v)
 
 -- ---- in a lent list
 
 module _ (out t : List ℕ) where
-  pub printed_is : (r : Placed) (after : List ℕ) → room ≤ length out → Printed out t r after
+  pub printed_is : (r : Option ℕ) (after : List ℕ) → room ≤ length out → Printed out t r after
       → (r ≡ printed out t) × (after ≡ left out t)
   unfolding printed left
   printed_is r after h p =
       let e : leb room (length out) ≡ true = le-leb room (length out) h in
       (rw e p.place, rw e p.bytes)
 
-  pub no_room : length out < room → (Full ≡ printed out t) × (out ≡ left out t)
+  pub no_room : length out < room → (None ≡ printed out t) × (out ≡ left out t)
   unfolding printed left
   no_room h =
       let e : leb room (length out) ≡ false = lt-leb room (length out) h in

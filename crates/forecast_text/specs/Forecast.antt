@@ -8,11 +8,10 @@ use Rattle.std.specs.Prelude.{ℕ, ◌+◌, ◌*◌, cond, ◌≡◌, List, [], 
 use Rattle.std.proofs.Math.Option.{Option, none, some}
 use Rattle.float32.specs.Numbers.{0ᶠ}
 use Rattle.listing.specs.declared.Settings.{Settings}
-use Rattle.listing.specs.declared.Verdict.{Verdict}
-use Rattle.listing.specs.declared.Verdict.TheVariants.{Read, Refused}
-use Rattle.listing.specs.Forms.{reading}
-use Rattle.report.specs.declared.Placed.{Placed}
-use Rattle.report.specs.declared.Placed.TheVariants.{To, Full}
+use Rattle.std.specs.Prelude as std
+use Rattle.std.specs.Prelude.{Some, None, Ok, Err}
+use Rattle.listing.specs.declared.ReadError.{ReadError}
+use Rattle.listing.specs.Forms.{reading, told}
 use Rattle.report.specs.Lines.{forecast_line, refused_line}
 use Rattle.report.specs.Rows.{day_lines}
 use Rattle.simulation.specs.declared.Answer.{Answer}
@@ -57,9 +56,9 @@ run_text s =
     answer_text (config_of s).learn_span r.answer r.state.days r.state.costs r.state.memorized
 
 -- 11 first, with its line; then the refusals of the run, in their order, and what it gives
-unfoldable pub verdict_text : Verdict → Settings → List ℕ
-verdict_text (Refused line) s = refused_line 11 line
-verdict_text Read s = run_text s
+unfoldable pub verdict_text : std.Result Unit ReadError → Settings → List ℕ
+verdict_text (Err e) s = refused_line 11 (told e)
+verdict_text (Ok u) s = run_text s
 
 unfoldable pub forecast_text : List ℕ → List ℕ
 forecast_text text =
@@ -80,13 +79,13 @@ abbrev pub room : ℕ
 room = 90 + most_span * 183
 
 -- where the text ends; a list that is shorter than `room` is not written to
-unfoldable pub printed : List ℕ → List ℕ → Placed
-printed out t = cond (leb room (length out)) (To (length t)) Full
+unfoldable pub printed : List ℕ → List ℕ → std.Option ℕ
+printed out t = cond (leb room (length out)) (Some (length t)) None
 
 unfoldable pub left : List ℕ → List ℕ → List ℕ
 left out t = cond (leb room (length out)) (t ++ drop (length t) out) out
 
 -- a text at the head of a list: r is the place behind it
-pub record Printed (out t : List ℕ) (r : Placed) (after : List ℕ) : Type 0 where
-  pub place : r ≡ To (length t)
+pub record Printed (out t : List ℕ) (r : std.Option ℕ) (after : List ℕ) : Type 0 where
+  pub place : r ≡ Some (length t)
   pub bytes : after ≡ t ++ drop (length t) out

@@ -9,8 +9,7 @@ ghost use Rattle.forecast_text.specs.Forecast.{RunDays, Printed, run_with, room,
 ghost use Rattle.forecast_text.specs.Forecast.{forecast_text, printed, left};
 
 use entry::refusals;
-use listing::{Settings, Verdict};
-use report::Placed;
+use listing::Settings;
 use simulation::Answer;
 
 pub mod settings;
@@ -20,16 +19,13 @@ fn run(days: &mut [[u32; 4]], costs: &mut [f32], memorized: &mut [f32], set: Set
     ensures { RunDays (run_with days.old costs.old memorized.old set) result
         days.new costs.new memorized.new }
 {
-    let mut cards: [[f32; 6]; 512] = [[0.0; 6]; 512];
-    let mut counts: [[u32; 2]; 512] = [[0; 2]; 512];
-    let mut rows: [[u64; 2]; 512] = [[0; 2]; 512];
-    let mut due: [u32; 1095] = [0; 1095];
-    let mut keys: [[u32; 2]; 4096] = [[0; 2]; 4096];
-    let mut intervals: [f32; 4096] = [0.0; 4096];
-    let existing: [[f32; 6]; 0] = [[0.0; 6]; 0];
-    let existing_counts: [[u32; 2]; 0] = [[0; 2]; 0];
-    let bits = set.parameters;
-    let parameters = settings::floats_of_34(bits);
+    let mut cards = [[0.0; 6]; 512];
+    let mut counts = [[0; 2]; 512];
+    let mut rows = [[0; 2]; 512];
+    let mut due = [0; 1095];
+    let mut keys = [[0; 2]; 4096];
+    let mut intervals = [0.0; 4096];
+    let parameters = settings::floats_of(&set.parameters);
     let n = settings::parameter_count(set);
     let config = settings::config_of(set);
     let retention = float32::from_bits(set.retention);
@@ -44,8 +40,8 @@ fn run(days: &mut [[u32; 4]], costs: &mut [f32], memorized: &mut [f32], set: Set
         &mut keys,
         &mut intervals,
         &parameters[..n],
-        &existing,
-        &existing_counts,
+        &[],
+        &[],
         config,
         retention,
         set.seed,
@@ -61,7 +57,7 @@ fn write_run(
     span: u32,
     turns: u32,
     cards: u32,
-) -> Placed
+) -> Option<usize>
     requires { (room ≤ length out.old)
         × ((span ≤ most_span)
         × ((span ≤ length days.now)
@@ -70,20 +66,18 @@ fn write_run(
     ensures { Printed out.old (forecast_line span turns cards ++ day_lines days.now
         costs.now memorized.now 0 span) result out.new }
 {
-    match report::write_forecast(out, 0, span, turns, cards) {
-        Placed::To(at) => report::write_days(out, at, days, costs, memorized, span),
-        Placed::Full => Placed::Full,
-    }
+    let at = report::write_forecast(out, 0, span, turns, cards)?;
+    report::write_days(out, at, days, costs, memorized, span)
 }
 
 // The run of settings, made and written.
-fn forecast_settings(out: &mut [u8], set: Settings) -> Placed
+fn forecast_settings(out: &mut [u8], set: Settings) -> Option<usize>
     requires { room ≤ length out.old }
     ensures { Printed out.old (run_text set) result out.new }
 {
-    let mut days: [[u32; 4]; 730] = [[0; 4]; 730];
-    let mut costs: [f32; 730] = [0.0; 730];
-    let mut memorized: [f32; 730] = [0.0; 730];
+    let mut days = [[0; 4]; 730];
+    let mut costs = [0.0; 730];
+    let mut memorized = [0.0; 730];
     let answer = run(&mut days, &mut costs, &mut memorized, set);
     let span = settings::span_of(set);
     match answer {
@@ -95,18 +89,16 @@ fn forecast_settings(out: &mut [u8], set: Settings) -> Placed
 }
 
 // What a text forecasts, as text: what is read gives what is written.
-pub fn forecast(out: &mut [u8], text: &[u8]) -> Placed
+pub fn forecast(out: &mut [u8], text: &[u8]) -> Option<usize>
     ensures { (result ≡ printed out.old (forecast_text text.now))
         × (out.new ≡ left out.old (forecast_text text.now)) }
 {
     if out.len() < 133680 {
-        return Placed::Full;
+        return None;
     }
     let reading = listing::reader::read(text, settings::default_settings());
-    let verdict = reading.verdict;
-    let set = reading.settings;
-    match verdict {
-        Verdict::Refused(line) => report::write_refused(out, 0, 11, line),
-        Verdict::Read => forecast_settings(out, set),
+    match reading.verdict {
+        Err(e) => report::write_refused(out, 0, 11, e.told()),
+        Ok(()) => forecast_settings(out, reading.settings),
     }
 }

@@ -31,78 +31,33 @@ pub fn default_config() -> SimulatorConfig
 }
 
 // Floats as W.
-fn put_bits(out: &mut [u32], xs: &[f32])
-    requires { length out.old ≡ length xs.now }
-    ensures { out.new ≡ bits_of xs.now }
+fn bits_of<const N: usize>(xs: &[f32; N]) -> [u32; N]
+    ensures { result ≡ bits_of xs.now }
 {
-    let mut i: usize = 0;
-    while i < xs.len() {
-        out[i] = float32::to_bits(xs[i]);
-        i += 1;
+    let mut bits = [0; N];
+    for i in 0..N {
+        bits[i] = float32::to_bits(xs[i]);
     }
+    bits
 }
 
 // And back.
-fn put_floats(out: &mut [f32], bits: &[u32])
-    requires { length out.old ≡ length bits.now }
-    ensures { out.new ≡ floats_of bits.now }
+pub fn floats_of<const N: usize>(bits: &[u32; N]) -> [f32; N]
+    ensures { (length result ≡ N) × (result ≡ floats_of bits.now) }
 {
-    let mut i: usize = 0;
-    while i < bits.len() {
-        out[i] = float32::from_bits(bits[i]);
-        i += 1;
+    let mut floats = [0.0; N];
+    for i in 0..N {
+        floats[i] = float32::from_bits(bits[i]);
     }
-}
-
-fn bits_of_4(xs: [f32; 4]) -> [u32; 4]
-    ensures { result ≡ bits_of xs }
-{
-    let mut out = [0u32; 4];
-    put_bits(&mut out, &xs);
-    out
-}
-
-fn bits_of_12(xs: [f32; 12]) -> [u32; 12]
-    ensures { result ≡ bits_of xs }
-{
-    let mut out = [0u32; 12];
-    put_bits(&mut out, &xs);
-    out
-}
-
-fn floats_of_4(bits: [u32; 4]) -> [f32; 4]
-    ensures { result ≡ floats_of bits }
-{
-    let mut out: [f32; 4] = [0.0; 4];
-    put_floats(&mut out, &bits);
-    out
-}
-
-fn floats_of_12(bits: [u32; 12]) -> [f32; 12]
-    ensures { result ≡ floats_of bits }
-{
-    let mut out: [f32; 12] = [0.0; 12];
-    put_floats(&mut out, &bits);
-    out
-}
-
-pub fn floats_of_34(bits: [u32; 34]) -> [f32; 34]
-    ensures { (length result ≡ 34) × (result ≡ floats_of bits) }
-{
-    let mut out: [f32; 34] = [0.0; 34];
-    put_floats(&mut out, &bits);
-    out
+    floats
 }
 
 // What missing forms take.
+#[tactic(auto, unfolding(crate::specs::Settings::default_settings))]
 pub fn default_settings() -> Settings
     ensures { result ≡ default_settings }
 {
     let config = default_config();
-    let prob = config.first_rating_prob;
-    let costs = config.state_rating_costs;
-    let first = bits_of_4(prob);
-    let cost = bits_of_12(costs);
     Settings {
         deck: config.deck_size,
         span: config.learn_span,
@@ -111,8 +66,8 @@ pub fn default_settings() -> Settings
         review: config.review_limit,
         retention: 0x3f66_6666,
         maxcost: float32::to_bits(config.max_cost_perday),
-        first,
-        cost,
+        first: bits_of(&config.first_rating_prob),
+        cost: bits_of(&config.state_rating_costs),
         parameters: [0; 34],
         seen: [false; 10],
     }
@@ -125,22 +80,20 @@ fn at_most(most: u32, n: u32) -> u32
     if most < n { 0 } else { n }
 }
 
+#[tactic(auto, unfolding(crate::specs::Settings::config_of))]
 pub fn config_of(set: Settings) -> SimulatorConfig
     ensures { result ≡ config_of set }
 {
-    let mut config = default_config();
-    config.deck_size = at_most(512, set.deck);
-    config.learn_span = at_most(730, set.span);
-    config.max_cost_perday = float32::from_bits(set.maxcost);
-    config.learn_limit = set.learn;
-    config.review_limit = set.review;
-    let first = set.first;
-    let cost = set.cost;
-    let prob = floats_of_4(first);
-    let costs = floats_of_12(cost);
-    config.first_rating_prob = prob;
-    config.state_rating_costs = costs;
-    config
+    SimulatorConfig {
+        deck_size: at_most(512, set.deck),
+        learn_span: span_of(set),
+        max_cost_perday: float32::from_bits(set.maxcost),
+        first_rating_prob: floats_of(&set.first),
+        learn_limit: set.learn,
+        review_limit: set.review,
+        state_rating_costs: floats_of(&set.cost),
+        ..default_config()
+    }
 }
 
 pub fn span_of(set: Settings) -> u32
@@ -153,6 +106,5 @@ pub fn span_of(set: Settings) -> u32
 pub fn parameter_count(set: Settings) -> usize
     ensures { result ≡ cond (get_or set.seen 0 false) 34 0 }
 {
-    let seen = set.seen;
-    if seen[0] { 34 } else { 0 }
+    if set.seen[0] { 34 } else { 0 }
 }

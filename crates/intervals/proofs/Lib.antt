@@ -1,5 +1,5 @@
 -- The interval table's laws, and the lemmas that its functions' proofs cite.
-pub mod Fill
+pub mod Numbers
 pub mod Steps
 pub mod Probe
 pub mod Change

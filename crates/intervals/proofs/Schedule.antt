@@ -8,8 +8,7 @@
 --     and of all held after it
 --     same_slot       two tables that hold the same give the same slot but for its place, unless the shorter one is
 --     full
---     range_both, range_fails, slot_full, slot_new, slot_held, slot_anew, not_found, not_entered      what the code
---     finds, test by test
+--     slot_held, slot_anew      what the code finds where the key is held
 --     scheduled_used  the fresh interval never marks a free place
 use mathlib.Core.Path.{◌≡◌, refl, sym, ap, ◌∙◌}
 use mathlib.Core.Bool.{Bool, true, false, cond}
@@ -18,10 +17,8 @@ use mathlib.Core.Option.{none}
 use Prim.Native.Nat.{ℕ, ◌<◌}
 use native.Mathlib.Decide.{ℕ_discrete}
 use lib.Ieee.{Float, lt, of_bits, of_fields}
-use Rattle.float32.specs.Float32.{max, clamp}
-use Rattle.float32.specs.Ops.{◌+ᶠ◌, ◌-ᶠ◌}
-use Rattle.float32.specs.Numbers.{0ᶠ, 1ᶠ}
-use Rattle.model.specs.Constants.{half}
+use Rattle.float32.specs.Float32.{clamp}
+use Rattle.float32.specs.Numbers.{1ᶠ}
 use Rattle.model.specs.Model.{Curves, of_stability, scheduled}
 use Rattle.model.specs.Model as Model
 use Rattle.model.specs.declared.forgetting_curve.Curve.{Curve}
@@ -31,7 +28,6 @@ use Rattle.intervals.specs.declared.Slot.{Slot}
 use Rattle.intervals.specs.declared.Slot.TheVariants as slot
 use Rattle.intervals.specs.Table.{Table, places, is_free, free_at, value_at, lookup_in, enter_in, held_in, count_in}
 use Rattle.intervals.specs.Bucket.{stability_bucket, retention_bucket}
-use Rattle.intervals.specs.Schedule.{margin, is_below, is_no_less, certifies_range}
 use Rattle.intervals.specs.Schedule.{certifies, pick_slot, slot_by, slot_in, slot_of, is_full, interval_of, entered}
 use Rattle.intervals.proofs.Probe.{true_false, lookup_at_is}
 use Rattle.intervals.proofs.Change.{enter-places, value_same, free_other, value_other}
@@ -162,39 +158,9 @@ module _ (t t' : Table) (w : SameEntries t t') (s r : ℕ) (certified : Float �
   unfolding slot_in
   same_slot = same_by (lookup_in t s r) (lookup_in t' s r) refl refl (same-lookup t t' w s r)
 
--- a slot that is not to be entered leaves the table
-pub not_entered : (t : Table) (x : Slot) → ((p s r : ℕ) (v : Float) → x ≡ slot.Enter p s r v → ⊥) → t ≡ entered t x
-not_entered t (slot.Keep v) h = refl
-not_entered t (slot.Enter p s r v) h = absurd (h p s r v refl)
-not_entered t slot.Full h = refl
-
--- ---- what the code finds, one test after the other
-module _ (curve : Float → Float) (retention interval lower : Float) (a : Bool)
-    (el : lower ≡ curve (max (interval -ᶠ half +ᶠ margin) 0ᶠ)) (ea : a ≡ is_no_less lower retention) where
-  first_test : {b : Bool} → a ≡ b → is_no_less (curve (max (interval -ᶠ half +ᶠ margin) 0ᶠ)) retention ≡ b
-  first_test y = ap (λ (v : Float). is_no_less v retention) (sym el) ∙ sym ea ∙ y
-
-  pub range_both : (upper : Float) (b : Bool) → a ≡ true → upper ≡ curve (interval +ᶠ half -ᶠ margin)
-      → b ≡ is_below upper retention → b ≡ certifies_range curve retention interval
-  unfolding certifies_range
-  range_both upper b y eu eb = rw (first_test y) (eb ∙ ap (λ (v : Float). is_below v retention) eu)
-
-  pub range_fails : a ≡ false → false ≡ certifies_range curve retention interval
-  unfolding certifies_range
-  range_fails y = rw (first_test y)
-
+-- ---- what the code finds where the key is held
 module _ (curves : Curves) (stability retention most : Float) (t : Table) (s r : ℕ) (es : s ≡ stability_bucket stability)
     (er : r ≡ retention_bucket retention) where
-  pub slot_full : lookup_in t s r ≡ entry.Full → slot.Full ≡ slot_of curves stability retention most t
-  unfolding slot_of
-  slot_full e = rw (← es, ← er) (sym (full_is t s r _ _ e))
-
-  pub slot_new : {p : ℕ} {fresh : Float} → lookup_in t s r ≡ entry.Free p
-      → fresh ≡ scheduled curves stability retention most
-      → slot.Enter p s r fresh ≡ slot_of curves stability retention most t
-  unfolding slot_of
-  slot_new e ef = rw (← es, ← er, ef) (sym (new_is t s r _ _ e))
-
   module _ {p : ℕ} {v : Float} (e : lookup_in t s r ≡ entry.Found p v) (curve : Curve) (c : Bool)
       (ec : curve ≡ curves (of_stability stability))
       (et : c ≡ certifies (Model.retention curve) stability retention v most) where
@@ -210,13 +176,6 @@ module _ (curves : Curves) (stability retention most : Float) (t : Table) (s r :
         → slot.Enter p s r fresh ≡ slot_of curves stability retention most t
     unfolding slot_of
     slot_anew y ef = rw (← es, ← er, ef) (sym (anew_is t s r _ _ (test y) e))
-
--- neither found nor free
-pub not_found : (f : Entry) → ((p : ℕ) (v : Float) → f ≡ entry.Found p v → ⊥) → ((p : ℕ) → f ≡ entry.Free p → ⊥)
-    → f ≡ entry.Full
-not_found (entry.Found p v) a b = absurd (a p v refl)
-not_found (entry.Free p) a b = absurd (b p refl)
-not_found entry.Full a b = refl
 
 one_used : is_free 1ᶠ ≡ false
 unfolding lt of_bits of_fields

@@ -10,16 +10,10 @@ use Prim.Native.Nat.{ℕ, zero, suc, ◌+◌, ◌-◌, ◌*◌, ◌<◌, ◌≤�
 use native.Mathlib.Nat.{mod-lt, min-le_left, min-le_right, mul-le-mul_left, mul-lt-mul_of_pos_right, div-lt_iff_lt-mul}
 use native.Mathlib.Omega.{arith}
 use borrow.Author.Tests.{eqb-false, eq-eqb, ne_eqb}
-use mathlib.Core.List.{List}
 use lib.Dec.{eqb}
-use lib.Ieee.{Float}
 use Rattle.intervals.specs.declared.Entry.TheVariants.{Found, Free, Full}
-use Rattle.intervals.specs.Table.{Table, table, places, mix_of, home_of, next_of, free_at, key_at, value_at, probe}
+use Rattle.intervals.specs.Table.{Table, places, mix_of, home_of, next_of, free_at, key_at, value_at, probe}
 use Rattle.intervals.specs.Table.{lookup_in}
-
-pub table_is : {keys keys' : List (List ℕ)} {intervals intervals' : List Float} → keys ≡ keys' → intervals ≡ intervals'
-    → table keys intervals ≡ table keys' intervals'
-table_is p q = rw (p, q)
 
 mix-lt : (s r : ℕ) → mix_of s r < 4294967296
 unfolding mix_of

@@ -1,10 +1,11 @@
 // The interval table: a map of fixed size from a key of two buckets to an interval, in two lists that the caller lends.
 // A place is free if its interval is below 1, as it is after `clear`. A key is looked for from the place that its hash
-// names, place by place and round the end, until the key or a free place is met.
+// names, place by place and round the end, until the key or a free place is met. Keys and intervals are two lists, not
+// one of pairs: C lends them as two.
 #![tactic(auto)]
 
-ghost use Rattle.std.specs.Prelude.{◌≡◌, [], ◌∷◌, ◌<◌, min, length, set, replicate, false};
-ghost use Rattle.intervals.specs.Table.{table, mix_of, home_of, next_of, same_key, LookupContract, enter_in};
+ghost use Rattle.std.specs.Prelude.{◌≡◌, ◌<◌, length, set, replicate, false};
+ghost use Rattle.intervals.specs.Table.{table, mix_of, home_of, next_of, LookupContract, enter_in};
 ghost use Rattle.std.specs.Float.{inf};
 ghost use Rattle.float32.specs.Float32.{max};
 ghost use Rattle.model.specs.Constants.{s_min};
@@ -25,7 +26,8 @@ const DR_STEP: f32 = 0.0005;
 
 const ROUNDING_MARGIN: f32 = 0.05;
 
-// What a lookup finds: the key's place and interval, a free place that would take the key, or neither.
+// What a lookup finds: the key's place and interval, a free place that would take the key, or neither. Three cases, so
+// no Option and no Result.
 #[derive(Clone, Copy)]
 pub enum Entry {
     Found(usize, f32),
@@ -34,7 +36,7 @@ pub enum Entry {
 }
 
 // How the table serves a schedule: an interval that it holds, one to be entered at a place under a key of two buckets,
-// or neither for want of a place.
+// or neither for want of a place. Three cases as well.
 #[derive(Clone, Copy)]
 pub enum Slot {
     Keep(f32),
@@ -42,25 +44,12 @@ pub enum Slot {
     Full,
 }
 
-fn pattern(x: i32) -> u32
-    ensures { result ≡ pattern x }
-{
-    if x < 0 {
-        (x as i64 + 4294967296) as u32
-    } else {
-        x as u32
-    }
-}
-
 // The bucket of a value as the bit pattern of its i32.
 pub fn bucket_index(value: f32, step: f32) -> u32
     ensures { result ≡ pattern (bucket_index value step) }
 {
-    pattern(float32::to_i32(float32::clamp(
-        float32::round(value / step),
-        -2147483648.0,
-        2147483648.0,
-    )))
+    let times = float32::round(value / step);
+    float32::to_i32(float32::clamp(times, -2147483648.0, 2147483648.0)).cast_unsigned()
 }
 
 // The bucket of a stability's logarithm.
@@ -75,36 +64,34 @@ pub fn stability_bucket(stability: f32) -> u32
 }
 
 // The bucket of a desired retention.
+#[tactic(auto, using(crate::proofs::Numbers::literals), unfolding(crate::specs::Bucket::retention_bucket))]
 pub fn retention_bucket(retention: f32) -> u32
     ensures { result ≡ retention_bucket retention }
 {
     bucket_index(retention, DR_STEP)
 }
 
-fn lesser(a: usize, b: usize) -> usize
-    ensures { result ≡ min a b }
-{
-    if a < b { a } else { b }
-}
-
 // A key's hash. The first factor is 2^32 over the golden ratio: neighbouring stabilities lie far apart, and any number
 // of them in a row lies evenly over the whole range.
+#[tactic(auto, unfolding(crate::specs::Table::mix_of))]
 fn mixed(s: u32, r: u32) -> usize
     ensures { result ≡ mix_of s r }
 {
-    (((s as u64) * 2654435769 + (r as u64) * 1540483477) % 4294967296) as usize
+    ((u64::from(s) * 2654435769 + u64::from(r) * 1540483477) % 4294967296) as usize
 }
 
 // Where the search for a key starts: the hash's share of the table. A remainder by the table's length would bring
 // neighbours together at some lengths.
+#[tactic(auto, unfolding(crate::specs::Table::home_of))]
 fn home(n: usize, s: u32, r: u32) -> usize
     requires { 0 < n }
     ensures { result ≡ home_of n s r }
 {
-    mixed(s, r) * lesser(n, 4294967296) / 4294967296
+    mixed(s, r) * n.min(4294967296) / 4294967296
 }
 
 // The place after p, round the end.
+#[tactic(auto, unfolding(crate::specs::Table::next_of))]
 fn after(n: usize, p: usize) -> usize
     requires { p < n }
     ensures { result ≡ next_of n p }
@@ -113,31 +100,25 @@ fn after(n: usize, p: usize) -> usize
     if q == n { 0 } else { q }
 }
 
-fn same(a: u32, b: u32, s: u32, r: u32) -> bool
-    ensures { result ≡ same_key a b s r }
-{
-    if a == s { b == r } else { false }
-}
-
 pub fn lookup(keys: &[[u32; 2]], intervals: &[f32], s: u32, r: u32) -> Entry
     ensures { LookupContract (table keys.now intervals.now) s r result }
 {
-    let n = lesser(keys.len(), intervals.len());
+    let n = keys.len().min(intervals.len());
     if n == 0 {
         return Entry::Full;
     }
     let mut p = home(n, s, r);
-    let mut left = n;
-    while 0 < left {
+    'places: for _ in 0..n {
         let v = intervals[p];
         if v < 1.0 {
             return Entry::Free(p);
         }
-        if same(keys[p][0], keys[p][1], s, r) {
+        let [a, b] = keys[p];
+        let same = a == s && b == r;
+        if same {
             return Entry::Found(p, v);
         }
         p = after(n, p);
-        left -= 1;
     }
     Entry::Full
 }
@@ -145,23 +126,16 @@ pub fn lookup(keys: &[[u32; 2]], intervals: &[f32], s: u32, r: u32) -> Entry
 fn below(chance: f32, retention: f32) -> bool
     ensures { result ≡ is_below chance retention }
 {
-    if float32::is_finite(chance) {
-        chance < retention
-    } else {
-        false
-    }
+    float32::is_finite(chance) && chance < retention
 }
 
 fn no_less(chance: f32, retention: f32) -> bool
     ensures { result ≡ is_no_less chance retention }
 {
-    if float32::is_finite(chance) {
-        chance >= retention
-    } else {
-        false
-    }
+    float32::is_finite(chance) && chance >= retention
 }
 
+#[tactic(auto, using(crate::proofs::Numbers::literals), unfolding(crate::specs::Schedule::certifies_one))]
 fn certifies_one(curve: Curve, retention: f32, most: f32) -> bool
     ensures { result ≡ certifies_one (Model.retention curve) retention most }
 {
@@ -171,31 +145,25 @@ fn certifies_one(curve: Curve, retention: f32, most: f32) -> bool
     )
 }
 
+#[tactic(auto, using(crate::proofs::Numbers::literals), unfolding(crate::specs::Schedule::certifies_range))]
 fn certifies_range(curve: Curve, retention: f32, interval: f32) -> bool
     ensures { result ≡ certifies_range (Model.retention curve) retention interval }
 {
     let lower = curve.retention(float32::max(interval - 0.5 + ROUNDING_MARGIN, 0.0));
-    if no_less(lower, retention) {
-        below(curve.retention(interval + 0.5 - ROUNDING_MARGIN), retention)
-    } else {
-        false
-    }
+    no_less(lower, retention) && below(curve.retention(interval + 0.5 - ROUNDING_MARGIN), retention)
 }
 
 fn all_finite(stability: f32, retention: f32, interval: f32, most: f32) -> bool
     ensures { result ≡ all_finite stability retention interval most }
 {
-    if float32::is_finite(stability) {
-        if float32::is_finite(retention) {
-            if float32::is_finite(interval) {
-                return float32::is_finite(most);
-            }
-        }
-    }
-    false
+    float32::is_finite(stability)
+        && float32::is_finite(retention)
+        && float32::is_finite(interval)
+        && float32::is_finite(most)
 }
 
 // Whether an interval is the nearest whole number of days at which the curve of the stability falls to the retention.
+#[tactic(auto, unfolding(crate::specs::Schedule::certifies))]
 pub fn certifies_rounded_interval(
     curve: Curve,
     stability: f32,
@@ -205,20 +173,19 @@ pub fn certifies_rounded_interval(
 ) -> bool
     ensures { result ≡ certifies (Model.retention curve) stability retention interval most }
 {
-    if all_finite(stability, retention, interval, most) {
-        if interval <= 1.0 {
-            certifies_one(curve, retention, most)
-        } else if interval >= most {
-            false
-        } else {
-            certifies_range(curve, retention, interval)
-        }
-    } else {
+    if !all_finite(stability, retention, interval, most) {
         false
+    } else if interval <= 1.0 {
+        certifies_one(curve, retention, most)
+    } else if interval >= most {
+        false
+    } else {
+        certifies_range(curve, retention, interval)
     }
 }
 
 // The slot of a card for its next interval: the held one if it is certified, else a new one under the same key.
+#[tactic(auto, unfolding(crate::specs::Schedule::slot_of, crate::specs::Schedule::slot_in))]
 pub fn scheduled_interval(
     model: Fsrs7Runtime,
     stability: f32,
@@ -247,19 +214,11 @@ pub fn scheduled_interval(
     }
 }
 
-fn put_key(keys: &mut [[u32; 2]], place: usize, s: u32, r: u32)
-    ensures { keys.new ≡ set keys.old place (s ∷ r ∷ []) }
+fn put<T: Copy>(list: &mut [T], place: usize, x: T)
+    ensures { list.new ≡ set list.old place x }
 {
-    if place < keys.len() {
-        keys[place] = [s, r];
-    }
-}
-
-fn put_interval(intervals: &mut [f32], place: usize, v: f32)
-    ensures { intervals.new ≡ set intervals.old place v }
-{
-    if place < intervals.len() {
-        intervals[place] = v;
+    if place < list.len() {
+        list[place] = x;
     }
 }
 
@@ -268,18 +227,14 @@ pub fn enter(keys: &mut [[u32; 2]], intervals: &mut [f32], place: usize, s: u32,
     ensures { table keys.new intervals.new
         ≡ enter_in (table keys.old intervals.old) place s r v }
 {
-    put_key(keys, place, s, r);
-    put_interval(intervals, place, v);
+    put(keys, place, [s, r]);
+    put(intervals, place, v);
 }
 
 pub fn is_full(slot: Slot) -> bool
     ensures { result ≡ is_full slot }
 {
-    match slot {
-        Slot::Keep(_) => false,
-        Slot::Enter(_, _, _, _) => false,
-        Slot::Full => true,
-    }
+    matches!(slot, Slot::Full)
 }
 
 // The interval of a slot; a NaN where there is none.
@@ -287,9 +242,8 @@ pub fn interval_in(slot: Slot) -> f32
     ensures { result ≡ interval_of slot }
 {
     match slot {
-        Slot::Keep(v) => v,
-        Slot::Enter(_, _, _, v) => v,
-        Slot::Full => 0.0 / 0.0,
+        Slot::Keep(v) | Slot::Enter(_, _, _, v) => v,
+        Slot::Full => f32::NAN,
     }
 }
 
@@ -308,9 +262,5 @@ pub fn enter_slot(keys: &mut [[u32; 2]], intervals: &mut [f32], slot: Slot)
 pub fn clear(intervals: &mut [f32])
     ensures { intervals.new ≡ replicate (length intervals.old) 0ᶠ }
 {
-    let mut i = 0;
-    while i < intervals.len() {
-        intervals[i] = 0.0;
-        i += 1;
-    }
+    intervals.fill(0.0);
 }

@@ -1,80 +1,59 @@
--- A text read line by line, by places, against `read_lines`.
-use mathlib.Core.Path.{◌≡◌, refl, sym}
-use Prim.Native.Nat.{ℕ, suc, ◌+◌, ◌≤◌, ◌<◌}
-use native.Mathlib.Omega.{arith}
-use native.Mathlib.Nat.{add-sub_cancel_left}
-use native.Mathlib.Numerals.{add-one}
-use mathlib.Core.Bool.{Bool, true, false}
-use mathlib.Core.List.{List, [], ◌∷◌}
-use lib.ListN.{length, drop, take, length-drop}
-use lib.Seq.{drop-drop, take_all}
-use lib.Dec.{leb}
-use borrow.Author.Tests.{leb-true, leb-false, le-leb}
+-- A text read line by line, against `read_lines`.
+--   lines-few               a text has at most one line more than bytes
+--   lines-yield             what `split` gives at line feeds are the text's lines
+--   read_wrong, read-on     a line that is wrong, and one that is not
+--   read-end                past the last line
+use Rattle.std.proofs.Common.{◌≡◌, ℕ, suc, ◌+◌, ◌≤◌, ◌<◌, Bool, false, List, [], ◌∷◌, length, drop, get_or, sym, refl}
+use Rattle.std.proofs.Common.{arith, Bor, add-one, drop-cons, drop_of_length-le}
+use Rattle.std.specs.Prelude.{Some, None, nat_eq}
+use Rattle.std.specs.Fn.{CalledAt}
+use Rattle.std.specs.Slice.Iter.{split_rest, split_done, split_callee, split_steps}
+use Rattle.std.proofs.lemmas.Iterator.{YieldsList}
+use Rattle.std.proofs.lemmas.Iterator.Splits.{YieldsList-from_slice_split}
+use Rattle.std.proofs.lemmas.List.Splits.{length-slice_split}
+use Rattle.std.proofs.lemmas.List.Sums.{count_by-le-length}
+use denote.Param.Members.{Mut}
 use Rattle.listing.specs.declared.Settings.{Settings}
-use Rattle.listing.specs.declared.LineResult.{LineResult}
-use Rattle.listing.specs.Text.{in_line, leading, first_not, lines, parts}
-use Rattle.listing.specs.Places.{part_of}
-use Rattle.listing.specs.Forms.{line, read_lines, read_as, refused_at}
-use Rattle.listing.proofs.Scan.{leading_le}
-use Rattle.listing.proofs.PartLaws.{line-ends, line-last}
+use Rattle.listing.specs.declared.ReadError.TheVariants.{Line}
+use Rattle.listing.specs.Text.{lines, parts}
+use Rattle.listing.specs.Forms.{line, read_lines, read_as, refused_as}
+use Rattle.listing.proofs.PartLaws.{lines-cut}
 
--- the line from i on, by its places
-line_part : (s : List ℕ) (i k : ℕ) → i + k ≤ length s → part_of s i (i + k) ≡ take k (drop i s)
-unfolding part_of
-line_part s i k h = rw (le-leb i (i + k) (omega arith), le-leb (i + k) (length s) h, add-sub_cancel_left i k)
+pub lines-few : (s : List ℕ) → length (lines s) ≤ length s + 1
+lines-few s =
+    rw (lines-cut s, length-slice_split (λ b. nat_eq b 10) s) (omega (arith, count_by-le-length (λ b. nat_eq b 10) s))
 
-lines-on : (s : List ℕ) (i : ℕ) → i ≤ length s → first_not in_line s i < length s
-    → lines (drop i s) ≡ part_of s i (first_not in_line s i) ∷ lines (drop (first_not in_line s i + 1) s)
-unfolding first_not
-lines-on s i h l =
-    let k : ℕ = leading in_line (drop i s) in
-    let e : i + k + 1 ≡ i + suc k = omega arith in
-    rw (line_part s i k (omega arith), e, sym (drop-drop (suc k) i s))
-    (line-ends (drop i s) (omega (arith, length-drop i s)))
+pub lines-yield : {F : Type 0} {s : _} (g : Mut F (Bor ℕ × Unit {0}) Bool) {f : F} (text : List ℕ) → split_rest s ≡ text
+    → split_done s ≡ false → split_callee s ≡ f
+    → ((x : ℕ) (b : Bool) (q : F) → CalledAt g f x b q → (q ≡ f) × (b ≡ nat_eq x 10))
+    → YieldsList (split_steps g) (λ x. x.now) s (lines text)
+lines-yield g text r d k h = rw (lines-cut text) (YieldsList-from_slice_split g (λ b. nat_eq b 10) text r d k h)
 
-lines-last : (s : List ℕ) (i : ℕ) → i ≤ length s → length s ≤ first_not in_line s i → lines (drop i s)
-    ≡ part_of s i (first_not in_line s i) ∷ []
-unfolding first_not
-lines-last s i h l =
-    let k : ℕ = leading in_line (drop i s) in
-    let f : length (drop i s) ≤ k = omega (arith, length-drop i s) in
-    rw (line_part s i k (omega (arith, leading_le in_line (drop i s), length-drop i s)), take_all k (drop i s) f)
-    (line-last (drop i s) f)
+first_wrong : (n : ℕ) (x : List ℕ) (ls : List (List ℕ)) (st : Settings) → line (parts x) st ≡ None
+    → read_lines n (x ∷ ls) st ≡ refused_as (Line n) st
+unfolding read_lines
+first_wrong n x ls st f = rw (f, read_lines)
 
--- a line read
-module _ (n : ℕ) (l : List ℕ) (ls : List (List ℕ)) (st : Settings) (after : LineResult) (e : after ≡ line (parts l) st)
-  where
-    line_wrong : after.ok ≡ false → read_lines n (l ∷ ls) st ≡ refused_at n st
-    unfolding read_lines
-    line_wrong f = rw (sym e, f)
+pub first-read : (n : ℕ) (x : List ℕ) (ls : List (List ℕ)) (st next : Settings) → line (parts x) st ≡ Some next
+    → read_lines n (x ∷ ls) st ≡ read_lines (suc n) ls next
+unfolding read_lines
+first-read n x ls st next f = rw (f, read_lines)
 
-    line-good : after.ok ≡ true → read_lines n (l ∷ ls) st ≡ read_lines (n + 1) ls after.settings
-    unfolding read_lines
-    line-good f = rw (add-one n, sym e, f)
+module _ (all : List (List ℕ)) (n : ℕ) (st : Settings) (x : List ℕ) (h : n < length all) (e : x ≡ get_or all n x) where
+  next_line : drop n all ≡ x ∷ drop (n + 1) all
+  next_line = rw (drop-cons all n x h, sym e, add-one n)
 
--- ---- the loop
+  pub read_wrong : line (parts x) st ≡ None → read_lines (n + 1) (drop n all) st ≡ refused_as (Line (n + 1)) st
+  read_wrong f = rw next_line (first_wrong (n + 1) x (drop (n + 1) all) st f)
 
-module _ (s : List ℕ) (i to n : ℕ) (st : Settings) (after : LineResult) (inside : i ≤ length s)
-    (ends : to ≡ first_not in_line s i) (e : after ≡ line (parts (part_of s i to)) st) where
-  pub read_wrong : after.ok ≡ false → read_lines n (lines (drop i s)) st ≡ refused_at n st
-  read_wrong f = go (leb (length s) (first_not in_line s i)) refl
-    where
-      e' : after ≡ line (parts (part_of s i (first_not in_line s i))) st
-      e' = rw ends at e
+  pub read-on : (next : Settings) → line (parts x) st ≡ Some next → read_lines (n + 1) (drop n all) st
+      ≡ read_lines (n + 1 + 1) (drop (n + 1) all) next
+  read-on next f = rw (next_line, add-one (n + 1)) (first-read (n + 1) x (drop (n + 1) all) st next f)
 
-      go : (b : Bool) → leb (length s) (first_not in_line s i) ≡ b → read_lines n (lines (drop i s)) st ≡ refused_at n st
-      go true t = rw (lines-last s i inside (leb-true (length s) (first_not in_line s i) t))
-          (line_wrong n (part_of s i (first_not in_line s i)) [] st after e' f)
-      go false t = rw (lines-on s i inside (leb-false (length s) (first_not in_line s i) t))
-          (line_wrong n (part_of s i (first_not in_line s i)) (lines (drop (first_not in_line s i + 1) s)) st after e' f)
+none_left : (n : ℕ) (st : Settings) → read_lines n [] st ≡ read_as st
+unfolding read_lines
+none_left n st = refl
 
-  pub read-last : after.ok ≡ true → length s ≤ to → read_lines n (lines (drop i s)) st ≡ read_as after.settings
-  unfolding read_lines
-  read-last f h = rw (lines-last s i inside (rw ends at h)) (line-good n (part_of s i (first_not in_line s i)) [] st after
-      (rw ends at e) f)
-
-  pub read-on : after.ok ≡ true → to < length s → read_lines n (lines (drop i s)) st
-      ≡ read_lines (n + 1) (lines (drop (to + 1) s)) after.settings
-  read-on f h = rw (ends, lines-on s i inside (rw ends at h))
-      (line-good n (part_of s i (first_not in_line s i)) (lines (drop (first_not in_line s i + 1) s)) st after
-      (rw ends at e) f)
+pub read-end : (all : List (List ℕ)) (n : ℕ) (st : Settings) → length all ≤ n → read_lines (n + 1) (drop n all) st
+    ≡ read_as st
+read-end all n st h = rw (drop_of_length-le all h) (none_left (n + 1) st)

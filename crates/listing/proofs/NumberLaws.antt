@@ -1,14 +1,12 @@
--- Words compared from the left, and digits read from the left.
---   same-on, same_off, same_end, not_same     two words: equal here, unequal here, at their end, and of two lengths
+-- Digits read from the left.
 --   digits-on, digits_off, value_on           digits: one more, a byte that is none, and the value with one more
 --   digits-end, value-end                     past the last digit
 --   value-ge                                  digits that follow make no number smaller
---   number-none, number_digits, number-over   no number: an empty word, a byte that is no digit, a value past the most
+--   number_digits, number-over                no number: a byte that is no digit, a value past the most
 --   number_is                                 a number
 --   goes_over, stays                          the code's test: whether one digit more goes past the most
---   number-le                                 a number that is read is at most the most
-use mathlib.Core.Path.{◌≡◌, refl, ap}
-use Prim.Native.Nat.{ℕ, suc, ◌+◌, ◌-◌, ◌*◌, ◌/◌, ◌≤◌, ◌<◌}
+use mathlib.Core.Path.{◌≡◌, refl}
+use Prim.Native.Nat.{ℕ, ◌+◌, ◌-◌, ◌*◌, ◌/◌, ◌≤◌, ◌<◌}
 use native.Mathlib.Omega.{arith}
 use native.Mathlib.Nat.{mul-le-mul_left, div-lt_iff_lt-mul, le-div_iff_mul-le, mul-one}
 use native.Mathlib.Numerals.{add-one}
@@ -16,38 +14,10 @@ use mathlib.Core.Bool.{Bool, true, false, cond, not, ◌&&◌}
 use mathlib.Core.List.{List, [], ◌∷◌}
 use lib.ListN.{length, drop, get_or, drop_of_length-le}
 use lib.Seq.{drop-cons}
-use lib.Dec.{eqb, leb}
-use borrow.Author.Tests.{leb-true, lt-ltb, le-ltb, le-leb, lt-leb, eq-eqb, ne_eqb}
-use Rattle.listing.specs.declared.Parsed64.TheVariants.{Is, Not}
-use Rattle.listing.specs.Text.{same}
+use lib.Dec.{leb}
+use borrow.Author.Tests.{lt-ltb, le-ltb, le-leb, lt-leb}
+use Rattle.std.specs.Prelude.{Some, None}
 use Rattle.listing.specs.Numbers.{digit, digits, value, number, empty}
-
--- ---- words
-
-pub same-on : (a b : List ℕ) (i : ℕ) → i < length a → i < length b → get_or a i 0 ≡ get_or b i 0
-    → same (drop i a) (drop i b) ≡ same (drop (i + 1) a) (drop (i + 1) b)
-unfolding same
-same-on a b i h k e = rw (drop-cons a i 0 h, drop-cons b i 0 k, eq-eqb (get_or a i 0) (get_or b i 0) e, add-one i)
-
-pub same_off : (a b : List ℕ) (i : ℕ) → i < length a → i < length b → (get_or a i 0 ≡ get_or b i 0 → ⊥)
-    → same (drop i a) (drop i b) ≡ false
-unfolding same
-same_off a b i h k e = rw (drop-cons a i 0 h, drop-cons b i 0 k, ne_eqb (get_or a i 0) (get_or b i 0) e)
-
-pub same_end : (a b : List ℕ) (i : ℕ) → length a ≤ i → length b ≤ i → same (drop i a) (drop i b) ≡ true
-unfolding same
-same_end a b i h k = rw (drop_of_length-le a h, drop_of_length-le b k)
-
-pub not_same : (a b : List ℕ) → (length a ≡ length b → ⊥) → same a b ≡ false
-unfolding same
-not_same [] [] h = absurd (h refl)
-not_same [] (y ∷ b) h = refl
-not_same (x ∷ a) [] h = refl
-not_same (x ∷ a) (y ∷ b) h = go (eqb x y) (not_same a b (λ e. h (ap suc e)))
-  where
-    go : (t : Bool) → same a b ≡ false → (t && same a b) ≡ false
-    go true ih = ih
-    go false ih = refl
 
 -- ---- digits
 
@@ -83,24 +53,19 @@ value-ge base v (b ∷ w) h = omega (arith, value-ge base (v * base + digit b) w
 
 -- ---- the number
 
-pub number-none : (base most : ℕ) (w : List ℕ) → length w ≡ 0 → number base most w ≡ Not
-unfolding number empty
-number-none base most [] h = refl
-number-none base most (b ∷ w) h = absurd (omega arith)
-
-pub number_digits : (base most : ℕ) (w : List ℕ) → digits base w ≡ false → number base most w ≡ Not
+pub number_digits : (base most : ℕ) (w : List ℕ) → digits base w ≡ false → number base most w ≡ None
 unfolding number
 number_digits base most w h = rw h (go (empty w))
   where
-    go : (t : Bool) → cond (not t && (false && leb (value base 0 w) most)) (Is (value base 0 w)) Not ≡ Not
+    go : (t : Bool) → cond (not t && (false && leb (value base 0 w) most)) (Some (value base 0 w)) None ≡ None
     go true = refl
     go false = refl
 
-pub number-over : (base most : ℕ) (w : List ℕ) → most < value base 0 w → number base most w ≡ Not
+pub number-over : (base most : ℕ) (w : List ℕ) → most < value base 0 w → number base most w ≡ None
 unfolding number
 number-over base most w h = rw (lt-leb (value base 0 w) most h) (go (empty w) (digits base w))
   where
-    go : (t u : Bool) → cond (not t && (u && false)) (Is (value base 0 w)) Not ≡ Not
+    go : (t u : Bool) → cond (not t && (u && false)) (Some (value base 0 w)) None ≡ None
     go true u = refl
     go false true = refl
     go false false = refl
@@ -111,7 +76,7 @@ filled [] h = absurd (omega arith)
 filled (b ∷ w) h = refl
 
 pub number_is : (base most : ℕ) (w : List ℕ) (v : ℕ) → 0 < length w → digits base w ≡ true → value base 0 w ≡ v
-    → v ≤ most → number base most w ≡ Is v
+    → v ≤ most → number base most w ≡ Some v
 unfolding number
 number_is base most w v f d e h = rw (filled w f, d, e, le-leb v most h)
 
@@ -121,15 +86,3 @@ goes_over base most v d h k t = omega (arith, (div-lt_iff_lt-mul h).0 t)
 
 pub stays : (base most v d : ℕ) → 0 < base → d ≤ most → v ≤ (most - d) / base → v * base + d ≤ most
 stays base most v d h k t = omega (arith, (le-div_iff_mul-le h).0 t)
-
--- a number that is read is at most the most
-pub number-le : (base most : ℕ) (w : List ℕ) (n : ℕ) → number base most w ≡ Is n → n ≤ most
-unfolding number
-number-le base most w n = go (not (empty w)) (digits base w) (leb (value base 0 w) most) refl
-  where
-    go : (t u x : Bool) → leb (value base 0 w) most ≡ x → cond (t && (u && x)) (Is (value base 0 w)) Not ≡ Is n
-        → n ≤ most
-    go false u x e q = absurd (let k : ◌≡◌ {A = ℕ} 0 1 = cc in omega arith)
-    go true false x e q = absurd (let k : ◌≡◌ {A = ℕ} 0 1 = cc in omega arith)
-    go true true false e q = absurd (let k : ◌≡◌ {A = ℕ} 0 1 = cc in omega arith)
-    go true true true e q = let k : value base 0 w ≡ n = cc in omega (arith, leb-true (value base 0 w) most e)

@@ -9,6 +9,8 @@ use lib.ListN.{length, drop, take, get_or, drop_of_length-le, length-drop}
 use lib.Seq.{drop-cons, drop-drop}
 use lib.Dec.{eqb, leb}
 use borrow.Author.Tests.{leb-true, leb-false, le-leb}
+use Rattle.std.specs.Prelude.{nat_eq}
+use Rattle.std.specs.List.{slice_split, onto_first}
 use Rattle.listing.specs.declared.Token.TheVariants.{Opened, Closed, Word, End}
 use Rattle.listing.specs.Text.{opened, closed, word, blank, letter, in_line, leading, first_not, parts, longer}
 use Rattle.listing.specs.Text.{in_word, lines, onto}
@@ -130,27 +132,18 @@ pub parts_at : (s : List ℕ) (i : ℕ) → parts (drop i s) ≡ parts_from s (p
 unfolding part_at
 parts_at s i = skipped (drop i s) ∙ first-place s i ∙ at_place s (first_not blank s i) (stops blank s i)
 
+pub all_parts : (s : List ℕ) → parts s ≡ parts_from s (part_at s 0)
+all_parts s = parts_at s 0
+
 -- ---- lines
 
--- a first line that ends in a line feed, and one that does not
-pub line-ends : (s : List ℕ) → leading in_line s < length s → lines s
-    ≡ take (leading in_line s) s ∷ lines (drop (suc (leading in_line s)) s)
-unfolding lines leading onto
-line-ends [] h = absurd (omega arith)
-line-ends (b ∷ s) h = go (in_line b) refl (line-ends s)
+-- a text's lines, as the parts where it is cut at its line feeds
+pub lines-cut : (s : List ℕ) → lines s ≡ slice_split (λ b. nat_eq b 10) s
+unfolding lines in_line onto
+lines-cut [] = refl
+lines-cut (b ∷ s) = rw (lines-cut s) (go (nat_eq b 10) (slice_split (λ b. nat_eq b 10) s))
   where
-    go : (t : Bool) → in_line b ≡ t
-        → (leading in_line s < length s → lines s ≡ take (leading in_line s) s ∷ lines (drop (suc (leading in_line s)) s))
-        → lines (b ∷ s) ≡ take (cond (in_line b) (suc (leading in_line s)) 0) (b ∷ s) ∷ lines
-        (drop (suc (cond (in_line b) (suc (leading in_line s)) 0)) (b ∷ s))
-    go true e ih = rw (e, ih (omega (arith, rw e at h)))
-    go false e ih = rw e
-
-pub line-last : (s : List ℕ) → length s ≤ leading in_line s → lines s ≡ s ∷ []
-unfolding lines leading onto
-line-last [] h = refl
-line-last (b ∷ s) h = go (in_line b) refl (line-last s)
-  where
-    go : (t : Bool) → in_line b ≡ t → (length s ≤ leading in_line s → lines s ≡ s ∷ []) → lines (b ∷ s) ≡ (b ∷ s) ∷ []
-    go true e ih = rw (e, ih (omega (arith, rw e at h)))
-    go false e ih = absurd (omega (arith, rw e at h))
+    go : (t : Bool) (ls : List (List ℕ)) → cond (not t) (onto b ls) ([] ∷ ls) ≡ cond t ([] ∷ ls) (onto_first b ls)
+    go true ls = refl
+    go false [] = refl
+    go false (l ∷ ls) = refl

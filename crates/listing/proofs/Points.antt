@@ -5,14 +5,15 @@ use mathlib.Core.Bool.{true, false}
 use mathlib.Core.List.{List, [], ◌∷◌}
 use lib.ListN.{replicate}
 use Rattle.listing.specs.declared.Settings.{Settings}
-use Rattle.listing.specs.declared.Verdict.{Verdict}
-use Rattle.listing.specs.declared.Verdict.TheVariants.{Read, Refused}
+use Rattle.std.specs.Prelude.{Result, Ok, Err}
+use Rattle.listing.specs.declared.ReadError.{ReadError}
+use Rattle.listing.specs.declared.ReadError.TheVariants.{Line}
 use Rattle.listing.specs.Quoted.{bytes}
-use Rattle.listing.specs.Text.{blank, letter, in_line, lines, onto, parts, longer, in_word, same}
+use Rattle.listing.specs.Text.{blank, letter, in_line, lines, onto, parts, longer, in_word}
 use Rattle.listing.specs.Numbers.{digit, digits, value, empty, number, number32, number64, bits}
-use Rattle.listing.specs.Forms.{name_of, place_of, ends, closes, one, all, several, before, all_or, with_number}
-use Rattle.listing.specs.Forms.{sets_number, sets_first, sets_parameters, takes, form, named, line, read_as}
-use Rattle.listing.specs.Forms.{refused_at, read_lines, reading}
+use Rattle.listing.specs.Forms.{name_of, place_of, ends, closes, alone, one, all, several, before, all_or}
+use Rattle.listing.specs.Forms.{takes, form, named, line, read_as}
+use Rattle.listing.specs.Forms.{refused_as, read_lines, reading}
 
 -- some settings to start from
 base : Settings
@@ -47,52 +48,52 @@ case_read : reading
         parameters = replicate 34 0x3F000000;
         seen = true ∷ true ∷ true ∷ false ∷ false ∷ false ∷ false ∷ true ∷ true ∷ true ∷ [];
       };
-      verdict = Read;
+      verdict = Ok tt;
     }
-unfolding base blank letter in_line lines onto parts longer in_word same digit digits value empty number number32
-    number64 bits name_of place_of ends closes one all several before all_or with_number sets_number sets_first
-    sets_parameters takes form named line read_as refused_at read_lines reading
+unfolding base blank letter in_line lines onto parts longer in_word digit digits value empty number number32
+    number64 bits name_of place_of ends closes alone one all several before all_or takes form named line read_as
+    refused_as read_lines reading
 case_read = refl
 
 -- ---- verdicts of short texts
 
-verdict_of : List ℕ → Verdict
+verdict_of : List ℕ → Result Unit ReadError
 verdict_of text = (reading text base).verdict
 
-abbrev points : List (List ℕ × Verdict)
+abbrev points : List (List ℕ × Result Unit ReadError)
 points =
-    (bytes "", Read)
-    ∷ (bytes " \t\r\n\n", Read)
-    ∷ (bytes " ( deck\t007 ) \r", Read)
-    ∷ (bytes "(deck 5)", Read)
-    ∷ (bytes "(deck5)", Refused 1)
-    ∷ (bytes "(deck(5))", Refused 1)
-    ∷ (bytes "(deck 5) x", Refused 1)
-    ∷ (bytes "(deck\n5)", Refused 1)
-    ∷ (bytes "(deck 5)\n\n(span 1)\n(deck 5)", Refused 4)
-    ∷ (bytes "(parameters all 00000000)\n(parameters all 00000000)", Refused 2)
-    ∷ (bytes "(seed 18446744073709551615)(", Refused 1)
-    ∷ (bytes "(seed 18446744073709551615)", Read)
-    ∷ (bytes "(seed 18446744073709551616)", Refused 1)
-    ∷ (bytes "(deck 4294967296)", Refused 1)
-    ∷ (bytes "(deck +5)", Refused 1)
-    ∷ (bytes "(maxcost 3f800000)", Refused 1)
-    ∷ (bytes "(maxcost 3F80000)", Refused 1)
-    ∷ (bytes "(maxcost 3F8000000)", Refused 1)
-    ∷ (bytes "(first 00000000 00000000 00000000)", Refused 1)
-    ∷ (bytes "(cost 41000000)", Refused 1)
-    ∷ (bytes "(deck 5)\n\u{c}", Refused 2)
-    ∷ (bytes "(Deck 5)", Refused 1)
+    (bytes "", Ok tt)
+    ∷ (bytes " \t\r\n\n", Ok tt)
+    ∷ (bytes " ( deck\t007 ) \r", Ok tt)
+    ∷ (bytes "(deck 5)", Ok tt)
+    ∷ (bytes "(deck5)", Err (Line 1))
+    ∷ (bytes "(deck(5))", Err (Line 1))
+    ∷ (bytes "(deck 5) x", Err (Line 1))
+    ∷ (bytes "(deck\n5)", Err (Line 1))
+    ∷ (bytes "(deck 5)\n\n(span 1)\n(deck 5)", Err (Line 4))
+    ∷ (bytes "(parameters all 00000000)\n(parameters all 00000000)", Err (Line 2))
+    ∷ (bytes "(seed 18446744073709551615)(", Err (Line 1))
+    ∷ (bytes "(seed 18446744073709551615)", Ok tt)
+    ∷ (bytes "(seed 18446744073709551616)", Err (Line 1))
+    ∷ (bytes "(deck 4294967296)", Err (Line 1))
+    ∷ (bytes "(deck +5)", Err (Line 1))
+    ∷ (bytes "(maxcost 3f800000)", Err (Line 1))
+    ∷ (bytes "(maxcost 3F80000)", Err (Line 1))
+    ∷ (bytes "(maxcost 3F8000000)", Err (Line 1))
+    ∷ (bytes "(first 00000000 00000000 00000000)", Err (Line 1))
+    ∷ (bytes "(cost 41000000)", Err (Line 1))
+    ∷ (bytes "(deck 5)\n\u{c}", Err (Line 2))
+    ∷ (bytes "(Deck 5)", Err (Line 1))
     ∷ []
 
-abbrev Right : List (List ℕ × Verdict) → Type 0
+abbrev Right : List (List ℕ × Result Unit ReadError) → Type 0
 Right [] = Unit
 Right (p ∷ ps) = (verdict_of p.0 ≡ p.1) × Right ps
 
 all_right : Right points
-unfolding verdict_of base blank letter in_line lines onto parts longer in_word same digit digits value empty number
-    number32 number64 bits name_of place_of ends closes one all several before all_or with_number sets_number sets_first
-    sets_parameters takes form named line read_as refused_at read_lines reading
+unfolding verdict_of base blank letter in_line lines onto parts longer in_word digit digits value empty number
+    number32 number64 bits name_of place_of ends closes alone one all several before all_or takes form named line
+    read_as refused_as read_lines reading
 all_right = (
   refl,
   (

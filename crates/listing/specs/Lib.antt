@@ -4,4 +4,3 @@ pub mod Places
 pub mod Numbers
 pub mod With
 pub mod Forms
-pub mod Parsed

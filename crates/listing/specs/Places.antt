@@ -2,10 +2,13 @@
 --   token_at s j, part_at s i     the part at a place that is no blank, and the first from a place on
 --   part_of s a e                the bytes of a part
 --   parts_from s t               the parts of which the first was found
+--   bits_in s t, next_bits s i   the bits of a part that was found, and of the next part from i on, each with its end
 use Rattle.std.specs.Prelude.{ℕ, ◌+◌, ◌-◌, cond, List, [], ◌∷◌, length, drop, take, get_or, eqb, leb}
+use Rattle.std.specs.Prelude.{Option, None, option_map}
 use Rattle.listing.specs.declared.Token.{Token}
 use Rattle.listing.specs.declared.Token.TheVariants.{Opened, Closed, Word, End}
 use Rattle.listing.specs.Text.{Part, opened, closed, word, parts, blank, letter, first_not}
+use Rattle.listing.specs.Numbers.{bits}
 
 -- the part at a place that is no blank
 unfoldable pub token_at : List ℕ → ℕ → Token
@@ -27,3 +30,13 @@ parts_from s End = []
 parts_from s (Opened k) = opened ∷ parts (drop k s)
 parts_from s (Closed k) = closed ∷ parts (drop k s)
 parts_from s (Word a e) = word (part_of s a e) ∷ parts (drop e s)
+
+-- the bits of a part that was found, and the place behind it
+unfoldable pub bits_in : List ℕ → Token → Option (ℕ × ℕ)
+bits_in s (Word from to) = option_map (λ v. (v, to)) (bits (part_of s from to))
+bits_in s (Opened k) = None
+bits_in s (Closed k) = None
+bits_in s End = None
+
+unfoldable pub next_bits : List ℕ → ℕ → Option (ℕ × ℕ)
+next_bits s i = bits_in s (part_at s i)

@@ -1,52 +1,50 @@
-// A line's form: its name, and what it takes (values.rt) and sets (sets.rt).
-ghost use Rattle.std.specs.Prelude.{◌≡◌, drop};
+// A line's form: its name, and what it takes (values.rt) and sets.
+#![tactic(auto, using(crate::proofs::PartLaws::parts_at), unfolding(crate::specs::Places::parts_from, crate::specs::Forms::one, crate::specs::Forms::all_or, crate::specs::Forms::takes, crate::specs::Forms::form, crate::specs::Forms::named))]
+
+ghost use Rattle.std.specs.Prelude.{◌≡◌, ◌<◌, drop};
 ghost use Rattle.listing.specs.Text.{parts};
 ghost use Rattle.listing.specs.Forms.{name_of, place_of, takes, form, named, line};
 
-use crate::parts::{is_word, part_at, part_of};
-use crate::sets::{take_first, take_number, take_parameters, take_seed};
-use crate::values::{all_bits, one_bits, one_number32, one_number64, words};
-use crate::{LineResult, Name, Settings, Token};
+use crate::numbers::{bits_of, decimal32, decimal64};
+use crate::parts::{part_at, part_of};
+use crate::values::{all_bits, one_word, words};
+use crate::{Name, Settings, Token};
 
-fn name_of(w: &[u8]) -> Name
+#[tactic(auto, unfolding(crate::specs::Forms::name_of))]
+fn name_of(w: &[u8]) -> Option<Name>
     ensures { result ≡ name_of w.now }
 {
-    if is_word(w, b"parameters") {
-        return Name::Parameters;
+    let is = |name: &[u8]| w == name;
+    if is(b"parameters") {
+        Some(Name::Parameters)
+    } else if is(b"deck") {
+        Some(Name::Deck)
+    } else if is(b"span") {
+        Some(Name::Span)
+    } else if is(b"seed") {
+        Some(Name::Seed)
+    } else if is(b"learn") {
+        Some(Name::Learn)
+    } else if is(b"review") {
+        Some(Name::Review)
+    } else if is(b"retention") {
+        Some(Name::Retention)
+    } else if is(b"maxcost") {
+        Some(Name::Maxcost)
+    } else if is(b"first") {
+        Some(Name::First)
+    } else if is(b"cost") {
+        Some(Name::Cost)
+    } else {
+        None
     }
-    if is_word(w, b"deck") {
-        return Name::Deck;
-    }
-    if is_word(w, b"span") {
-        return Name::Span;
-    }
-    if is_word(w, b"seed") {
-        return Name::Seed;
-    }
-    if is_word(w, b"learn") {
-        return Name::Learn;
-    }
-    if is_word(w, b"review") {
-        return Name::Review;
-    }
-    if is_word(w, b"retention") {
-        return Name::Retention;
-    }
-    if is_word(w, b"maxcost") {
-        return Name::Maxcost;
-    }
-    if is_word(w, b"first") {
-        return Name::First;
-    }
-    if is_word(w, b"cost") {
-        return Name::Cost;
-    }
-    Name::Unknown
 }
 
 // A name's place among the names seen.
+#[tactic(auto, unfolding(crate::specs::Forms::place_of))]
 fn place_of(name: Name) -> usize
-    ensures { result ≡ place_of name }
+    ensures place { result ≡ place_of name }
+    ensures within { result < 10 }
 {
     match name {
         Name::Parameters => 0,
@@ -59,96 +57,64 @@ fn place_of(name: Name) -> usize
         Name::Maxcost => 7,
         Name::First => 8,
         Name::Cost => 9,
-        Name::Unknown => 10,
     }
 }
 
 // What stands behind a name that was not seen before.
-fn take_form(s: &[u8], i: usize, name: Name, set: Settings) -> LineResult
+fn take_form(s: &[u8], i: usize, name: Name, mut set: Settings) -> Option<Settings>
     ensures { result ≡ takes name (parts (drop i s.now)) set }
 {
     match name {
-        Name::Parameters => take_parameters(all_bits(s, i), words(s, i, 34), set),
-        Name::Deck => take_number(Name::Deck, one_number32(s, i), set),
-        Name::Span => take_number(Name::Span, one_number32(s, i), set),
-        Name::Seed => take_seed(one_number64(s, i), set),
-        Name::Learn => take_number(Name::Learn, one_number32(s, i), set),
-        Name::Review => take_number(Name::Review, one_number32(s, i), set),
-        Name::Retention => take_number(Name::Retention, one_bits(s, i), set),
-        Name::Maxcost => take_number(Name::Maxcost, one_bits(s, i), set),
-        Name::First => take_first(words(s, i, 4), set),
-        Name::Cost => take_number(Name::Cost, all_bits(s, i), set),
-        Name::Unknown => LineResult {
-            ok: false,
-            settings: set,
-        },
+        Name::Parameters => {
+            set.parameters = match all_bits(s, i) {
+                Some(w) => [w; 34],
+                None => words(s, i)?,
+            };
+        }
+        Name::Deck => set.deck = decimal32(one_word(s, i)?)?,
+        Name::Span => set.span = decimal32(one_word(s, i)?)?,
+        Name::Seed => set.seed = decimal64(one_word(s, i)?)?,
+        Name::Learn => set.learn = decimal32(one_word(s, i)?)?,
+        Name::Review => set.review = decimal32(one_word(s, i)?)?,
+        Name::Retention => set.retention = bits_of(one_word(s, i)?)?,
+        Name::Maxcost => set.maxcost = bits_of(one_word(s, i)?)?,
+        Name::First => set.first = words(s, i)?,
+        Name::Cost => set.cost = [all_bits(s, i)?; 12],
     }
+    Some(set)
 }
 
 // A form whose name was read, by its place among the names.
-fn named_form(s: &[u8], i: usize, name: Name, mut set: Settings) -> LineResult
+fn named_form(s: &[u8], i: usize, name: Name, mut set: Settings) -> Option<Settings>
     ensures { result ≡ form name (parts (drop i s.now)) set }
 {
     let k = place_of(name);
-    if 10 <= k {
-        return LineResult {
-            ok: false,
-            settings: set,
-        };
+    if set.seen[k] {
+        return None;
     }
-    let mut seen = set.seen;
-    if seen[k] {
-        return LineResult {
-            ok: false,
-            settings: set,
-        };
-    }
-    seen[k] = true;
-    set.seen = seen;
+    set.seen[k] = true;
     take_form(s, i, name, set)
 }
 
 // What stands behind an opening bracket.
-fn named_at(s: &[u8], i: usize, set: Settings) -> LineResult
+fn named_at(s: &[u8], i: usize, set: Settings) -> Option<Settings>
     ensures { result ≡ named (parts (drop i s.now)) set }
 {
-    match part_at(s, i) {
-        Token::Word { from, to } => {
-            let name = name_of(part_of(s, from, to));
-            named_form(s, to, name, set)
-        }
-        Token::Opened(_) => LineResult {
-            ok: false,
-            settings: set,
-        },
-        Token::Closed(_) => LineResult {
-            ok: false,
-            settings: set,
-        },
-        Token::End => LineResult {
-            ok: false,
-            settings: set,
-        },
-    }
+    let Token::Word { from, to } = part_at(s, i) else {
+        return None;
+    };
+    let name = name_of(part_of(s, from, to))?;
+    named_form(s, to, name, set)
 }
 
 // A line: blanks, or one form.
-pub(crate) fn read_line(s: &[u8], set: Settings) -> LineResult
+#[tactic(auto, using(crate::proofs::PartLaws::all_parts), unfolding(crate::specs::Places::parts_from, crate::specs::Forms::line))]
+pub(crate) fn read_line(s: &[u8], set: Settings) -> Option<Settings>
     ensures { result ≡ line (parts s.now) set }
 {
     match part_at(s, 0) {
         Token::Opened(k) => named_at(s, k, set),
-        Token::End => LineResult {
-            ok: true,
-            settings: set,
-        },
-        Token::Closed(_) => LineResult {
-            ok: false,
-            settings: set,
-        },
-        Token::Word { from: _, to: _ } => LineResult {
-            ok: false,
-            settings: set,
-        },
+        Token::End => Some(set),
+        _ => None,
     }
 }

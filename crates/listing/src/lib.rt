@@ -1,36 +1,17 @@
 // The bracket lines: a text read as settings.
 #![tactic(auto)]
 
+ghost use Rattle.std.specs.Prelude.{◌≡◌};
+ghost use Rattle.listing.specs.Forms.{told};
+
 mod forms;
 mod numbers;
 mod parts;
 pub mod reader;
-mod sets;
 mod values;
 
-// A number that a word says, or none.
-#[derive(Clone, Copy)]
-pub enum Parsed64 {
-    Is(u64),
-    Not,
-}
-
-// A number of 32 bits that a word says, or none.
-#[derive(Clone, Copy)]
-pub enum Parsed32 {
-    Is(u32),
-    Not,
-}
-
-// A number of 32 bits and the place behind it, or none.
-#[derive(Clone, Copy)]
-pub enum Found {
-    Is(u32, usize),
-    Not,
-}
-
 // A part of a line and the place behind it.
-#[derive(Clone, Copy)]
+#[derive(Clone, Copy, PartialEq, Eq)]
 pub enum Token {
     Opened(usize),
     Closed(usize),
@@ -39,7 +20,7 @@ pub enum Token {
 }
 
 // The names of forms.
-#[derive(Clone, Copy)]
+#[derive(Clone, Copy, PartialEq, Eq)]
 pub enum Name {
     Parameters,
     Deck,
@@ -51,7 +32,6 @@ pub enum Name {
     Maxcost,
     First,
     Cost,
-    Unknown,
 }
 
 // What the forms set, W as the f32's bits, and which forms stood there: parameters, deck, span, seed, learn, review,
@@ -71,29 +51,29 @@ pub struct Settings {
     pub seen: [bool; 10],
 }
 
-// Ws that stand behind a name, as bits; `ok` is false where there are not as many as asked for.
-#[derive(Clone, Copy)]
-pub struct Words {
-    pub ok: bool,
-    pub values: [u32; 34],
+// Refusal 11: a text that is too long, or its first wrong line.
+#[derive(Clone, Copy, PartialEq, Eq)]
+pub enum ReadError {
+    TooLong,
+    Line(u32),
 }
 
-// The settings after a line.
-#[derive(Clone, Copy)]
-pub struct LineResult {
-    pub ok: bool,
-    pub settings: Settings,
+impl ReadError {
+    // The number told behind 11: the line, 0 for a text that is too long.
+    #[tactic(auto, unfolding(crate::specs::Forms::told))]
+    pub fn told(self) -> u32
+        ensures { result ≡ told self }
+    {
+        match self {
+            ReadError::TooLong => 0,
+            ReadError::Line(n) => n,
+        }
+    }
 }
 
-// Refused: refusal 11, with its line, 0 for a text that is too long.
-#[derive(Clone, Copy)]
-pub enum Verdict {
-    Read,
-    Refused(u32),
-}
-
+// The settings that were read, at a refusal those of the lines before it.
 #[derive(Clone, Copy)]
 pub struct Reading {
     pub settings: Settings,
-    pub verdict: Verdict,
+    pub verdict: Result<(), ReadError>,
 }

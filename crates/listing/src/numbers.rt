@@ -1,79 +1,64 @@
 // N and W.
-ghost use Rattle.std.specs.Prelude.{◌≡◌, ◌<◌, ◌≤◌};
-ghost use Rattle.listing.specs.Numbers.{digit, number, number64, number32, bits, as32};
-
-use crate::{Parsed32, Parsed64};
+ghost use Rattle.std.specs.Prelude.{◌≡◌, ◌<◌, ◌≤◌, IfSome};
+ghost use Rattle.listing.specs.Numbers.{digit, number, number64, number32, bits};
 
 // What a digit says, 16 where it is none.
+#[tactic(auto, unfolding(crate::specs::Numbers::digit))]
 fn digit_of(b: u8) -> u64
     ensures { result ≡ digit b }
 {
-    if b < 48 {
-        return 16;
+    match b {
+        b'0'..=b'9' => u64::from(b - b'0'),
+        b'A'..=b'F' => u64::from(b - b'A') + 10,
+        _ => 16,
     }
-    if b < 58 {
-        return (b - 48) as u64;
-    }
-    let low = b < 65;
-    if low {
-        return 16;
-    }
-    let letter = b < 71;
-    if letter {
-        return (b - 55) as u64;
-    }
-    16
 }
 
 // One or more digits to the base that say a number of at most `most`.
-fn number_of(w: &[u8], base: u64, most: u64) -> Parsed64
+#[tactic(auto, unfolding(crate::specs::Numbers::number, crate::specs::Numbers::empty, crate::specs::Numbers::digits, crate::specs::Numbers::value))]
+fn number_of(w: &[u8], base: u64, most: u64) -> Option<u64>
     requires { (0 < base) × (base ≤ most) }
-    ensures { result ≡ number base most w.now }
+    ensures is { result ≡ number base most w.now }
+    ensures bounded { IfSome result (λ n. n ≤ most) }
 {
-    if w.len() == 0 {
-        return Parsed64::Not;
+    if w.is_empty() {
+        return None;
     }
-    let mut v: u64 = 0;
-    let mut i = 0;
-    while i < w.len() {
-        let d = digit_of(w[i]);
-        if base <= d {
-            return Parsed64::Not;
-        }
-        if (most - d) / base < v {
-            return Parsed64::Not;
+    let mut v = 0;
+    for b in w {
+        let d = digit_of(*b);
+        if base <= d || (most - d) / base < v {
+            return None;
         }
         v = v * base + d;
-        i += 1;
     }
-    Parsed64::Is(v)
+    Some(v)
 }
 
-pub(crate) fn decimal64(w: &[u8]) -> Parsed64
+#[tactic(auto, unfolding(crate::specs::Numbers::number64))]
+pub(crate) fn decimal64(w: &[u8]) -> Option<u64>
     ensures { result ≡ number64 w.now }
 {
-    number_of(w, 10, 18446744073709551615)
+    number_of(w, 10, u64::MAX)
 }
 
 // The number as 32 bits, which are enough for all that is read with such a bound.
-pub(crate) fn decimal32(w: &[u8]) -> Parsed32
-    ensures { result ≡ as32 (number32 w.now) }
+#[tactic(auto, unfolding(crate::specs::Numbers::number32))]
+pub(crate) fn decimal32(w: &[u8]) -> Option<u32>
+    ensures { result ≡ number32 w.now }
 {
-    match number_of(w, 10, 4294967295) {
-        Parsed64::Is(n) => Parsed32::Is(n as u32),
-        Parsed64::Not => Parsed32::Not,
-    }
+    let n = number_of(w, 10, u64::from(u32::MAX))?;
+    Some(n as u32)
 }
 
 // W, as bits.
-pub(crate) fn bits_of(w: &[u8]) -> Parsed32
-    ensures { result ≡ as32 (bits w.now) }
+#[tactic(auto, unfolding(crate::specs::Numbers::bits))]
+pub(crate) fn bits_of(w: &[u8]) -> Option<u32>
+    ensures { result ≡ bits w.now }
 {
     if w.len() != 8 {
-        return Parsed32::Not;
+        return None;
     }
-    match number_of(w, 16, 4294967295) {
-        Parsed64::Is(n) => Parsed32::Is(n as u32),
-        Parsed64::Not => Parsed32::Not,
-    }
+    let n = number_of(w, 16, u64::from(u32::MAX))?;
+    Some(n as u32)
 }

@@ -1,4 +1,5 @@
 -- The laws of the model, and what its proofs share.
+pub mod Numbers
 pub mod Retentions
 pub mod Exact
 pub mod Laws

@@ -2,7 +2,7 @@
 --     newton-on, newton_off, newton_still, newton-end     a finite step, one not finite, one that changes nothing; none
 --     left
 --     doubled-on, doubled_off, doubled-end                a doubling, its stop, none left
---     halved-on, halved-end                               a halving, none left
+--     halved_up, halved_down, halved-end                  a halving to the upper or the lower part, none left
 use Rattle.std.proofs.Common.{◌≡◌, ℕ, zero, suc, ◌-◌, ◌<◌, ◌≤◌, Bool, true, false, cond, ◌&&◌, refl, ap, arith}
 use lib.Ieee.{Float, lt}
 use Rattle.float32.specs.Float32 as Float32
@@ -75,17 +75,23 @@ module _ (f : Float → Float) where
     abbrev middle : Float → Float → Float
     middle x y = (x +ᶠ y) *ᶠ half
 
-    pub halved-on : (n : ℕ) (x y : Float) → 0 < n
-        → (let above = lt r (f (middle x y)) in
-        halved n f r x y ≡ halved (n - 1) f r (cond above (middle x y) x) (cond above y (middle x y)))
+    pub halved_up : (n : ℕ) (x y : Float) → 0 < n → lt r (f (middle x y)) ≡ true
+        → halved n f r x y ≡ halved (n - 1) f r (middle x y) y
     unfolding halved
-    halved-on zero x y p = absurd (no p)
+    halved_up zero x y p e = absurd (no p)
       where
         no : 0 < 0 → ⊥
         no p = omega arith
-    halved-on (suc n) x y p =
-        let above = lt r (f (middle x y)) in
-        ap (λ (k : ℕ). halved k f r (cond above (middle x y) x) (cond above y (middle x y))) (less_one n)
+    halved_up (suc n) x y p e = rw e (ap (λ (k : ℕ). halved k f r (middle x y) y) (less_one n))
+
+    pub halved_down : (n : ℕ) (x y : Float) → 0 < n → lt r (f (middle x y)) ≡ false
+        → halved n f r x y ≡ halved (n - 1) f r x (middle x y)
+    unfolding halved
+    halved_down zero x y p e = absurd (no p)
+      where
+        no : 0 < 0 → ⊥
+        no p = omega arith
+    halved_down (suc n) x y p e = rw e (ap (λ (k : ℕ). halved k f r x (middle x y)) (less_one n))
 
     pub halved-end : (n : ℕ) (x y : Float) → n ≤ 0 → halved n f r x y ≡ Float32.clamp (middle x y) 0ᶠ s_max
     unfolding halved

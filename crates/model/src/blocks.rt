@@ -20,12 +20,10 @@ impl Curve {
         ensures second { b2.new ≡ filled (λ i. Model.base self.rate2 (time (slice_index_or times.now i nan))
             self.stability) n b2.old }
     {
-        let mut i: usize = 0;
-        while i < n {
+        for i in 0..n {
             let t = max(times[i], 0.0);
             b1[i] = base(self.factor1, t, self.fast);
             b2[i] = base(self.rate2, t, self.stability);
-            i += 1;
         }
     }
 
@@ -36,10 +34,8 @@ impl Curve {
             ≡ filled (λ i. Model.squeezed
             ((self.weight1 *ᶠ get_or p1.now i nan +ᶠ self.weight2 *ᶠ get_or p2.now i nan) /ᶠ self.total)) n r.old }
     {
-        let mut i: usize = 0;
-        while i < n {
+        for i in 0..n {
             r[i] = squeezed((self.weight1 * p1[i] + self.weight2 * p2[i]) / self.total);
-            i += 1;
         }
     }
 

@@ -1,5 +1,6 @@
 // The tables of the default configuration, three rows of four numbers each: by the rating before in the transitions,
-// and in the costs by learning, review and relearning.
+// and in the costs by learning, review and relearning. A function gives each, not the constant alone: only a function
+// has a contract to say that its digits are the definition's.
 ghost use Rattle.std.specs.Prelude.{◌≡◌};
 ghost use Rattle.model.specs.Defaults as Defaults;
 

@@ -41,36 +41,42 @@ pub struct Slope {
     pub derivative: f32,
 }
 
+#[tactic(auto, using(crate::proofs::Numbers::literals))]
 pub(crate) fn decay_of(x: f32) -> f32
     ensures { result ≡ Model.decay_of x }
 {
     -clamp(x, 0.01, 0.95)
 }
 
+#[tactic(auto, unfolding(crate::specs::Runtime::decay1))]
 fn decay1(p: CurveParameters, fast: f32) -> f32
     ensures { result ≡ Runtime.decay1 p fast }
 {
     decay_of(p.w23 * powf_f32(fast, p.power))
 }
 
+#[tactic(auto, using(crate::proofs::Numbers::literals), unfolding(crate::specs::Runtime::factor1))]
 fn factor1(p: CurveParameters, decay: f32) -> f32
     ensures { result ≡ Runtime.factor1 p decay }
 {
     exp_f32(min(p.log / decay, 60.0)) - 1.0
 }
 
+#[tactic(auto, using(crate::proofs::Numbers::literals), unfolding(crate::specs::Runtime::d_timescale))]
 fn d_timescale(p: CurveParameters, d: f32) -> f32
     ensures { result ≡ Runtime.d_timescale p d }
 {
     exp_f32((d - 5.0) * p.pace)
 }
 
+#[tactic(auto, unfolding(crate::specs::Runtime::weight1))]
 fn weight1(p: CurveParameters, fast: f32) -> f32
     ensures { result ≡ Runtime.weight1 p fast }
 {
     p.w27 * powf_f32(fast, p.decline)
 }
 
+#[tactic(auto, using(crate::proofs::Numbers::literals), unfolding(crate::specs::Runtime::weight2))]
 fn weight2(p: CurveParameters, s: f32, d: f32) -> f32
     ensures { result ≡ Runtime.weight2 p s d }
 {
@@ -78,6 +84,7 @@ fn weight2(p: CurveParameters, s: f32, d: f32) -> f32
 }
 
 // The curve at stabilities and a difficulty within their limits.
+#[tactic(auto, unfolding(crate::specs::Runtime::curve_at))]
 fn curve_at(p: CurveParameters, s: f32, d: f32, fast: f32) -> Curve
     ensures { result ≡ Runtime.curve_at p s d fast }
 {
@@ -102,6 +109,7 @@ fn curve_at(p: CurveParameters, s: f32, d: f32, fast: f32) -> Curve
 }
 
 // What stands under a power.
+#[tactic(auto, using(crate::proofs::Numbers::literals), unfolding(crate::specs::Model::base))]
 pub(crate) fn base(factor: f32, t: f32, s: f32) -> f32
     ensures { result ≡ Model.base factor t s }
 {
@@ -109,18 +117,19 @@ pub(crate) fn base(factor: f32, t: f32, s: f32) -> f32
 }
 
 // A retention kept off 0 and 1, rounded once.
+#[tactic(auto, using(crate::proofs::Numbers::literals), unfolding(crate::specs::Model::squeezed))]
 pub(crate) fn squeezed(r: f32) -> f32
     ensures { result ≡ Model.squeezed r }
 {
-    if r >= 0.000001 {
-        if r <= 1.0 {
-            return squeezed_exact(r);
-        }
+    if r >= 0.000001 && r <= 1.0 {
+        squeezed_exact(r)
+    } else {
+        mul_add(r, 0.99998, 0.00001)
     }
-    mul_add(r, 0.99998, 0.00001)
 }
 
 // The same from 10^-6 to 1: there the sum is exact in `f64`, and only its rounding to an `f32` is left.
+// `as` widens, not `f64::from`, which looks for a NaN first: none comes here.
 fn squeezed_exact(r: f32) -> f32
     requires least { Ieee.le (Ieee.round binary32 false 1 1000000) r ≡ true }
     requires most { Ieee.le r 1ᶠ ≡ true }
@@ -142,6 +151,7 @@ fn nearest_f32(b: u64) -> f32
 }
 
 impl Curve {
+    #[tactic(auto, unfolding(crate::specs::Model::weighted))]
     fn weighted(self, t: f32) -> f32
         ensures { result ≡ Model.weighted self t }
     {
@@ -157,6 +167,7 @@ impl Curve {
         squeezed(self.weighted(max(t, 0.0)) / self.total)
     }
 
+    #[tactic(auto, using(crate::proofs::Numbers::literals), unfolding(crate::specs::Model::dr1))]
     fn dr1_dt(self, t: f32) -> f32
         ensures { result ≡ Model.dr1 self t }
     {
@@ -164,6 +175,7 @@ impl Curve {
             / self.fast
     }
 
+    #[tactic(auto, using(crate::proofs::Numbers::literals), unfolding(crate::specs::Model::dr2))]
     fn dr2_dt(self, t: f32) -> f32
         ensures { result ≡ Model.dr2 self t }
     {
@@ -175,6 +187,7 @@ impl Curve {
     }
 
     // The solver's sum of the weights.
+    #[tactic(auto, using(crate::proofs::Numbers::literals), unfolding(crate::specs::Model::weight_sum))]
     fn weight_sum(self) -> f32
         ensures { result ≡ Model.weight_sum self }
     {
@@ -182,6 +195,7 @@ impl Curve {
     }
 
     // The solver's chance of recall after t days, and its derivative.
+    #[tactic(auto, using(crate::proofs::Numbers::literals), unfolding(crate::specs::Model::solver_retention, crate::specs::Model::derivative, crate::specs::Model::weighted_slope))]
     pub fn retention_and_derivative(self, t: f32) -> Slope
         ensures { (result.retention ≡ Model.solver_retention self t) × (result.derivative ≡ Model.derivative self t) }
     {
@@ -195,6 +209,7 @@ impl Curve {
     }
 }
 
+#[tactic(auto, using(crate::proofs::Numbers::literals), unfolding(crate::specs::Model::of_stability))]
 pub(crate) fn of_stability(s: f32) -> MemoryState
     ensures { result ≡ Model.of_stability s }
 {
@@ -207,14 +222,15 @@ pub(crate) fn of_stability(s: f32) -> MemoryState
 
 impl Fsrs7Runtime {
     // The curve of a memory state.
+    #[tactic(auto, using(crate::proofs::Numbers::literals), unfolding(crate::specs::Runtime::curve_of))]
     pub fn curve_for_state(self, state: MemoryState) -> Curve
         ensures { result ≡ Runtime.curve_of self state }
     {
         curve_at(
             self.curve,
-            max(state.stability, Fsrs7Runtime::S_MIN),
-            clamp(state.difficulty, Fsrs7Runtime::D_MIN, Fsrs7Runtime::D_MAX),
-            max(state.stability_fast, Fsrs7Runtime::S_MIN),
+            max(state.stability, Self::S_MIN),
+            clamp(state.difficulty, Self::D_MIN, Self::D_MAX),
+            max(state.stability_fast, Self::S_MIN),
         )
     }
 

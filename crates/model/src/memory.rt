@@ -1,6 +1,5 @@
 // Difficulty and stability, at first and after a rating.
-ghost use Rattle.std.specs.Prelude.{◌≡◌, ◌-◌, if◌then◌else◌, nat_eq};
-ghost use Rattle.float32.specs.Numbers.{1ᶠ};
+ghost use Rattle.std.specs.Prelude.{◌≡◌};
 ghost use Rattle.model.specs.Model as Model;
 ghost use Rattle.model.specs.Runtime as Runtime;
 
@@ -9,33 +8,24 @@ use elementary::{exp_f32, powf_f32};
 use float32::{clamp, max, min};
 use std::num::nearest_u32_to_f32;
 
+#[tactic(auto, unfolding(crate::specs::Model::to_rating))]
 fn to_rating(rating: u32) -> u32
     ensures { result ≡ Model.to_rating rating }
 {
-    if rating == 0 {
-        1
-    } else if rating > 4 {
-        4
-    } else {
-        rating
-    }
-}
-
-fn one_less(rating: u32) -> u32
-    ensures { result ≡ rating - 1 }
-{
-    if rating == 0 { 0 } else { rating - 1 }
+    rating.clamp(1, 4)
 }
 
 // ---- difficulty
 
+#[tactic(auto, using(crate::proofs::Numbers::literals), unfolding(crate::specs::Model::init_difficulty_by))]
 pub(crate) fn init_difficulty_by(w4: f32, w5: f32, rating: u32) -> f32
     ensures { result ≡ Model.init_difficulty_by w4 w5 rating }
 {
-    w4 - exp_f32(w5 * nearest_u32_to_f32(one_less(rating))) + 1.0
+    w4 - exp_f32(w5 * nearest_u32_to_f32(rating.saturating_sub(1))) + 1.0
 }
 
 // The change before damping.
+#[tactic(auto, using(crate::proofs::Numbers::literals), unfolding(crate::specs::Model::delta_d))]
 fn delta_d(w6: f32, rating: u32, retention: f32) -> f32
     ensures { result ≡ Model.delta_d w6 rating retention }
 {
@@ -50,6 +40,7 @@ fn delta_d(w6: f32, rating: u32, retention: f32) -> f32
 // ---- stability
 
 // The post-lapse stability.
+#[tactic(auto, using(crate::proofs::Numbers::literals), unfolding(crate::specs::Model::pls))]
 fn pls(p: StabilityParameters, s: f32, r: f32) -> f32
     ensures { result ≡ Model.pls p s r }
 {
@@ -59,39 +50,32 @@ fn pls(p: StabilityParameters, s: f32, r: f32) -> f32
     )
 }
 
-// The parameter where the rating is the one named, else 1.
-fn where_rated(rating: u32, named: u32, parameter: f32) -> f32
-    ensures { result ≡ (if nat_eq rating named then parameter else 1ᶠ) }
-{
-    if rating == named { parameter } else { 1.0 }
-}
-
 // The factor by which a success raises the stability.
+#[tactic(auto, using(crate::proofs::Numbers::literals), unfolding(crate::specs::Model::sinc))]
 fn sinc(p: StabilityParameters, s: f32, d: f32, r: f32, rating: u32) -> f32
     ensures { result ≡ Model.sinc p s d r rating }
 {
+    let hard_penalty = if rating == 2 { p.w13 } else { 1.0 };
+    let easy_bonus = if rating == 4 { p.w14 } else { 1.0 };
     p.growth
         * (11.0 - d)
         * powf_f32(s, p.decline)
         * (exp_f32((1.0 - r) * p.w9) - 1.0)
-        * where_rated(rating, 2, p.w13)
-        * where_rated(rating, 4, p.w14)
+        * hard_penalty
+        * easy_bonus
         + 1.0
 }
 
 impl Fsrs7Runtime {
+    #[tactic(auto, unfolding(crate::specs::Runtime::init_stability))]
     pub fn init_stability(self, rating: u32) -> f32
         ensures { result ≡ Runtime.init_stability self rating }
     {
-        let rating = to_rating(rating);
-        if rating == 1 {
-            self.first.again
-        } else if rating == 2 {
-            self.first.hard
-        } else if rating == 3 {
-            self.first.good
-        } else {
-            self.first.easy
+        match to_rating(rating) {
+            1 => self.first.again,
+            2 => self.first.hard,
+            3 => self.first.good,
+            _ => self.first.easy,
         }
     }
 
@@ -102,50 +86,50 @@ impl Fsrs7Runtime {
         init_difficulty_by(self.difficulty.w4, self.difficulty.w5, rating)
     }
 
+    #[tactic(auto, using(crate::proofs::Numbers::literals), unfolding(crate::specs::Model::linear_damping))]
     pub fn linear_damping(delta: f32, d: f32) -> f32
         ensures { result ≡ Model.linear_damping delta d }
     {
         (10.0 - d) * delta / 9.0
     }
 
+    #[tactic(auto, using(crate::proofs::Numbers::literals), unfolding(crate::specs::Model::mean_reversion))]
     pub fn mean_reversion(init: f32, current: f32) -> f32
         ensures { result ≡ Model.mean_reversion init current }
     {
         init * 0.01 + current * 0.99
     }
 
+    #[tactic(auto, using(crate::proofs::Numbers::literals), unfolding(crate::specs::Model::next_difficulty_by))]
     pub fn next_difficulty(self, d: f32, rating: u32, retention: f32) -> f32
         ensures { result ≡ Model.next_difficulty_by self.difficulty.easy self.difficulty.w6 d rating
             retention }
     {
         let delta = delta_d(self.difficulty.w6, to_rating(rating), retention);
+        let damped = d + Self::linear_damping(delta, d);
         clamp(
-            Fsrs7Runtime::mean_reversion(
-                self.difficulty.easy,
-                d + Fsrs7Runtime::linear_damping(delta, d),
-            ),
-            Fsrs7Runtime::D_MIN,
-            Fsrs7Runtime::D_MAX,
+            Self::mean_reversion(self.difficulty.easy, damped),
+            Self::D_MIN,
+            Self::D_MAX,
         )
     }
 
+    #[tactic(auto, using(crate::proofs::Numbers::literals), unfolding(crate::specs::Model::stability_by))]
     fn stability_for_set(self, s: f32, d: f32, r: f32, rating: u32) -> f32
         ensures { result ≡ Model.stability_by self.stability s d r rating }
     {
         let p = self.stability;
         let rating = to_rating(rating);
         let failed = pls(p, s, r);
-        if rating > 1 {
-            clamp(
-                max(failed, s * sinc(p, s, d, r, rating)),
-                Fsrs7Runtime::S_MIN,
-                Fsrs7Runtime::S_MAX,
-            )
+        let stability = if rating > 1 {
+            max(failed, s * sinc(p, s, d, r, rating))
         } else {
-            clamp(failed, Fsrs7Runtime::S_MIN, Fsrs7Runtime::S_MAX)
-        }
+            failed
+        };
+        clamp(stability, Self::S_MIN, Self::S_MAX)
     }
 
+    // Also `stability_short_term`, by the same formula: the Rust has the two names, and its callers use both.
     pub fn stability_after_success(self, s: f32, r: f32, d: f32, rating: u32) -> f32
         ensures { result ≡ Model.stability_by self.stability s d r rating }
     {

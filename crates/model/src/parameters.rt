@@ -64,13 +64,14 @@ pub struct Fsrs7Runtime {
 }
 
 // The parameter at an index, NaN past the end.
-fn at(w: &[f32], i: u32) -> f32
+#[tactic(auto, using(crate::proofs::Numbers::literals))]
+fn at(w: &[f32], i: usize) -> f32
     ensures { result ≡ Model.at w.now i }
 {
-    let i = i as usize;
-    if i < w.len() { w[i] } else { 0.0 / 0.0 }
+    w.get(i).copied().unwrap_or(f32::NAN)
 }
 
+#[tactic(auto, unfolding(crate::specs::Runtime::first_of))]
 fn first_stability(w: &[f32]) -> FirstStability
     ensures { result ≡ Runtime.first_of w.now }
 {
@@ -82,6 +83,7 @@ fn first_stability(w: &[f32]) -> FirstStability
     }
 }
 
+#[tactic(auto, unfolding(crate::specs::Runtime::difficulty_of, crate::specs::Model::init_difficulty))]
 fn difficulty_parameters(w: &[f32]) -> DifficultyParameters
     ensures { result ≡ Runtime.difficulty_of w.now }
 {
@@ -95,6 +97,7 @@ fn difficulty_parameters(w: &[f32]) -> DifficultyParameters
     }
 }
 
+#[tactic(auto, using(crate::proofs::Numbers::literals), unfolding(crate::specs::Model::set_of))]
 fn stability_parameters(w: &[f32]) -> StabilityParameters
     ensures { result ≡ Model.set_of w.now 7 }
 {
@@ -110,6 +113,7 @@ fn stability_parameters(w: &[f32]) -> StabilityParameters
     }
 }
 
+#[tactic(auto, using(crate::proofs::Numbers::literals), unfolding(crate::specs::Runtime::curve_parameters_of, crate::specs::Model::decay2, crate::specs::Model::factor2))]
 fn curve_parameters(w: &[f32]) -> CurveParameters
     ensures { result ≡ Runtime.curve_parameters_of w.now }
 {
@@ -138,6 +142,7 @@ impl Fsrs7Runtime {
 
     pub const D_MAX: f32 = 10.0;
 
+    #[tactic(auto, unfolding(crate::specs::Runtime::runtime_of))]
     pub fn new(w: &[f32]) -> Self
         ensures { result ≡ Runtime.runtime_of w.now }
     {

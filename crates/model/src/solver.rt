@@ -1,6 +1,6 @@
 // The interval after which a card's retention is the desired one: Newton's method on the logarithm of the time, and
 // bisection where it fails.
-ghost use Rattle.std.specs.Prelude.{◌≡◌, true, ◌&&◌, if◌then◌else◌};
+ghost use Rattle.std.specs.Prelude.{◌≡◌, true, ◌&&◌};
 ghost use Rattle.std.specs.Float.Ieee.{lt};
 ghost use Rattle.float32.specs.Numbers.{0ᶠ};
 ghost use Rattle.model.specs.Constants.{s_max};
@@ -19,12 +19,6 @@ const DR_MAX: f32 = 0.9999;
 
 const MIN_T: f32 = 0.000011574074;
 
-fn choose(test: bool, x: f32, y: f32) -> f32
-    ensures { result ≡ (if test then x else y) }
-{
-    if test { x } else { y }
-}
-
 // Whether two floats are the same one: 0.0 and -0.0 are two, and NaN is one.
 fn same(x: f32, y: f32) -> bool
     ensures { (result ≡ true → x ≡ y) × (x ≡ y → result ≡ true) }
@@ -32,6 +26,7 @@ fn same(x: f32, y: f32) -> bool
     to_bits(x) == to_bits(y)
 }
 
+#[tactic(auto, using(crate::proofs::Numbers::literals), unfolding(crate::specs::Model::within_limits))]
 fn within_limits(state: MemoryState) -> MemoryState
     ensures { result ≡ Model.within_limits state }
 {
@@ -49,14 +44,11 @@ fn within_limits(state: MemoryState) -> MemoryState
 impl Curve {
     // ---- bisection
 
+    #[tactic(auto, using(crate::proofs::Numbers::literals))]
     fn stays_above(self, desired: f32, high: f32) -> bool
         ensures { result ≡ lt desired (Model.retention self high) && lt high s_max }
     {
-        if self.retention(high) > desired {
-            high < Fsrs7Runtime::S_MAX
-        } else {
-            false
-        }
+        self.retention(high) > desired && high < Fsrs7Runtime::S_MAX
     }
 
     // The upper end, doubled while the curve there is above the desired retention.
@@ -64,14 +56,11 @@ impl Curve {
         ensures { result ≡ Model.doubled 16 (Model.retention self) desired start }
     {
         let mut high = start;
-        let mut left: u32 = 16;
-        while left > 0 {
-            if self.stays_above(desired, high) {
-                high = min(high * 2.0, Fsrs7Runtime::S_MAX);
-                left -= 1;
-            } else {
+        for _ in 0..16_u32 {
+            if !self.stays_above(desired, high) {
                 return high;
             }
+            high = min(high * 2.0, Fsrs7Runtime::S_MAX);
         }
         high
     }
@@ -82,18 +71,19 @@ impl Curve {
     {
         let mut low = 0.0;
         let mut high = end;
-        let mut left: u32 = 50;
-        while left > 0 {
+        for _ in 0..50_u32 {
             let middle = (low + high) * 0.5;
-            let above = self.retention(middle) > desired;
-            low = choose(above, middle, low);
-            high = choose(above, high, middle);
-            left -= 1;
+            if self.retention(middle) > desired {
+                low = middle;
+            } else {
+                high = middle;
+            }
         }
         clamp((low + high) * 0.5, 0.0, Fsrs7Runtime::S_MAX)
     }
 
     // The interval by bisection, between 0 and a doubled top.
+    #[tactic(auto, using(crate::proofs::Numbers::literals), unfolding(crate::specs::Model::bisected))]
     fn bisected(self, top: f32, desired: f32) -> f32
         ensures { result ≡ Model.bisected self top desired }
     {
@@ -108,6 +98,7 @@ impl Curve {
     // ---- Newton's method
 
     // A step from the logarithm u, which is kept from `least` to `most`.
+    #[tactic(auto, using(crate::proofs::Numbers::literals), unfolding(crate::specs::Model::step_within))]
     fn newton_step(self, least: f32, most: f32, desired: f32, u: f32) -> f32
         ensures { result ≡ Model.step_within least most self desired u }
     {
@@ -125,45 +116,33 @@ impl Curve {
         let least = ln_f32(MIN_T);
         let most = ln_f32(Fsrs7Runtime::S_MAX);
         let mut u = start;
-        let mut left: u32 = 7;
-        while left > 0 {
+        for _ in 0..7_u32 {
             let next = self.newton_step(least, most, desired, u);
-            if same(next, u) {
+            if same(next, u) || !is_finite(next) {
                 return next;
             }
             u = next;
-            if is_finite(u) {
-                left -= 1;
-            } else {
-                return u;
-            }
         }
         u
     }
 
+    #[tactic(auto, using(crate::proofs::Numbers::literals), unfolding(crate::specs::Model::near_enough))]
     fn near_enough(self, desired: f32, interval: f32) -> bool
         ensures { result ≡ Model.near_enough self desired interval }
     {
         let r = self.retention(interval);
-        if is_finite(r) {
-            abs(r - desired) <= 0.001
-        } else {
-            false
-        }
+        is_finite(r) && abs(r - desired) <= 0.001
     }
 
     // What Newton's steps come to where they stay finite and come near enough, or else bisection.
+    #[tactic(auto, using(crate::proofs::Numbers::literals), unfolding(crate::specs::Model::solved))]
     fn solved(self, top: f32, desired: f32) -> f32
         ensures { result ≡ Model.solved self top desired }
     {
         let u = self.newton(desired, ln_f32(max(top, MIN_T)));
-        if is_finite(u) {
-            let interval = clamp(exp_f32(u), 0.0, Fsrs7Runtime::S_MAX);
-            if self.near_enough(desired, interval) {
-                interval
-            } else {
-                self.bisected(top, desired)
-            }
+        let interval = clamp(exp_f32(u), 0.0, Fsrs7Runtime::S_MAX);
+        if is_finite(u) && self.near_enough(desired, interval) {
+            interval
         } else {
             self.bisected(top, desired)
         }
@@ -171,6 +150,7 @@ impl Curve {
 }
 
 impl Fsrs7Runtime {
+    #[tactic(auto, unfolding(crate::specs::Model::next_interval_bisection))]
     pub fn next_interval_bisection(self, state: MemoryState, desired: f32) -> f32
         ensures { result ≡ Model.next_interval_bisection (Runtime.curve_of self) state desired }
     {
@@ -178,6 +158,7 @@ impl Fsrs7Runtime {
             .bisected(max(state.stability, state.stability_fast), desired)
     }
 
+    #[tactic(auto, using(crate::proofs::Numbers::literals), unfolding(crate::specs::Model::next_interval_for_state))]
     pub fn next_interval_for_state(self, state: MemoryState, desired: f32) -> f32
         ensures { result ≡ Model.next_interval_for_state (Runtime.curve_of self) state desired }
     {
@@ -191,6 +172,7 @@ impl Fsrs7Runtime {
         }
     }
 
+    #[tactic(auto, unfolding(crate::specs::Model::next_interval))]
     pub fn next_interval(self, stability: f32, desired: f32) -> f32
         ensures { result ≡ Model.next_interval (Runtime.curve_of self) stability desired }
     {
@@ -198,6 +180,7 @@ impl Fsrs7Runtime {
     }
 
     // The interval that is scheduled, in whole days from 1 to the largest.
+    #[tactic(auto, using(crate::proofs::Numbers::literals), unfolding(crate::specs::Model::scheduled))]
     pub fn scheduled(self, stability: f32, desired: f32, largest: f32) -> f32
         ensures { result ≡ Model.scheduled (Runtime.curve_of self) stability desired largest }
     {

@@ -3,40 +3,37 @@
 // each with a room that is as it was.
 #![tactic(auto)]
 
+ghost use Rattle.std.specs.Prelude.{◌<◌, ◌≤◌};
+
 use cards::{Card, SimulatorConfig};
-use simulation::Answer;
+use entry::{Learner, Lists, Settings, refusals};
+use simulation::{Progress, Refused};
 use std::io;
 
-fn wide(x: u32) -> u64 {
-    x as u64
-}
-
-fn number(rt: &impl Print, x: u32) -> io::Result<()> {
-    print!(rt; " {}", wide(x))
-}
-
-fn float(rt: &impl Print, x: f32) -> io::Result<()> {
-    print!(rt; " {:08x}", wide(float32::to_bits(x)))
-}
+const PARAMETERS: [f32; 34] = [0.5; 34];
 
 // Eight cards, ten days, two new cards a day; the rest as `SimulatorConfig::default` has it.
-fn config() -> SimulatorConfig {
-    SimulatorConfig {
-        deck_size: 8,
-        learn_span: 10,
-        max_cost_perday: 100.0,
-        max_ivl: 36500.0,
-        first_rating_prob: model::defaults::first_rating_prob(),
-        review_rating_prob: model::defaults::review_rating_prob(),
-        learn_limit: 2,
-        review_limit: 9999,
-        new_cards_ignore_review_limit: true,
-        suspend_after_lapses: 4294967295,
-        learning_step_transitions: model::defaults::learning_step_transitions(),
-        relearning_step_transitions: model::defaults::relearning_step_transitions(),
-        state_rating_costs: model::defaults::state_rating_costs(),
-        learning_step_count: 2,
-        relearning_step_count: 1,
+fn settings() -> Settings {
+    Settings {
+        config: SimulatorConfig {
+            deck_size: 8,
+            learn_span: 10,
+            max_cost_perday: 100.0,
+            max_ivl: 36500.0,
+            first_rating_prob: model::defaults::first_rating_prob(),
+            review_rating_prob: model::defaults::review_rating_prob(),
+            learn_limit: 2,
+            review_limit: 9999,
+            new_cards_ignore_review_limit: true,
+            suspend_after_lapses: u32::MAX,
+            learning_step_transitions: model::defaults::learning_step_transitions(),
+            relearning_step_transitions: model::defaults::relearning_step_transitions(),
+            state_rating_costs: model::defaults::state_rating_costs(),
+            learning_step_count: 2,
+            relearning_step_count: 1,
+        },
+        retention: 0.9,
+        seed: 42,
     }
 }
 
@@ -53,135 +50,110 @@ fn card(stability: f32, last_date: f32, due: f32, lapses: u32) -> Card {
     }
 }
 
-fn show(
-    rt: &impl Print,
-    answer: Answer,
-    day: [u32; 4],
-    cost: f32,
-    memorized: f32,
-) -> io::Result<()> {
-    match answer {
-        Answer::Finished(progress) => {
-            print!(rt; "turns")?;
-            number(rt, progress.turns)?;
-            print!(rt; " cards")?;
-            number(rt, progress.cards)?;
-            print!(rt; " draws {:016x} day", progress.draws)?;
-            number(rt, day[0])?;
-            number(rt, day[1])?;
-            number(rt, day[2])?;
-            number(rt, day[3])?;
-            float(rt, cost)?;
-            float(rt, memorized)?;
-        }
-        Answer::Refused(refusal, _) => {
-            print!(rt; "refused")?;
-            number(rt, entry::refusals::number_of(refusal))?;
-            number(rt, entry::refusals::second_of(refusal))?;
+// The lists of a run.
+struct Memory {
+    cards: [[f32; 6]; 8],
+    counts: [[u32; 2]; 8],
+    rows: [[u64; 2]; 8],
+    days: [[u32; 4]; 10],
+    costs: [f32; 10],
+    memorized: [f32; 10],
+    due: [u32; 15],
+    keys: [[u32; 2]; 64],
+    intervals: [f32; 64],
+}
+
+impl Memory {
+    fn new() -> Memory {
+        Memory {
+            cards: [[0.0; 6]; 8],
+            counts: [[0; 2]; 8],
+            rows: [[0; 2]; 8],
+            days: [[0; 4]; 10],
+            costs: [0.0; 10],
+            memorized: [0.0; 10],
+            due: [0; 15],
+            keys: [[0; 2]; 64],
+            intervals: [0.0; 64],
         }
     }
-    println!(rt; "")
+
+    fn lists(&mut self) -> Lists<'_> {
+        Lists {
+            cards: &mut self.cards,
+            counts: &mut self.counts,
+            rows: &mut self.rows,
+            days: &mut self.days,
+            costs: &mut self.costs,
+            memorized: &mut self.memorized,
+            due: &mut self.due,
+            keys: &mut self.keys,
+            intervals: &mut self.intervals,
+        }
+    }
 }
 
-fn room(rt: &impl Print, first: [f32; 6], last: [f32; 6], counts: [u32; 2]) -> io::Result<()> {
-    print!(rt; "room")?;
-    float(rt, first[1])?;
-    float(rt, last[1])?;
-    number(rt, counts[0])?;
-    number(rt, counts[1])?;
-    println!(rt; "")
-}
-
-fn by_records(
+// A run's answer, and its last day.
+fn show(
     rt: &impl Print,
-    records: [Card; 3],
-    existing: &mut [[f32; 6]],
-    existing_counts: &mut [[u32; 2]],
+    answer: Result<Progress, Refused>,
+    memory: &Memory,
 ) -> io::Result<()> {
-    let mut cards: [[f32; 6]; 8] = [[0.0; 6]; 8];
-    let mut counts: [[u32; 2]; 8] = [[0; 2]; 8];
-    let mut queue: [[u64; 2]; 8] = [[0; 2]; 8];
-    let mut days: [[u32; 4]; 10] = [[0; 4]; 10];
-    let mut costs: [f32; 10] = [0.0; 10];
-    let mut memorized: [f32; 10] = [0.0; 10];
-    let mut due: [u32; 15] = [0; 15];
-    let mut keys: [[u32; 2]; 64] = [[0; 2]; 64];
-    let mut intervals: [f32; 64] = [0.0; 64];
-    let parameters: [f32; 34] = [0.5; 34];
-    let answer = card_records::simulate_three(
-        &mut cards,
-        &mut counts,
-        &mut queue,
-        &mut days,
-        &mut costs,
-        &mut memorized,
-        &mut due,
-        &mut keys,
-        &mut intervals,
-        existing,
-        existing_counts,
-        &parameters,
+    match answer {
+        Ok(progress) => {
+            print!(rt; "turns {} cards {} draws {:016x} day", progress.turns, progress.cards, progress.draws)?;
+            for count in memory.days[9] {
+                print!(rt; " {count}")?;
+            }
+            let cost = float32::to_bits(memory.costs[9]);
+            let memorized = float32::to_bits(memory.memorized[9]);
+            println!(rt; " {cost:08x} {memorized:08x}")
+        }
+        Err(refused) => {
+            let refusal = refused.refusal;
+            println!(rt; "refused {} {}", refusals::number_of(refusal), refusals::second_of(refusal))
+        }
+    }
+}
+
+// With a room of so many rows of floats, and four of counts; and what it holds then.
+fn by_records<const ROWS: usize>(rt: &impl Print, records: &[Card]) -> io::Result<()>
+    requires some { 0 < ROWS }
+    requires few { ROWS ≤ 4 }
+{
+    let mut existing = [[7.0; 6]; ROWS];
+    let mut existing_counts = [[7; 2]; 4];
+    let mut memory = Memory::new();
+    let answer = card_records::simulate(
+        &mut memory.lists(),
+        &mut existing,
+        &mut existing_counts,
+        &PARAMETERS,
         records,
-        config(),
-        0.9,
-        42,
+        settings(),
     );
-    show(rt, answer, days[9], costs[9], memorized[9])
+    show(rt, answer, &memory)?;
+    let first = float32::to_bits(existing[0][1]);
+    let last = float32::to_bits(existing[ROWS - 1][1]);
+    let [reps, lapses] = existing_counts[2];
+    println!(rt; "room {first:08x} {last:08x} {reps} {lapses}")
 }
 
-// With a room of four rows, and what it holds then.
-fn with_room(rt: &impl Print, records: [Card; 3]) -> io::Result<()> {
-    let mut existing: [[f32; 6]; 4] = [[7.0; 6]; 4];
-    let mut existing_counts: [[u32; 2]; 4] = [[7; 2]; 4];
-    by_records(rt, records, &mut existing, &mut existing_counts)?;
-    room(rt, existing[0], existing[3], existing_counts[2])
-}
-
-// With a room of two rows, and what it holds then.
-fn without_room(rt: &impl Print, records: [Card; 3]) -> io::Result<()> {
-    let mut existing: [[f32; 6]; 2] = [[7.0; 6]; 2];
-    let mut existing_counts: [[u32; 2]; 4] = [[7; 2]; 4];
-    by_records(rt, records, &mut existing, &mut existing_counts)?;
-    room(rt, existing[0], existing[1], existing_counts[2])
-}
-
-fn by_rows(rt: &impl Print, records: [Card; 3]) -> io::Result<()> {
-    let mut cards: [[f32; 6]; 8] = [[0.0; 6]; 8];
-    let mut counts: [[u32; 2]; 8] = [[0; 2]; 8];
-    let mut queue: [[u64; 2]; 8] = [[0; 2]; 8];
-    let mut days: [[u32; 4]; 10] = [[0; 4]; 10];
-    let mut costs: [f32; 10] = [0.0; 10];
-    let mut memorized: [f32; 10] = [0.0; 10];
-    let mut due: [u32; 15] = [0; 15];
-    let mut keys: [[u32; 2]; 64] = [[0; 2]; 64];
-    let mut intervals: [f32; 64] = [0.0; 64];
-    let mut existing: [[f32; 6]; 3] = [[0.0; 6]; 3];
-    let mut existing_counts: [[u32; 2]; 3] = [[0; 2]; 3];
-    let parameters: [f32; 34] = [0.5; 34];
-    cards::write_floats(&mut existing, 0, records[0]);
-    cards::write_floats(&mut existing, 1, records[1]);
-    cards::write_floats(&mut existing, 2, records[2]);
-    cards::write_counts(&mut existing_counts, 0, records[0]);
-    cards::write_counts(&mut existing_counts, 1, records[1]);
-    cards::write_counts(&mut existing_counts, 2, records[2]);
-    let answer = simulation::simulate(
-        &mut cards,
-        &mut counts,
-        &mut queue,
-        &mut days,
-        &mut costs,
-        &mut memorized,
-        &mut due,
-        &mut keys,
-        &mut intervals,
-        &parameters,
-        &existing,
-        &existing_counts,
-        config(),
-        0.9,
-        42,
-    );
-    show(rt, answer, days[9], costs[9], memorized[9])
+fn by_rows(rt: &impl Print, records: &[Card; 3]) -> io::Result<()> {
+    let mut existing = [[0.0; 6]; 3];
+    let mut existing_counts = [[0; 2]; 3];
+    for (i, record) in (0..3).zip(records) {
+        cards::write_floats(&mut existing, i, *record);
+        cards::write_counts(&mut existing_counts, i, *record);
+    }
+    let learner = Learner {
+        parameters: &PARAMETERS,
+        existing: &existing,
+        existing_counts: &existing_counts,
+    };
+    let mut memory = Memory::new();
+    let answer = simulation::simulate(&mut memory.lists(), learner, settings());
+    show(rt, answer, &memory)
 }
 
 fn main(rt: HostRuntime) -> io::Result<()> {
@@ -189,8 +161,8 @@ fn main(rt: HostRuntime) -> io::Result<()> {
     let dropped = card(0.0, -3.0, 0.0, 0);
     let lapsed = card(10.0, -5.0, 2.0, 1);
     let records = [reviewed, dropped, lapsed];
-    by_rows(&rt, records)?;
-    with_room(&rt, records)?;
-    with_room(&rt, [reviewed, dropped, card(10.0, -5.0, 20000000.0, 1)])?;
-    without_room(&rt, records)
+    by_rows(&rt, &records)?;
+    by_records::<4>(&rt, &records)?;
+    by_records::<4>(&rt, &[reviewed, dropped, card(10.0, -5.0, 20000000.0, 1)])?;
+    by_records::<2>(&rt, &records)
 }

@@ -4,43 +4,21 @@ use draws::SplitMix64;
 use float32::{from_bits, to_bits};
 use model::{Fsrs7Runtime, MemoryState};
 
-fn yes(x: bool) -> u32 {
-    if x { 1 } else { 0 }
-}
-
-fn low(x: u64) -> u32 {
-    (x % 4294967296) as u32
-}
-
-fn high(x: u64) -> u32 {
-    (x / 4294967296) as u32
-}
-
 pub fn join(a: u32, b: u32) -> u64 {
-    (a as u64) * 4294967296 + (b as u64)
-}
-
-fn of_index(i: usize) -> u32 {
-    if i < 3 { i as u32 } else { 3 }
+    (u64::from(a) << 32) | u64::from(b)
 }
 
 // The word that is drawn from a state.
 pub fn drawn(state: u64) -> u32 {
-    let d = SplitMix64::new(state).next();
-    draws::word(d.output)
+    draws::word(SplitMix64::new(state).next().output)
 }
 
-fn rated(word: u32, x: f32, y: f32, z: f32) -> u32 {
-    let weights = [x, y, z];
-    of_index(draws::rating(&weights, word))
-}
-
+// The functions on numbers; the stored lines know each function by its number alone, so numbers they stay.
 pub fn of_numbers(r: Record) -> u32 {
     let x = from_bits(r.a);
     let y = from_bits(r.b);
     let z = from_bits(r.c);
-    let function = r.function;
-    match function {
+    match r.function {
         1 => to_bits(elementary::exp_f32(x)),
         2 => to_bits(elementary::ln_f32(x)),
         3 => to_bits(elementary::powf_f32(x, y)),
@@ -52,42 +30,28 @@ pub fn of_numbers(r: Record) -> u32 {
         9 => to_bits(float32::mul_add(x, y, z)),
         10 => float32::to_u32(x),
         11 => drawn(join(r.a, r.b)),
-        12 => rated(r.d, x, y, z),
-        13 => yes(draws::recalled(x, r.b)),
+        12 => draws::rating(&[x, y, z], r.d).min(3) as u32,
+        13 => u32::from(draws::recalled(x, r.b)),
         14 => intervals::stability_bucket(x),
         15 => intervals::retention_bucket(x),
-        16 => low(queue::card_priority(r.b, r.c == 1, x)),
-        17 => high(queue::card_priority(r.b, r.c == 1, x)),
+        16 => (queue::card_priority(r.b, r.c == 1, x) % 4294967296) as u32,
+        17 => (queue::card_priority(r.b, r.c == 1, x) / 4294967296) as u32,
         _ => 0,
     }
 }
 
-fn state_of(s: u32, d: u32, fast: u32) -> MemoryState {
-    MemoryState {
-        stability: from_bits(s),
-        difficulty: from_bits(d),
-        stability_fast: from_bits(fast),
-    }
-}
-
-fn derivative(m: Fsrs7Runtime, state: MemoryState, t: f32) -> f32 {
-    let slope = m.curve_for_state(state).retention_and_derivative(t);
-    slope.derivative
-}
-
-fn solver_curve(m: Fsrs7Runtime, state: MemoryState, t: f32) -> f32 {
-    let slope = m.curve_for_state(state).retention_and_derivative(t);
-    slope.retention
-}
-
+// The functions of the memory model, by their numbers as above.
 pub fn of_memory(w: &[f32], r: Record) -> u32 {
     let m = Fsrs7Runtime::new(w);
     let x = from_bits(r.a);
     let y = from_bits(r.b);
     let z = from_bits(r.c);
-    let state = state_of(r.b, r.c, r.d);
-    let function = r.function;
-    match function {
+    let state = MemoryState {
+        stability: y,
+        difficulty: z,
+        stability_fast: from_bits(r.d),
+    };
+    match r.function {
         20 => to_bits(m.init_stability(r.a)),
         21 => to_bits(m.init_difficulty(r.a)),
         22 => to_bits(m.next_difficulty(x, r.d, y)),
@@ -96,13 +60,19 @@ pub fn of_memory(w: &[f32], r: Record) -> u32 {
         25 => to_bits(m.stability_short_term(x, y, z, r.d)),
         26 => to_bits(m.forgetting_curve(x, y)),
         27 => to_bits(m.forgetting_curve_for_state(x, state)),
-        28 => to_bits(solver_curve(m, state, x)),
-        29 => to_bits(derivative(m, state, x)),
+        28 => to_bits(m.curve_for_state(state).retention_and_derivative(x).retention),
+        29 => to_bits(m.curve_for_state(state).retention_and_derivative(x).derivative),
         30 => to_bits(m.next_interval_bisection(state, x)),
         31 => to_bits(m.next_interval_for_state(state, x)),
         32 => to_bits(m.next_interval(x, y)),
         33 => to_bits(m.scheduled(x, y, z)),
-        34 => yes(intervals::certifies_rounded_interval(m.curve(x), x, y, z, from_bits(r.d))),
+        34 => u32::from(intervals::certifies_rounded_interval(
+            m.curve(x),
+            x,
+            y,
+            z,
+            from_bits(r.d),
+        )),
         _ => 0,
     }
 }

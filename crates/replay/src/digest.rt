@@ -3,8 +3,9 @@
 // the digest and the word. The table's is a sum over the places in use, since where a key lies is the port's own
 // matter.
 use crate::answers::{drawn, join};
+use entry::Lists;
+use float32::to_bits;
 
-#[derive(Clone, Copy)]
 pub struct Digests {
     pub cards: u32,
     pub days: u32,
@@ -16,103 +17,45 @@ fn add(d: u32, x: u32) -> u32 {
     drawn(join(d, x))
 }
 
-fn add_float(d: u32, x: f32) -> u32 {
-    add(d, float32::to_bits(x))
+fn add_words(d: u32, words: &[u32]) -> u32 {
+    words.iter().fold(d, |d, x| add(d, *x))
 }
 
-fn card_at(d: u32, cards: &[[f32; 6]], i: usize) -> u32 {
-    if i < cards.len() {
-        let row = cards[i];
-        let half = add_float(add_float(add_float(d, row[0]), row[1]), row[2]);
-        return add_float(add_float(add_float(half, row[3]), row[4]), row[5]);
+fn add_floats(d: u32, floats: &[f32]) -> u32 {
+    floats.iter().fold(d, |d, x| add(d, to_bits(*x)))
+}
+
+fn of_cards(cards: &[[f32; 6]], counts: &[[u32; 2]]) -> u32 {
+    let mut d = 0;
+    for (card, count) in cards.iter().zip(counts) {
+        d = add_words(add_floats(d, card), count);
     }
     d
 }
 
-fn counts_at(d: u32, counts: &[[u32; 2]], i: usize) -> u32 {
-    if i < counts.len() {
-        let row = counts[i];
-        return add(add(d, row[0]), row[1]);
+fn of_days(days: &[[u32; 4]], costs: &[f32], memorized: &[f32]) -> u32 {
+    let mut d = 0;
+    for ((day, cost), share) in days.iter().zip(costs).zip(memorized) {
+        d = add_floats(add_words(d, day), &[*cost, *share]);
     }
     d
 }
 
-fn day_at(d: u32, days: &[[u32; 4]], i: usize) -> u32 {
-    if i < days.len() {
-        let row = days[i];
-        return add(add(add(add(d, row[0]), row[1]), row[2]), row[3]);
-    }
-    d
-}
-
-fn float_at(d: u32, list: &[f32], i: usize) -> u32 {
-    if i < list.len() {
-        return add_float(d, list[i]);
-    }
-    d
-}
-
-fn due_at(d: u32, due: &[u32], i: usize) -> u32 {
-    if i < due.len() { add(d, due[i]) } else { d }
-}
-
-fn entry_at(keys: &[[u32; 2]], intervals: &[f32], i: usize) -> u32 {
-    if i < keys.len() {
-        if i < intervals.len() {
-            if intervals[i] >= 1.0 {
-                let key = keys[i];
-                return add_float(add(add(0, key[0]), key[1]), intervals[i]);
-            }
+fn of_table(keys: &[[u32; 2]], intervals: &[f32]) -> u32 {
+    let mut d = 0u32;
+    for (key, interval) in keys.iter().zip(intervals) {
+        if *interval >= 1.0 {
+            d = d.wrapping_add(add(add_words(0, key), to_bits(*interval)));
         }
     }
-    0
-}
-
-// The digests with place i of each list.
-fn at(
-    d: Digests,
-    i: usize,
-    cards: &[[f32; 6]],
-    counts: &[[u32; 2]],
-    days: &[[u32; 4]],
-    costs: &[f32],
-    memorized: &[f32],
-    due: &[u32],
-    keys: &[[u32; 2]],
-    intervals: &[f32],
-) -> Digests {
-    Digests {
-        cards: counts_at(card_at(d.cards, cards, i), counts, i),
-        days: float_at(float_at(day_at(d.days, days, i), costs, i), memorized, i),
-        due: due_at(d.due, due, i),
-        table: std::num::wrapping_add_u32(d.table, entry_at(keys, intervals, i)),
-    }
-}
-
-// Of the first n places of each list.
-pub fn of_lists(
-    n: usize,
-    cards: &[[f32; 6]],
-    counts: &[[u32; 2]],
-    days: &[[u32; 4]],
-    costs: &[f32],
-    memorized: &[f32],
-    due: &[u32],
-    keys: &[[u32; 2]],
-    intervals: &[f32],
-) -> Digests {
-    let mut d = Digests {
-        cards: 0,
-        days: 0,
-        due: 0,
-        table: 0,
-    };
-    let mut i = 0;
-    while i < n {
-        d = at(
-            d, i, cards, counts, days, costs, memorized, due, keys, intervals,
-        );
-        i += 1;
-    }
     d
+}
+
+pub fn of_lists(lists: &Lists<'_>) -> Digests {
+    Digests {
+        cards: of_cards(lists.cards, lists.counts),
+        days: of_days(lists.days, lists.costs, lists.memorized),
+        due: add_words(0, lists.due),
+        table: of_table(lists.keys, lists.intervals),
+    }
 }

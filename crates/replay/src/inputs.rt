@@ -9,125 +9,109 @@
 //   lapses
 //   75: list a is b places long: cards, counts, queue, days, costs, memorized, due, keys, intervals, existing cards,
 //       existing counts, parameters
-ghost use Rattle.std.specs.Prelude.{◌≤◌};
+ghost use Rattle.std.specs.Prelude.{◌+◌, ◌≤◌};
 
 use crate::record::Record;
 use cards::SimulatorConfig;
+use entry::{Learner, Settings};
 use float32::from_bits;
 
-fn put_number(list: &mut [u32], i: u32, x: u32) {
-    let at = i as usize;
-    if at < list.len() {
-        list[at] = x;
+pub struct Inputs {
+    pub numbers: [u32; 8],
+    pub settings: [f32; 46],
+    pub existing: [[f32; 6]; 4096],
+    pub existing_counts: [[u32; 2]; 4096],
+    pub lengths: [u32; 12],
+}
+
+// x at place i, where the list has one.
+pub fn put<T: Copy>(list: &mut [T], i: u32, x: T) {
+    if let Some(place) = list.get_mut(i as usize) {
+        *place = x;
     }
 }
 
-fn put_setting(list: &mut [f32], i: u32, x: f32) {
-    let at = i as usize;
-    if at < list.len() {
-        list[at] = x;
-    }
+// The first places of a list, as many as it has of n.
+pub fn first<T>(list: &[T], n: u32) -> &[T] {
+    &list[..list.len().min(n as usize)]
 }
 
-fn put_first(rows: &mut [[f32; 6]], i: u32, x: f32, y: f32, z: f32) {
-    let at = i as usize;
-    if at < rows.len() {
-        let row = rows[at];
-        rows[at] = [x, y, z, row[3], row[4], row[5]];
-    }
-}
-
-fn put_last(rows: &mut [[f32; 6]], i: u32, x: f32, y: f32, z: f32) {
-    let at = i as usize;
-    if at < rows.len() {
-        let row = rows[at];
-        rows[at] = [row[0], row[1], row[2], x, y, z];
-    }
-}
-
-fn put_counts(rows: &mut [[u32; 2]], i: u32, reps: u32, lapses: u32) {
-    let at = i as usize;
-    if at < rows.len() {
-        rows[at] = [reps, lapses];
-    }
-}
-
-fn put_row(rows: &mut [[f32; 6]], i: u32, row: [f32; 6]) {
-    let at = i as usize;
-    if at < rows.len() {
-        rows[at] = row;
-    }
-}
-
-// A card as a run left it, among the existing ones.
-pub fn put_card(
-    rows: &mut [[f32; 6]],
-    counts: &mut [[u32; 2]],
-    i: u32,
-    row: [f32; 6],
-    n: [u32; 2],
-) {
-    put_row(rows, i, row);
-    put_counts(counts, i, n[0], n[1]);
-}
-
-pub fn tell_card(rows: &mut [[f32; 6]], counts: &mut [[u32; 2]], r: Record) {
-    if r.function == 72 {
-        put_first(rows, r.a, from_bits(r.b), from_bits(r.c), from_bits(r.d));
-        return;
-    }
-    if r.function == 73 {
-        put_last(rows, r.a, from_bits(r.b), from_bits(r.c), from_bits(r.d));
-        return;
-    }
-    put_counts(counts, r.a, r.b, r.c);
-}
-
-pub fn tell(numbers: &mut [u32], settings: &mut [f32], lengths: &mut [u32], r: Record) {
-    if r.function == 70 {
-        put_number(numbers, r.a, r.b);
-        return;
-    }
-    if r.function == 71 {
-        put_setting(settings, r.a, from_bits(r.b));
-        return;
-    }
-    put_number(lengths, r.a, r.b);
-}
-
-fn four(x: &[f32; 46], at: usize) -> [f32; 4]
-    requires { at ≤ 42 }
+fn row<const N: usize>(settings: &[f32; 46], from: usize) -> [f32; N]
+    requires { from + N ≤ 46 }
 {
-    [x[at], x[at + 1], x[at + 2], x[at + 3]]
+    let mut row = [0.0; N];
+    row.copy_from_slice(&settings[from..from + N]);
+    row
 }
 
-fn twelve(x: &[f32; 46], at: usize) -> [f32; 12]
-    requires { at ≤ 34 }
-{
-    let a = four(x, at);
-    let b = four(x, at + 4);
-    let c = four(x, at + 8);
-    [
-        a[0], a[1], a[2], a[3], b[0], b[1], b[2], b[3], c[0], c[1], c[2], c[3],
-    ]
-}
+impl Inputs {
+    pub fn tell(&mut self, r: Record) {
+        let floats = [from_bits(r.b), from_bits(r.c), from_bits(r.d)];
+        match r.function {
+            70 => put(&mut self.numbers, r.a, r.b),
+            71 => put(&mut self.settings, r.a, from_bits(r.b)),
+            72 => self.put_floats(r.a, 0, floats),
+            73 => self.put_floats(r.a, 3, floats),
+            74 => put(&mut self.existing_counts, r.a, [r.b, r.c]),
+            75 => put(&mut self.lengths, r.a, r.b),
+            _ => {}
+        }
+    }
 
-pub fn config_of(numbers: &[u32; 8], settings: &[f32; 46]) -> SimulatorConfig {
-    SimulatorConfig {
-        deck_size: numbers[0],
-        learn_span: numbers[1],
-        max_cost_perday: settings[0],
-        max_ivl: settings[1],
-        first_rating_prob: four(settings, 3),
-        review_rating_prob: [settings[7], settings[8], settings[9]],
-        learn_limit: numbers[2],
-        review_limit: numbers[3],
-        new_cards_ignore_review_limit: numbers[4] != 0,
-        suspend_after_lapses: numbers[5],
-        learning_step_transitions: twelve(settings, 10),
-        relearning_step_transitions: twelve(settings, 22),
-        state_rating_costs: twelve(settings, 34),
-        learning_step_count: numbers[6],
-        relearning_step_count: numbers[7],
+    // Three numbers of existing card i, from the one on that the row has at `from`.
+    fn put_floats(&mut self, i: u32, from: usize, floats: [f32; 3])
+        requires { from ≤ 3 }
+    {
+        if let Some(card) = self.existing.get_mut(i as usize) {
+            card[from..from + 3].copy_from_slice(&floats);
+        }
+    }
+
+    // The cards that a run left, of which it has n, are the existing ones from now on.
+    pub fn keep_cards(&mut self, cards: &[[f32; 6]], counts: &[[u32; 2]], n: u32) {
+        for ((i, card), count) in (0..n).zip(cards).zip(counts) {
+            put(&mut self.existing, i, *card);
+            put(&mut self.existing_counts, i, *count);
+        }
+        self.lengths[9] = n;
+        self.lengths[10] = n;
+    }
+
+    pub fn learner<'a>(&'a self, parameters: &'a [f32]) -> Learner<'a> {
+        Learner {
+            parameters: first(parameters, self.lengths[11]),
+            existing: first(&self.existing, self.lengths[9]),
+            existing_counts: first(&self.existing_counts, self.lengths[10]),
+        }
+    }
+
+    pub fn settings(&self, seed: u64) -> Settings {
+        Settings {
+            config: self.config(),
+            retention: self.settings[2],
+            seed,
+        }
+    }
+
+    fn config(&self) -> SimulatorConfig {
+        let numbers = self.numbers;
+        let settings = &self.settings;
+        SimulatorConfig {
+            deck_size: numbers[0],
+            learn_span: numbers[1],
+            max_cost_perday: settings[0],
+            max_ivl: settings[1],
+            first_rating_prob: row(settings, 3),
+            review_rating_prob: row(settings, 7),
+            learn_limit: numbers[2],
+            review_limit: numbers[3],
+            new_cards_ignore_review_limit: numbers[4] != 0,
+            suspend_after_lapses: numbers[5],
+            learning_step_transitions: row(settings, 10),
+            relearning_step_transitions: row(settings, 22),
+            state_rating_costs: row(settings, 34),
+            learning_step_count: numbers[6],
+            relearning_step_count: numbers[7],
+        }
     }
 }

@@ -1,56 +1,59 @@
-// Calls on the queue and the interval table that the program keeps.
+// What the calls of leaves keep from one to the next: the model's parameters, a queue of cards, and an interval table.
+use crate::inputs::put;
 use crate::record::Record;
+use float32::from_bits;
 use model::Fsrs7Runtime;
 use queue::CardPriorityQueue;
 
-// 50: push card a with the key of day b, newness c and difficulty d; 51: the front gets that key; 52: pop.
-pub fn queued(rows: &mut [[u64; 2]], len: u32, r: Record) -> u32 {
-    let queue = CardPriorityQueue { len };
-    let key = queue::card_priority(r.b, r.c == 1, float32::from_bits(r.d));
-    if r.function == 50 {
-        return pushed(rows, queue, r.a, key);
-    }
-    if r.function == 51 {
-        queue.change_front(rows, key);
-        return len;
-    }
-    popped(rows, queue)
+pub struct Kept {
+    pub parameters: [f32; 40],
+    pub rows: [[u64; 2]; 16],
+    pub len: u32,
+    pub keys: [[u32; 2]; 8],
+    pub intervals: [f32; 8],
 }
 
-fn pushed(rows: &mut [[u64; 2]], queue: CardPriorityQueue, card: u32, key: u64) -> u32 {
-    let after = queue.push(rows, card, key);
-    after.len
-}
-
-fn popped(rows: &mut [[u64; 2]], queue: CardPriorityQueue) -> u32 {
-    let after = queue.pop(rows);
-    after.len
-}
-
-// The first card's number, or the largest number where there is none.
-pub fn front(rows: &[[u64; 2]], len: u32) -> u32 {
-    if len == 0 {
-        return 4294967295;
+impl Kept {
+    // Parameter a is b.
+    pub fn tell(&mut self, r: Record) {
+        put(&mut self.parameters, r.a, from_bits(r.b));
     }
-    let queue = CardPriorityQueue { len };
-    queue.peek_index(rows)
-}
 
-// 60: the interval at stability a and retention b, at most c, entered where the table did not serve; 61: the table is
-// emptied.
-pub fn scheduled(w: &[f32], keys: &mut [[u32; 2]], intervals: &mut [f32], r: Record) -> u32 {
-    if r.function == 61 {
-        intervals::clear(intervals);
-        return 0;
+    // 50: push card a with the key of day b, newness c and difficulty d; 51: the front gets that key; 52: pop. The
+    // answer is the first card's number, or the largest number where there is none.
+    pub fn queued(&mut self, r: Record) -> u32 {
+        let key = queue::card_priority(r.b, r.c == 1, from_bits(r.d));
+        let mut queue = CardPriorityQueue {
+            rows: &mut self.rows,
+            len: self.len,
+        };
+        match r.function {
+            50 => queue.push(r.a, key),
+            51 => queue.change_front(key),
+            _ => queue.pop(),
+        }
+        let front = queue.peek_index();
+        let len = queue.len;
+        self.len = len;
+        if len == 0 { u32::MAX } else { front }
     }
-    let slot = intervals::scheduled_interval(
-        Fsrs7Runtime::new(w),
-        float32::from_bits(r.a),
-        float32::from_bits(r.b),
-        float32::from_bits(r.c),
-        keys,
-        intervals,
-    );
-    intervals::enter_slot(keys, intervals, slot);
-    float32::to_bits(intervals::interval_in(slot))
+
+    // 60: the interval at stability a and retention b, at most c, entered where the table did not serve; 61: the table
+    // is emptied.
+    pub fn scheduled(&mut self, r: Record) -> u32 {
+        if r.function == 61 {
+            intervals::clear(&mut self.intervals);
+            return 0;
+        }
+        let slot = intervals::scheduled_interval(
+            Fsrs7Runtime::new(&self.parameters),
+            from_bits(r.a),
+            from_bits(r.b),
+            from_bits(r.c),
+            &self.keys,
+            &self.intervals,
+        );
+        intervals::enter_slot(&mut self.keys, &mut self.intervals, slot);
+        float32::to_bits(intervals::interval_in(slot))
+    }
 }

@@ -9,7 +9,7 @@ use mathlib.Core.List.{[], ◌∷◌, ◌++◌, append_assoc}
 use lib.Dec.{T}
 use lib.Ieee.{binary32, to_bits, of_bits, fits}
 use lib.Ieee.Bits.{to_bits-lt, of_bits-to_bits}
-use Rattle.listing.specs.declared.Parsed64.TheVariants.{Is}
+use Rattle.std.specs.Prelude.{Some}
 use Rattle.report.specs.declared.Day.{Day}
 use Rattle.listing.specs.Text.{in_line, parts, lines}
 use Rattle.listing.specs.Numbers.{number32, bits}
@@ -167,14 +167,14 @@ day-lines d = rw (day_line_is d, line_then (day_text d) [] (day-no_feed d), none
 pub record DayBack (d : Day) : Type 0 where
   pub lined : lines (day_line d) ≡ day_text d ∷ [] ∷ []
   pub found : parts (day_text d) ≡ day_parts d
-  pub day : d.day < 4294967296 → number32 (decimal d.day) ≡ Is d.day
-  pub learn : d.learn < 4294967296 → number32 (decimal d.learn) ≡ Is d.learn
-  pub review : d.review < 4294967296 → number32 (decimal d.review) ≡ Is d.review
-  pub correct : d.correct < 4294967296 → number32 (decimal d.correct) ≡ Is d.correct
-  pub introduced : d.introduced < 4294967296 → number32 (decimal d.introduced) ≡ Is d.introduced
-  pub cost : T (fits binary32 d.cost) → bits (hex (to_bits binary32 d.cost)) ≡ Is (to_bits binary32 d.cost)
+  pub day : d.day < 4294967296 → number32 (decimal d.day) ≡ Some d.day
+  pub learn : d.learn < 4294967296 → number32 (decimal d.learn) ≡ Some d.learn
+  pub review : d.review < 4294967296 → number32 (decimal d.review) ≡ Some d.review
+  pub correct : d.correct < 4294967296 → number32 (decimal d.correct) ≡ Some d.correct
+  pub introduced : d.introduced < 4294967296 → number32 (decimal d.introduced) ≡ Some d.introduced
+  pub cost : T (fits binary32 d.cost) → bits (hex (to_bits binary32 d.cost)) ≡ Some (to_bits binary32 d.cost)
   pub cost_is : T (fits binary32 d.cost) → of_bits binary32 (to_bits binary32 d.cost) ≡ d.cost
-  pub held : T (fits binary32 d.held) → bits (hex (to_bits binary32 d.held)) ≡ Is (to_bits binary32 d.held)
+  pub held : T (fits binary32 d.held) → bits (hex (to_bits binary32 d.held)) ≡ Some (to_bits binary32 d.held)
   pub held_is : T (fits binary32 d.held) → of_bits binary32 (to_bits binary32 d.held) ≡ d.held
 
 pub day_back : (d : Day) → DayBack d

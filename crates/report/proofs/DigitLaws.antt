@@ -4,12 +4,13 @@ use Prim.Native.Nat.{ℕ, zero, suc, ◌+◌, ◌*◌, ◌/◌, ◌%◌, ◌≤�
 use native.Mathlib.Omega.{arith}
 use native.Mathlib.Nat.{div-lt_iff_lt-mul}
 use mathlib.Core.Bool.{Bool, true, false, cond, ◌&&◌}
-use mathlib.Core.List.{List, [], ◌∷◌, ◌++◌}
+use mathlib.Core.List.{List, [], ◌∷◌, ◌++◌, append_assoc, append-nil}
 use lib.ListN.{length, length-append}
-use lib.Dec.{ltb}
-use borrow.Author.Tests.{ltb-true, ltb-false, lt-ltb, le-leb, lt-leb, eq-eqb}
-use Rattle.listing.specs.declared.Parsed64.TheVariants.{Is}
+use lib.Dec.{ltb, eqb}
+use borrow.Author.Tests.{ltb-true, ltb-false, lt-ltb, le-leb, lt-leb, eq-eqb, ne_eqb}
+use Rattle.std.specs.Prelude.{Some}
 use Rattle.listing.specs.Numbers.{digit, digits, value, number, number32, number64, bits}
+use Rattle.std.specs.Fmt.{digits as digits_text, digits_onto}
 use Rattle.report.specs.Digits.{decimal_in, decimal, hex_byte, hex_in, hex}
 use Rattle.listing.proofs.NumberLaws.{number_is}
 use Rattle.report.proofs.WriteLaws.{hex-length, hex_length_in}
@@ -114,13 +115,43 @@ enough : (n : ℕ) → n < 18446744073709551616 → n < tens 19
 unfolding tens
 enough n h = omega arith
 
+-- the decimal digits that std writes are the same
+decimal_onto : (j k n : ℕ) (acc : List ℕ) → n < tens j → j ≤ k → digits_onto (suc k) 10 false n acc
+    ≡ decimal_in j n ++ acc
+unfolding decimal_in tens
+decimal_onto zero k n acc h l =
+    let z : n / 10 ≡ 0 = omega arith in
+    let d : n % 10 < 10 = omega arith in
+    rw (z, lt-ltb (n % 10) 10 d)
+decimal_onto (suc j) zero n acc h l = absurd (omega arith)
+decimal_onto (suc j) (suc k) n acc h l =
+    go (ltb n 10) refl (decimal_onto j k (n / 10) ((48 + n % 10) ∷ acc) ((div-lt_iff_lt-mul (omega arith)).1 h) (omega arith))
+  where
+    d : ltb (n % 10) 10 ≡ true
+    d = lt-ltb (n % 10) 10 (omega arith)
+
+    go : (b : Bool) → ltb n 10 ≡ b
+        → digits_onto (suc k) 10 false (n / 10) ((48 + n % 10) ∷ acc) ≡ decimal_in j (n / 10) ++ ((48 + n % 10) ∷ acc)
+        → digits_onto (suc (suc k)) 10 false n acc
+        ≡ cond b ((48 + n % 10) ∷ []) (decimal_in j (n / 10) ++ ((48 + n % 10) ∷ [])) ++ acc
+    go true e ih =
+        let z : n / 10 ≡ 0 = omega (arith, ltb-true n 10 e) in
+        rw (z, d)
+    go false e ih =
+        let z : eqb (n / 10) 0 ≡ false = ne_eqb (n / 10) 0 (λ q. omega (arith, ltb-false n 10 e, q)) in
+        rw (append_assoc (decimal_in j (n / 10)) ((48 + n % 10) ∷ []) acc, z, d) ih
+
+pub decimal_text : (n : ℕ) → n < 4294967296 → digits_text 10 false n ≡ decimal n
+unfolding decimal tens digits_text
+decimal_text n h = decimal_onto 19 63 n [] (omega (arith, enough n (omega arith))) (omega arith) ∙ append-nil (decimal_in 19 n)
+
 -- what is written for N is read as N
-pub number64_back : (n : ℕ) → n < 18446744073709551616 → number64 (decimal n) ≡ Is n
+pub number64_back : (n : ℕ) → n < 18446744073709551616 → number64 (decimal n) ≡ Some n
 unfolding number64 decimal
 number64_back n h = number_is 10 18446744073709551615 (decimal_in 19 n) n (decimal_some 19 n) (decimal-digits 19 n)
     (decimal-value 19 n (enough n h)) (omega arith)
 
-pub number32_back : (n : ℕ) → n < 4294967296 → number32 (decimal n) ≡ Is n
+pub number32_back : (n : ℕ) → n < 4294967296 → number32 (decimal n) ≡ Some n
 unfolding number32 decimal
 number32_back n h = number_is 10 4294967295 (decimal_in 19 n) n (decimal_some 19 n) (decimal-digits 19 n)
     (decimal-value 19 n (enough n (omega arith))) (omega arith)
@@ -152,12 +183,12 @@ fits_eight : (n : ℕ) → n < 4294967296 → n < sixteens 8
 unfolding sixteens
 fits_eight n h = h
 
-hex-number : (n : ℕ) → n < 4294967296 → number 16 4294967295 (hex n) ≡ Is n
+hex-number : (n : ℕ) → n < 4294967296 → number 16 4294967295 (hex n) ≡ Some n
 unfolding hex
 hex-number n h = number_is 16 4294967295 (hex_in 8 n) n (omega (arith, hex_length_in 8 n)) (hex-digits 8 n)
     (hex-value 8 n (fits_eight n h)) (omega arith)
 
 -- what is written for W is read as W
-pub bits_back : (n : ℕ) → n < 4294967296 → bits (hex n) ≡ Is n
+pub bits_back : (n : ℕ) → n < 4294967296 → bits (hex n) ≡ Some n
 unfolding bits
 bits_back n h = rw (eq-eqb (length (hex n)) 8 (hex-length n)) (hex-number n h)

@@ -14,21 +14,19 @@ use native.Mathlib.Omega.{arith}
 use mathlib.Core.Bool.{true, false}
 use mathlib.Core.List.{List, [], ◌∷◌}
 use lib.ListN.{length, get_or, set, length-append}
-use lib.Dec.{leb}
-use Rattle.listing.specs.declared.Parsed64.{Parsed64}
-use Rattle.listing.specs.declared.Parsed64.TheVariants.{Is, Not}
+use Rattle.std.specs.Prelude.{Option, Some, None, nat_eq}
+use Rattle.std.specs.Cmp.Lexicographic.{unequal}
 use Rattle.listing.specs.declared.Name.{Name}
 use Rattle.listing.specs.declared.Name.TheVariants.{Parameters, Deck, Span, Seed, Learn, Review, Retention, Maxcost}
 use Rattle.listing.specs.declared.Name.TheVariants.{First, Cost}
 use Rattle.listing.specs.declared.Settings.{Settings}
-use Rattle.listing.specs.Text.{Part, closed, word, parts, same, blank, letter, in_line}
+use Rattle.listing.specs.Text.{Part, closed, word, parts, blank, letter, in_line}
 use Rattle.listing.specs.Numbers.{bits}
-use Rattle.listing.specs.Forms.{name_of, place_of, ends, closes, one, all, these, before, several, accepted, takes, form}
+use Rattle.listing.specs.Forms.{name_of, place_of, ends, closes, alone, one, all, before, several, takes, form}
 use Rattle.listing.specs.Forms.{named, line, read_as, read_lines}
 use Rattle.listing.specs.With.{with_seen}
 use Rattle.report.specs.Digits.{hex}
 use Rattle.report.specs.Canonical.{spaced, form_text, text_of, hexes, AllFit}
-use Rattle.listing.proofs.NumberLaws.{not_same}
 use Rattle.report.proofs.WriteLaws.{hex-length}
 use Rattle.report.proofs.DigitLaws.{bits_back}
 use Rattle.report.proofs.TextLaws.{Word, solid, AllWords, words_then, hex-word, form-parts}
@@ -44,46 +42,45 @@ pub one_word : (w : List ℕ) → Word w → AllWords (w ∷ [])
 unfolding AllWords
 one_word w p = (p, tt)
 
-pub one_back : (f : List ℕ → Parsed64) (w : List ℕ) → one f (words_then (w ∷ [])) ≡ f w
-unfolding one words_then closes ends
+pub one_back : (f : List ℕ → Option ℕ) (w : List ℕ) → one f (words_then (w ∷ [])) ≡ f w
+unfolding one alone words_then closes ends
 one_back f w = refl
 
-pub several_back : (vs : List ℕ) → AllFit vs → several (length vs) (words_then (hexes vs)) ≡ these vs
+pub several_back : (vs : List ℕ) → AllFit vs → several (length vs) (words_then (hexes vs)) ≡ Some vs
 unfolding several words_then hexes closes ends before AllFit
 several_back [] a = refl
 several_back (v ∷ vs) a = rw (bits_back v a.0, several_back vs a.1)
 
-pub all-hexes : (vs : List ℕ) → all (words_then (hexes vs)) ≡ Not
+pub all-hexes : (vs : List ℕ) → all (words_then (hexes vs)) ≡ None
 unfolding all words_then hexes
 all-hexes [] = refl
-all-hexes (v ∷ vs) = rw (not_same (hex v) (bytes "all") (λ e. omega (arith, hex-length v, e)))
+all-hexes (v ∷ vs) = rw (unequal nat_eq (hex v) (bytes "all") (λ e. omega (arith, hex-length v, e)))
 
 one_bits' : (w : List ℕ) → one bits (word w ∷ closed ∷ []) ≡ bits w
-unfolding one closes ends
+unfolding one alone closes ends
 one_bits' w = refl
 
-pub all_back : (v : ℕ) → v < 4294967296 → all (words_then ((bytes "all") ∷ hex v ∷ [])) ≡ Is v
-unfolding all words_then same
+pub all_back : (v : ℕ) → v < 4294967296 → all (words_then ((bytes "all") ∷ hex v ∷ [])) ≡ Some v
+unfolding all words_then
 all_back v h = one_bits' (hex v) ∙ bits_back v h
 
 -- ---- a line
 
-pub form-good : (n : Name) (ps : List Part) (st st' : Settings) → leb 10 (place_of n) ≡ false
-    → get_or st.seen (place_of n) false ≡ false
-    → takes n ps (with_seen (set st.seen (place_of n) true) st) ≡ accepted st' → form n ps st ≡ accepted st'
+pub form-good : (n : Name) (ps : List Part) (st st' : Settings) → get_or st.seen (place_of n) false ≡ false
+    → takes n ps (with_seen (set st.seen (place_of n) true) st) ≡ Some st' → form n ps st ≡ Some st'
 unfolding form
-form-good n ps st st' p q e = rw (p, q) e
+form-good n ps st st' q e = rw q e
 
 pub line_back : (name : List ℕ) (ws : List (List ℕ)) (n : Name) (st st' : Settings) → Word name → AllWords ws
-    → name_of name ≡ n → form n (words_then ws) st ≡ accepted st'
-    → line (parts (form_text name ws)) st ≡ accepted st'
+    → name_of name ≡ Some n → form n (words_then ws) st ≡ Some st'
+    → line (parts (form_text name ws)) st ≡ Some st'
 unfolding line named
 line_back name ws n st st' p a e f = rw (form-parts name ws p a, e) f
 
-pub next-line : (k : ℕ) (l : List ℕ) (ls : List (List ℕ)) (st st' : Settings) → line (parts l) st ≡ accepted st'
+pub next-line : (k : ℕ) (l : List ℕ) (ls : List (List ℕ)) (st st' : Settings) → line (parts l) st ≡ Some st'
     → read_lines k (l ∷ ls) st ≡ read_lines (suc k) ls st'
 unfolding read_lines
-next-line k l ls st st' e = rw e
+next-line k l ls st st' e = rw (e, read_lines)
 
 pub last_line : (k : ℕ) (st : Settings) → read_lines k ([] ∷ []) st ≡ read_as st
 unfolding read_lines line parts
@@ -95,80 +92,80 @@ pub word_parameters : Word (bytes "parameters")
 unfolding solid letter blank in_line
 word_parameters = record { whole = refl; some = omega arith }
 
-pub name_parameters : name_of (bytes "parameters") ≡ Parameters
-unfolding name_of same
+pub name_parameters : name_of (bytes "parameters") ≡ Some Parameters
+unfolding name_of
 name_parameters = refl
 
 pub word-deck : Word (bytes "deck")
 unfolding solid letter blank in_line
 word-deck = record { whole = refl; some = omega arith }
 
-pub name_deck : name_of (bytes "deck") ≡ Deck
-unfolding name_of same
+pub name_deck : name_of (bytes "deck") ≡ Some Deck
+unfolding name_of
 name_deck = refl
 
 pub word-span : Word (bytes "span")
 unfolding solid letter blank in_line
 word-span = record { whole = refl; some = omega arith }
 
-pub name_span : name_of (bytes "span") ≡ Span
-unfolding name_of same
+pub name_span : name_of (bytes "span") ≡ Some Span
+unfolding name_of
 name_span = refl
 
 pub word_seed : Word (bytes "seed")
 unfolding solid letter blank in_line
 word_seed = record { whole = refl; some = omega arith }
 
-pub name_seed : name_of (bytes "seed") ≡ Seed
-unfolding name_of same
+pub name_seed : name_of (bytes "seed") ≡ Some Seed
+unfolding name_of
 name_seed = refl
 
 pub word_learn : Word (bytes "learn")
 unfolding solid letter blank in_line
 word_learn = record { whole = refl; some = omega arith }
 
-pub name_learn : name_of (bytes "learn") ≡ Learn
-unfolding name_of same
+pub name_learn : name_of (bytes "learn") ≡ Some Learn
+unfolding name_of
 name_learn = refl
 
 pub word-review : Word (bytes "review")
 unfolding solid letter blank in_line
 word-review = record { whole = refl; some = omega arith }
 
-pub name_review : name_of (bytes "review") ≡ Review
-unfolding name_of same
+pub name_review : name_of (bytes "review") ≡ Some Review
+unfolding name_of
 name_review = refl
 
 pub word-retention : Word (bytes "retention")
 unfolding solid letter blank in_line
 word-retention = record { whole = refl; some = omega arith }
 
-pub name_retention : name_of (bytes "retention") ≡ Retention
-unfolding name_of same
+pub name_retention : name_of (bytes "retention") ≡ Some Retention
+unfolding name_of
 name_retention = refl
 
 pub word_maxcost : Word (bytes "maxcost")
 unfolding solid letter blank in_line
 word_maxcost = record { whole = refl; some = omega arith }
 
-pub name_maxcost : name_of (bytes "maxcost") ≡ Maxcost
-unfolding name_of same
+pub name_maxcost : name_of (bytes "maxcost") ≡ Some Maxcost
+unfolding name_of
 name_maxcost = refl
 
 pub word_first : Word (bytes "first")
 unfolding solid letter blank in_line
 word_first = record { whole = refl; some = omega arith }
 
-pub name_first : name_of (bytes "first") ≡ First
-unfolding name_of same
+pub name_first : name_of (bytes "first") ≡ Some First
+unfolding name_of
 name_first = refl
 
 pub word_cost : Word (bytes "cost")
 unfolding solid letter blank in_line
 word_cost = record { whole = refl; some = omega arith }
 
-pub name_cost : name_of (bytes "cost") ≡ Cost
-unfolding name_of same
+pub name_cost : name_of (bytes "cost") ≡ Some Cost
+unfolding name_of
 name_cost = refl
 
 pub word-all : Word (bytes "all")

@@ -7,13 +7,13 @@ use mathlib.Core.Path.{◌≡◌, refl, sym, ◌∙◌}
 use mathlib.Core.Bool.{true, false}
 use mathlib.Core.List.{[], ◌∷◌, ◌++◌}
 use lib.ListN.{get_or, set, replicate}
-use lib.Dec.{leb}
+use Rattle.std.specs.Prelude.{Some}
 use Rattle.listing.specs.declared.Name.TheVariants.{Parameters, Deck, Span, Seed, Learn, Review, Retention, Maxcost}
 use Rattle.listing.specs.declared.Name.TheVariants.{First, Cost}
 use Rattle.listing.specs.declared.Settings.{Settings}
 use Rattle.listing.specs.Text.{parts}
 use Rattle.listing.specs.Numbers.{number32, number64, bits}
-use Rattle.listing.specs.Forms.{place_of, all_or, accepted, with_number, sets_number, sets_first, sets_parameters, takes}
+use Rattle.listing.specs.Forms.{place_of, all_or, takes}
 use Rattle.listing.specs.Forms.{line, read_as, read_lines}
 use Rattle.listing.specs.With.{with_seen}
 use Rattle.report.specs.Digits.{decimal, hex}
@@ -199,149 +199,147 @@ module _ (s base : Settings) (ok : Expressible s) where
   cost_words = (word-all, (hex-word (get_or s.cost 0 0), tt))
 
   says_parameters : takes Parameters (words_then (hexes s.parameters))
-      (with_seen (set after_0.seen (place_of Parameters) true) after_0) ≡ accepted after_1
-  unfolding takes sets_parameters all_or place_of after_0 after_1
+      (with_seen (set after_0.seen (place_of Parameters) true) after_0) ≡ Some after_1
+  unfolding takes all_or place_of after_0 after_1
   says_parameters = rw (all-hexes s.parameters, sym ok.many, several_back s.parameters ok.parameters)
 
-  free_parameters : (leb 10 (place_of Parameters) ≡ false) × (get_or after_0.seen (place_of Parameters) false ≡ false)
+  free_parameters : get_or after_0.seen (place_of Parameters) false ≡ false
   unfolding place_of after_0
-  free_parameters = (refl, refl)
+  free_parameters = refl
 
-  line_parameters : line (parts (form_text (bytes "parameters") (hexes s.parameters))) after_0 ≡ accepted after_1
+  line_parameters : line (parts (form_text (bytes "parameters") (hexes s.parameters))) after_0 ≡ Some after_1
   line_parameters = line_back (bytes "parameters") (hexes s.parameters) Parameters after_0 after_1 word_parameters
       (hexes-words s.parameters) name_parameters
-      (form-good Parameters (words_then (hexes s.parameters)) after_0 after_1 free_parameters.0
-      free_parameters.1 says_parameters)
+      (form-good Parameters (words_then (hexes s.parameters)) after_0 after_1 free_parameters says_parameters)
 
   says_deck : takes Deck (words_then (decimal s.deck ∷ []))
-      (with_seen (set after_1.seen (place_of Deck) true) after_1) ≡ accepted after_2
-  unfolding takes sets_number with_number place_of after_1 after_2
+      (with_seen (set after_1.seen (place_of Deck) true) after_1) ≡ Some after_2
+  unfolding takes place_of after_1 after_2
   says_deck = rw (one_back number32 (decimal s.deck), number32_back s.deck ok.deck)
 
-  free_deck : (leb 10 (place_of Deck) ≡ false) × (get_or after_1.seen (place_of Deck) false ≡ false)
+  free_deck : get_or after_1.seen (place_of Deck) false ≡ false
   unfolding place_of after_1
-  free_deck = (refl, refl)
+  free_deck = refl
 
-  line-deck : line (parts (form_text (bytes "deck") (decimal s.deck ∷ []))) after_1 ≡ accepted after_2
+  line-deck : line (parts (form_text (bytes "deck") (decimal s.deck ∷ []))) after_1 ≡ Some after_2
   line-deck = line_back (bytes "deck") (decimal s.deck ∷ []) Deck after_1 after_2 word-deck
       (one_word (decimal s.deck) (decimal-word s.deck)) name_deck
-      (form-good Deck (words_then (decimal s.deck ∷ [])) after_1 after_2 free_deck.0 free_deck.1 says_deck)
+      (form-good Deck (words_then (decimal s.deck ∷ [])) after_1 after_2 free_deck says_deck)
 
   says_span : takes Span (words_then (decimal s.span ∷ []))
-      (with_seen (set after_2.seen (place_of Span) true) after_2) ≡ accepted after_3
-  unfolding takes sets_number with_number place_of after_2 after_3
+      (with_seen (set after_2.seen (place_of Span) true) after_2) ≡ Some after_3
+  unfolding takes place_of after_2 after_3
   says_span = rw (one_back number32 (decimal s.span), number32_back s.span ok.span)
 
-  free_span : (leb 10 (place_of Span) ≡ false) × (get_or after_2.seen (place_of Span) false ≡ false)
+  free_span : get_or after_2.seen (place_of Span) false ≡ false
   unfolding place_of after_2
-  free_span = (refl, refl)
+  free_span = refl
 
-  line-span : line (parts (form_text (bytes "span") (decimal s.span ∷ []))) after_2 ≡ accepted after_3
+  line-span : line (parts (form_text (bytes "span") (decimal s.span ∷ []))) after_2 ≡ Some after_3
   line-span = line_back (bytes "span") (decimal s.span ∷ []) Span after_2 after_3 word-span
       (one_word (decimal s.span) (decimal-word s.span)) name_span
-      (form-good Span (words_then (decimal s.span ∷ [])) after_2 after_3 free_span.0 free_span.1 says_span)
+      (form-good Span (words_then (decimal s.span ∷ [])) after_2 after_3 free_span says_span)
 
   says_seed : takes Seed (words_then (decimal s.seed ∷ []))
-      (with_seen (set after_3.seen (place_of Seed) true) after_3) ≡ accepted after_4
-  unfolding takes sets_number with_number place_of after_3 after_4
+      (with_seen (set after_3.seen (place_of Seed) true) after_3) ≡ Some after_4
+  unfolding takes place_of after_3 after_4
   says_seed = rw (one_back number64 (decimal s.seed), number64_back s.seed ok.seed)
 
-  free_seed : (leb 10 (place_of Seed) ≡ false) × (get_or after_3.seen (place_of Seed) false ≡ false)
+  free_seed : get_or after_3.seen (place_of Seed) false ≡ false
   unfolding place_of after_3
-  free_seed = (refl, refl)
+  free_seed = refl
 
-  line_seed : line (parts (form_text (bytes "seed") (decimal s.seed ∷ []))) after_3 ≡ accepted after_4
+  line_seed : line (parts (form_text (bytes "seed") (decimal s.seed ∷ []))) after_3 ≡ Some after_4
   line_seed = line_back (bytes "seed") (decimal s.seed ∷ []) Seed after_3 after_4 word_seed
       (one_word (decimal s.seed) (decimal-word s.seed)) name_seed
-      (form-good Seed (words_then (decimal s.seed ∷ [])) after_3 after_4 free_seed.0 free_seed.1 says_seed)
+      (form-good Seed (words_then (decimal s.seed ∷ [])) after_3 after_4 free_seed says_seed)
 
   says_learn : takes Learn (words_then (decimal s.learn ∷ []))
-      (with_seen (set after_4.seen (place_of Learn) true) after_4) ≡ accepted after_5
-  unfolding takes sets_number with_number place_of after_4 after_5
+      (with_seen (set after_4.seen (place_of Learn) true) after_4) ≡ Some after_5
+  unfolding takes place_of after_4 after_5
   says_learn = rw (one_back number32 (decimal s.learn), number32_back s.learn ok.learn)
 
-  free_learn : (leb 10 (place_of Learn) ≡ false) × (get_or after_4.seen (place_of Learn) false ≡ false)
+  free_learn : get_or after_4.seen (place_of Learn) false ≡ false
   unfolding place_of after_4
-  free_learn = (refl, refl)
+  free_learn = refl
 
-  line_learn : line (parts (form_text (bytes "learn") (decimal s.learn ∷ []))) after_4 ≡ accepted after_5
+  line_learn : line (parts (form_text (bytes "learn") (decimal s.learn ∷ []))) after_4 ≡ Some after_5
   line_learn = line_back (bytes "learn") (decimal s.learn ∷ []) Learn after_4 after_5 word_learn
       (one_word (decimal s.learn) (decimal-word s.learn)) name_learn
-      (form-good Learn (words_then (decimal s.learn ∷ [])) after_4 after_5 free_learn.0 free_learn.1 says_learn)
+      (form-good Learn (words_then (decimal s.learn ∷ [])) after_4 after_5 free_learn says_learn)
 
   says_review : takes Review (words_then (decimal s.review ∷ []))
-      (with_seen (set after_5.seen (place_of Review) true) after_5) ≡ accepted after_6
-  unfolding takes sets_number with_number place_of after_5 after_6
+      (with_seen (set after_5.seen (place_of Review) true) after_5) ≡ Some after_6
+  unfolding takes place_of after_5 after_6
   says_review = rw (one_back number32 (decimal s.review), number32_back s.review ok.review)
 
-  free_review : (leb 10 (place_of Review) ≡ false) × (get_or after_5.seen (place_of Review) false ≡ false)
+  free_review : get_or after_5.seen (place_of Review) false ≡ false
   unfolding place_of after_5
-  free_review = (refl, refl)
+  free_review = refl
 
-  line-review : line (parts (form_text (bytes "review") (decimal s.review ∷ []))) after_5 ≡ accepted after_6
+  line-review : line (parts (form_text (bytes "review") (decimal s.review ∷ []))) after_5 ≡ Some after_6
   line-review = line_back (bytes "review") (decimal s.review ∷ []) Review after_5 after_6 word-review
       (one_word (decimal s.review) (decimal-word s.review)) name_review
-      (form-good Review (words_then (decimal s.review ∷ [])) after_5 after_6 free_review.0 free_review.1
+      (form-good Review (words_then (decimal s.review ∷ [])) after_5 after_6 free_review
       says_review)
 
   says_retention : takes Retention (words_then (hex s.retention ∷ []))
-      (with_seen (set after_6.seen (place_of Retention) true) after_6) ≡ accepted after_7
-  unfolding takes sets_number with_number place_of after_6 after_7
+      (with_seen (set after_6.seen (place_of Retention) true) after_6) ≡ Some after_7
+  unfolding takes place_of after_6 after_7
   says_retention = rw (one_back bits (hex s.retention), bits_back s.retention ok.retention)
 
-  free_retention : (leb 10 (place_of Retention) ≡ false) × (get_or after_6.seen (place_of Retention) false ≡ false)
+  free_retention : get_or after_6.seen (place_of Retention) false ≡ false
   unfolding place_of after_6
-  free_retention = (refl, refl)
+  free_retention = refl
 
-  line-retention : line (parts (form_text (bytes "retention") (hex s.retention ∷ []))) after_6 ≡ accepted after_7
+  line-retention : line (parts (form_text (bytes "retention") (hex s.retention ∷ []))) after_6 ≡ Some after_7
   line-retention = line_back (bytes "retention") (hex s.retention ∷ []) Retention after_6 after_7 word-retention
       (one_word (hex s.retention) (hex-word s.retention)) name_retention
-      (form-good Retention (words_then (hex s.retention ∷ [])) after_6 after_7 free_retention.0
-      free_retention.1 says_retention)
+      (form-good Retention (words_then (hex s.retention ∷ [])) after_6 after_7 free_retention says_retention)
 
   says_maxcost : takes Maxcost (words_then (hex s.maxcost ∷ []))
-      (with_seen (set after_7.seen (place_of Maxcost) true) after_7) ≡ accepted after_8
-  unfolding takes sets_number with_number place_of after_7 after_8
+      (with_seen (set after_7.seen (place_of Maxcost) true) after_7) ≡ Some after_8
+  unfolding takes place_of after_7 after_8
   says_maxcost = rw (one_back bits (hex s.maxcost), bits_back s.maxcost ok.maxcost)
 
-  free_maxcost : (leb 10 (place_of Maxcost) ≡ false) × (get_or after_7.seen (place_of Maxcost) false ≡ false)
+  free_maxcost : get_or after_7.seen (place_of Maxcost) false ≡ false
   unfolding place_of after_7
-  free_maxcost = (refl, refl)
+  free_maxcost = refl
 
-  line_maxcost : line (parts (form_text (bytes "maxcost") (hex s.maxcost ∷ []))) after_7 ≡ accepted after_8
+  line_maxcost : line (parts (form_text (bytes "maxcost") (hex s.maxcost ∷ []))) after_7 ≡ Some after_8
   line_maxcost = line_back (bytes "maxcost") (hex s.maxcost ∷ []) Maxcost after_7 after_8 word_maxcost
       (one_word (hex s.maxcost) (hex-word s.maxcost)) name_maxcost
-      (form-good Maxcost (words_then (hex s.maxcost ∷ [])) after_7 after_8 free_maxcost.0 free_maxcost.1
+      (form-good Maxcost (words_then (hex s.maxcost ∷ [])) after_7 after_8 free_maxcost
       says_maxcost)
 
   says_first : takes First (words_then (hexes s.first)) (with_seen (set after_8.seen (place_of First) true) after_8)
-      ≡ accepted after_9
-  unfolding takes sets_first place_of after_8 after_9
+      ≡ Some after_9
+  unfolding takes place_of after_8 after_9
   says_first = rw (sym ok.four, several_back s.first ok.first)
 
-  free_first : (leb 10 (place_of First) ≡ false) × (get_or after_8.seen (place_of First) false ≡ false)
+  free_first : get_or after_8.seen (place_of First) false ≡ false
   unfolding place_of after_8
-  free_first = (refl, refl)
+  free_first = refl
 
-  line_first : line (parts (form_text (bytes "first") (hexes s.first))) after_8 ≡ accepted after_9
+  line_first : line (parts (form_text (bytes "first") (hexes s.first))) after_8 ≡ Some after_9
   line_first = line_back (bytes "first") (hexes s.first) First after_8 after_9 word_first (hexes-words s.first)
-      name_first (form-good First (words_then (hexes s.first)) after_8 after_9 free_first.0 free_first.1
+      name_first (form-good First (words_then (hexes s.first)) after_8 after_9 free_first
       says_first)
 
   says_cost : takes Cost (words_then ((bytes "all") ∷ hex (get_or s.cost 0 0) ∷ []))
-      (with_seen (set after_9.seen (place_of Cost) true) after_9) ≡ accepted after_10
-  unfolding takes sets_number with_number place_of after_9 after_10
+      (with_seen (set after_9.seen (place_of Cost) true) after_9) ≡ Some after_10
+  unfolding takes place_of after_9 after_10
   says_cost = rw (all_back (get_or s.cost 0 0) ok.cost)
 
-  free_cost : (leb 10 (place_of Cost) ≡ false) × (get_or after_9.seen (place_of Cost) false ≡ false)
+  free_cost : get_or after_9.seen (place_of Cost) false ≡ false
   unfolding place_of after_9
-  free_cost = (refl, refl)
+  free_cost = refl
 
   line_cost : line (parts (form_text (bytes "cost") ((bytes "all") ∷ hex (get_or s.cost 0 0) ∷ []))) after_9
-      ≡ accepted after_10
+      ≡ Some after_10
   line_cost = line_back (bytes "cost") ((bytes "all") ∷ hex (get_or s.cost 0 0) ∷ []) Cost after_9 after_10 word_cost
       (cost_words) name_cost (form-good Cost (words_then ((bytes "all") ∷ hex (get_or s.cost 0 0) ∷ [])) after_9
-      after_10 free_cost.0 free_cost.1 says_cost)
+      after_10 free_cost says_cost)
 
   pub forms_read : read_lines 1 (forms_of s ++ ([] ∷ [])) after_0 ≡ read_as after_10
   unfolding forms_of

@@ -18,27 +18,26 @@ use lib.Dec.{leb}
 use lib.Ieee.{Float}
 use borrow.Author.Tests.{le-leb}
 use Rattle.report.specs.declared.Day.{Day}
-use Rattle.report.specs.declared.Placed.{Placed}
-use Rattle.report.specs.declared.Placed.TheVariants.{To, Full}
+use Rattle.std.specs.Prelude.{Option, Some, None}
 use Rattle.report.specs.Lines.{day_line, placed, written}
 use Rattle.report.specs.Rows.{day_at, day_lines, days_placed, days_written}
 use Rattle.report.proofs.WriteLaws.{sets_append, day-short}
 
-pub placed_to : (out line : List ℕ) (at n : ℕ) → placed out at line ≡ To n
+pub placed_to : (out line : List ℕ) (at n : ℕ) → placed out at line ≡ Some n
     → (leb (at + length line) (length out) ≡ true) × (at + length line ≡ n)
 unfolding placed
 placed_to out line at n = go (leb (at + length line) (length out)) refl
   where
-    go : (b : Bool) → leb (at + length line) (length out) ≡ b → cond b (To (at + length line)) Full ≡ To n
+    go : (b : Bool) → leb (at + length line) (length out) ≡ b → cond b (Some (at + length line)) None ≡ Some n
         → (leb (at + length line) (length out) ≡ true) × (at + length line ≡ n)
     go true e q = (e, cc)
     go false e q = absurd (let k : ◌≡◌ {A = ℕ} 0 1 = cc in omega arith)
 
-pub placed-full : (out line : List ℕ) (at : ℕ) → placed out at line ≡ Full → leb (at + length line) (length out) ≡ false
+pub placed-full : (out line : List ℕ) (at : ℕ) → placed out at line ≡ None → leb (at + length line) (length out) ≡ false
 unfolding placed
 placed-full out line at = go (leb (at + length line) (length out)) refl
   where
-    go : (b : Bool) → leb (at + length line) (length out) ≡ b → cond b (To (at + length line)) Full ≡ Full
+    go : (b : Bool) → leb (at + length line) (length out) ≡ b → cond b (Some (at + length line)) None ≡ None
         → leb (at + length line) (length out) ≡ false
     go true e q = absurd (let k : ◌≡◌ {A = ℕ} 0 1 = cc in omega arith)
     go false e q = e
@@ -63,7 +62,7 @@ module _ (days : List (List ℕ)) (costs memorized : List Float) (d k at : ℕ) 
   one_more_bytes e = rw e
 
   no_more : leb (at + length (day_line (day_at days costs memorized d))) (length out) ≡ false
-      → days_placed days costs memorized d (suc k) out at ≡ Full
+      → days_placed days costs memorized d (suc k) out at ≡ None
   unfolding days_placed
   no_more e = rw e
 
@@ -87,10 +86,10 @@ module _ (days : List (List ℕ)) (costs memorized : List Float) (span at : ℕ)
       rw f
 
 module _ (days : List (List ℕ)) (costs memorized : List Float) (d span at : ℕ) (out out' : List ℕ) (row : Day)
-    (r : Placed)
+    (r : Option ℕ)
     (row_is : row ≡ day_at days costs memorized d) (r-is : r ≡ placed out at (day_line row))
     (out-is : out' ≡ written out at (day_line row)) where
-  pub rows_on : (n : ℕ) → d < span → r ≡ To n
+  pub rows_on : (n : ℕ) → d < span → r ≡ Some n
       → (days_placed days costs memorized d (span - d) out at ≡ days_placed days costs memorized (d + 1) (span - (d + 1))
       out' n)
       × (days_written days costs memorized d (span - d) out at ≡ days_written days costs memorized (d + 1)
@@ -98,7 +97,7 @@ module _ (days : List (List ℕ)) (costs memorized : List Float) (d span at : �
   rows_on n h e =
       let line : List ℕ = day_line (day_at days costs memorized d) in
       let f : span - d ≡ suc (span - (d + 1)) = omega arith in
-      let q : placed out at line ≡ To n = rw row_is at (sym r-is ∙ e) in
+      let q : placed out at line ≡ Some n = rw row_is at (sym r-is ∙ e) in
       let t = placed_to out line at n q in
       let o : written out at line ≡ out' = sym (rw row_is at out-is) in (
         rw (f, one_more days costs memorized d (span - (d + 1)) at out t.0, o, t.1, add-one d),
@@ -106,8 +105,8 @@ module _ (days : List (List ℕ)) (costs memorized : List Float) (d span at : �
             (f, one_more_bytes days costs memorized d (span - (d + 1)) at out t.0, o, t.1, add-one d),
       )
 
-  pub rows-full : d < span → r ≡ Full
-      → (Full ≡ days_placed days costs memorized d (span - d) out at)
+  pub rows-full : d < span → r ≡ None
+      → (None ≡ days_placed days costs memorized d (span - d) out at)
       × (out' ≡ days_written days costs memorized d (span - d) out at)
   rows-full h e =
       let line : List ℕ = day_line (day_at days costs memorized d) in
@@ -121,7 +120,7 @@ module _ (days : List (List ℕ)) (costs memorized : List Float) (d span at : �
 
 module _ (days : List (List ℕ)) (costs memorized : List Float) (d span at : ℕ) (out : List ℕ) (h : d ≤ span)
     (l : span ≤ d) where
-  pub rows_end : To at ≡ days_placed days costs memorized d (span - d) out at
+  pub rows_end : Some at ≡ days_placed days costs memorized d (span - d) out at
   unfolding days_placed
   rows_end =
       let f : span - d ≡ 0 = omega arith in
@@ -141,7 +140,7 @@ written_sets out line at h = rw (le-leb (at + length line) (length out) h) (sym 
 
 days_sets : (days : List (List ℕ)) (costs memorized : List Float) (k d at : ℕ) (out : List ℕ)
     → at + length (day_lines days costs memorized d k) ≤ length out
-    → (days_placed days costs memorized d k out at ≡ To (at + length (day_lines days costs memorized d k)))
+    → (days_placed days costs memorized d k out at ≡ Some (at + length (day_lines days costs memorized d k)))
     × (days_written days costs memorized d k out at ≡ sets out at (day_lines days costs memorized d k))
 unfolding day_lines days_placed days_written
 days_sets days costs memorized zero d at out h =
@@ -156,14 +155,14 @@ days_sets days costs memorized (suc k) d at out h =
     let g : at + length line + length rest ≤ length (sets out at line) = rw (length-sets out at line) (omega arith) in
     let ih = days_sets days costs memorized k (suc d) (at + length line) (sets out at line) g in
     let e : at + length line + length rest ≡ at + length (line ++ rest) = omega arith in (
-      rw (le-leb (at + length line) (length out) f, w) (ih.0 ∙ ap To e),
+      rw (le-leb (at + length line) (length out) f, w) (ih.0 ∙ ap Some e),
       rw
           (le-leb (at + length line) (length out) f, w) (ih.1 ∙ sym (sets_append out at line rest)),
     )
 
 pub days_whole : (days : List (List ℕ)) (costs memorized : List Float) (k d at : ℕ) (out : List ℕ)
     → at + length (day_lines days costs memorized d k) ≤ length out
-    → (days_placed days costs memorized d k out at ≡ To (at + length (day_lines days costs memorized d k)))
+    → (days_placed days costs memorized d k out at ≡ Some (at + length (day_lines days costs memorized d k)))
     × (days_written days costs memorized d k out at ≡ written out at (day_lines days costs memorized d k))
 days_whole days costs memorized k d at out h =
     let p = days_sets days costs memorized k d at out h in

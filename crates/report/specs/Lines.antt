@@ -1,16 +1,11 @@
 -- The lines that are printed, and a line in a lent list. Definitions only.
 --   forecast_line, day_line, refused_line, cheapest_line   the lines, each with its line feed
 --   placed out at line, written out at line            a line in a list from a place on: where it ends, and the list
---   Put, Holds                                         for the code's contracts
-use Rattle.std.specs.Prelude.{ℕ, ◌+◌, ◌≤◌, cond, List, ◌++◌, ◌≡◌, length, take, drop, leb, Float}
-use Rattle.std.proofs.lemmas.List.Edits.{sets}
+use Rattle.std.specs.Prelude.{ℕ, ◌+◌, cond, List, ◌++◌, length, take, drop, leb, Float, Option, Some, None}
 use Rattle.std.specs.Float.{binary32}
 use Rattle.std.specs.Float.Ieee.{to_bits}
 use Rattle.listing.specs.Quoted.{bytes}
 use Rattle.report.specs.declared.Day.{Day}
-use Rattle.report.specs.declared.Line.{Line}
-use Rattle.report.specs.declared.Placed.{Placed}
-use Rattle.report.specs.declared.Placed.TheVariants.{To, Full}
 use Rattle.report.specs.Digits.{decimal, hex}
 
 -- ---- lines
@@ -55,22 +50,9 @@ cheapest_line retention rounds mean =
 
 -- ---- a line in a lent list: whole, or not at all
 
-unfoldable pub placed : List ℕ → ℕ → List ℕ → Placed
-placed out at line = cond (leb (at + length line) (length out)) (To (at + length line)) Full
+unfoldable pub placed : List ℕ → ℕ → List ℕ → Option ℕ
+placed out at line = cond (leb (at + length line) (length out)) (Some (at + length line)) None
 
 unfoldable pub written : List ℕ → ℕ → List ℕ → List ℕ
 written out at line =
     cond (leb (at + length line) (length out)) (take at out ++ line ++ drop (at + length line) out) out
-
--- ---- for the code's contracts
-
--- `bs` written from `at` on: r is the place behind, `after` the list; what finds no place is not written
-pub record Put (was : List ℕ) (at : ℕ) (bs : List ℕ) (r : ℕ) (after : List ℕ) : Type 0 where
-  pub place : r ≡ at + length bs
-  pub bytes : after ≡ sets was at bs
-
--- a line that the code holds: the first `len` of 256 bytes
-pub record Holds (l : Line) (line : List ℕ) : Type 0 where
-  pub room : length l.bytes ≡ 256
-  pub short : l.len ≤ 256
-  pub says : take l.len l.bytes ≡ line

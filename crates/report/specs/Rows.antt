@@ -6,8 +6,7 @@
 use Rattle.std.specs.Prelude.{ℕ, zero, suc, ◌+◌, Bool, cond, ◌&&◌, List, [], ◌++◌, length, get_or, leb, Float}
 use Rattle.std.specs.Float.{nan}
 use Rattle.report.specs.declared.Day.{Day}
-use Rattle.report.specs.declared.Placed.{Placed}
-use Rattle.report.specs.declared.Placed.TheVariants.{To, Full}
+use Rattle.std.specs.Prelude.{Option, Some, None}
 use Rattle.report.specs.Lines.{day_line, written}
 
 -- the rows of a run: learned, reviewed, correct and introduced of each day, its cost, and what is held on it
@@ -27,11 +26,11 @@ module _ (days : List (List ℕ)) (costs memorized : List Float) where
   day_lines d zero = []
   day_lines d (suc k) = day_line (day_at d) ++ day_lines (suc d) k
 
-  unfoldable pub days_placed : ℕ → ℕ → List ℕ → ℕ → Placed
-  days_placed d zero out at = To at
+  unfoldable pub days_placed : ℕ → ℕ → List ℕ → ℕ → Option ℕ
+  days_placed d zero out at = Some at
   days_placed d (suc k) out at =
       let line : List ℕ = day_line (day_at d) in
-      cond (leb (at + length line) (length out)) (days_placed (suc d) k (written out at line) (at + length line)) Full
+      cond (leb (at + length line) (length out)) (days_placed (suc d) k (written out at line) (at + length line)) None
 
   unfoldable pub days_written : ℕ → ℕ → List ℕ → ℕ → List ℕ
   days_written d zero out at = out
@@ -43,8 +42,8 @@ module _ (days : List (List ℕ)) (costs memorized : List Float) where
   unfoldable pub has_rows : ℕ → Bool
   has_rows span = leb span (length days) && (leb span (length costs) && leb span (length memorized))
 
-  unfoldable pub span_placed : ℕ → List ℕ → ℕ → Placed
-  span_placed span out at = cond (has_rows span) (days_placed 0 span out at) Full
+  unfoldable pub span_placed : ℕ → List ℕ → ℕ → Option ℕ
+  span_placed span out at = cond (has_rows span) (days_placed 0 span out at) None
 
   unfoldable pub span_written : ℕ → List ℕ → ℕ → List ℕ
   span_written span out at = cond (has_rows span) (days_written 0 span out at) out

@@ -1,27 +1,18 @@
 // The lines of a forecast, and numbers in them, as bytes in a lent list. A line is written whole or not at all.
 #![tactic(auto)]
 
-ghost use Rattle.std.specs.Prelude.{◌≡◌, ◌++◌, ◌+◌, ◌<◌, ◌≤◌, ◌^◌, length, set};
+ghost use Rattle.std.specs.Prelude.{◌≡◌, ◌++◌, ◌+◌, ◌<◌, ◌≤◌, length};
 ghost use Rattle.report.specs.Digits.{decimal, hex};
-ghost use Rattle.report.specs.Lines.{Put, Holds, placed, written, day_line, forecast_line, refused_line};
-ghost use Rattle.report.specs.Lines.{cheapest_line};
+ghost use Rattle.report.specs.Lines.{word, placed, written, day_line, forecast_line, refused_line, cheapest_line};
 ghost use Rattle.report.specs.Rows.{day_at, days_placed, days_written, span_placed, span_written};
+
+use arrayvec::ArrayVec;
+use itoa::Buffer;
 
 mod digits;
 
-// A line, the first `len` of the bytes.
-#[derive(Clone, Copy)]
-pub struct Line {
-    pub bytes: [u8; 256],
-    pub len: usize,
-}
-
-// Where a line that was written ends; or that there was no room.
-#[derive(Clone, Copy)]
-pub enum Placed {
-    To(usize),
-    Full,
-}
+// The longest line has 183 bytes.
+type Line = ArrayVec<u8, 256>;
 
 // A day's row.
 #[derive(Clone, Copy)]
@@ -35,180 +26,152 @@ pub struct Day {
     pub held: f32,
 }
 
-fn wide(x: u32) -> u64
-    ensures { result ≡ x }
+fn push_text(line: &mut Line, text: &[u8])
+    requires { length line.old.items + length text.now ≤ 256 }
+    ensures { line.new.items ≡ line.old.items ++ text.now }
 {
-    x as u64
-}
-
-// A byte, if it finds a place.
-fn put(out: &mut [u8], at: usize, b: u8)
-    ensures { out.new ≡ set out.old at b }
-{
-    if at < out.len() {
-        out[at] = b;
-    }
-}
-
-// All of `text` from `at` on; what finds no place is not written.
-fn put_text(out: &mut [u8], at: usize, text: &[u8]) -> usize
-    requires { at + length text.now < 2 ^ 64 }
-    ensures { Put out.old at text.now result out.new }
-{
-    let mut i: usize = 0;
-    while i < text.len() {
-        put(out, at + i, text[i]);
-        i += 1;
-    }
-    at + i
+    line.try_extend_from_slice(text).unwrap();
 }
 
 // A label and N.
-fn put_number(out: &mut [u8], at: usize, label: &[u8], n: u64) -> usize
-    requires { (at ≤ 4096) × (length label.now ≤ 64) }
-    ensures put { Put out.old at (label.now ++ decimal n) result out.new }
-    ensures upper_bound { result ≤ at + length label.now + 20 }
+fn push_number(line: &mut Line, label: &[u8], n: u32)
+    requires { length line.old.items + length label.now + 20 ≤ 256 }
+    ensures says { line.new.items ≡ line.old.items ++ (label.now ++ decimal n) }
+    ensures short { length line.new.items ≤ length line.old.items + length label.now + 20 }
 {
-    let k = put_text(out, at, label);
-    let digits = digits::digits_of(n);
-    let from = digits.from;
-    let bytes = digits.bytes;
-    put_text(out, k, &bytes[from..])
+    push_text(line, label);
+    push_text(line, Buffer::new().format(n).as_bytes());
 }
 
 // A label and W.
-fn put_bits(out: &mut [u8], at: usize, label: &[u8], w: u32) -> usize
-    requires { (at ≤ 4096) × (length label.now ≤ 64) }
-    ensures put { Put out.old at (label.now ++ hex w) result out.new }
-    ensures upper_bound { result ≤ at + length label.now + 20 }
+fn push_bits(line: &mut Line, label: &[u8], x: f32)
+    requires { length line.old.items + length label.now + 20 ≤ 256 }
+    ensures says { line.new.items ≡ line.old.items ++ (label.now ++ word x) }
+    ensures short { length line.new.items ≤ length line.old.items + length label.now + 20 }
 {
-    let k = put_text(out, at, label);
-    let bytes = digits::hex_of(w);
-    put_text(out, k, &bytes)
+    push_text(line, label);
+    push_text(line, &digits::hex_of(float32::to_bits(x)));
 }
 
+#[tactic(auto, using(std::proofs::Common::append_assoc), unfolding(crate::specs::Lines::forecast_line))]
 fn forecast_line(span: u32, turns: u32, cards: u32) -> Line
-    ensures { Holds result (forecast_line span turns cards) }
+    ensures { result.items ≡ forecast_line span turns cards }
 {
-    let mut bytes = [0u8; 256];
-    let a = put_number(&mut bytes, 0, b"(forecast ", wide(span));
-    let b = put_number(&mut bytes, a, b" (turns ", wide(turns));
-    let c = put_number(&mut bytes, b, b") (cards ", wide(cards));
-    let len = put_text(&mut bytes, c, b"))\n");
-    Line { bytes, len }
+    let mut line = Line::new();
+    push_number(&mut line, b"(forecast ", span);
+    push_number(&mut line, b" (turns ", turns);
+    push_number(&mut line, b") (cards ", cards);
+    push_text(&mut line, b"))\n");
+    line
 }
 
+#[tactic(auto, using(std::proofs::Common::append_assoc), unfolding(crate::specs::Lines::refused_line))]
 fn refused_line(number: u32, second: u32) -> Line
-    ensures { Holds result (refused_line number second) }
+    ensures { result.items ≡ refused_line number second }
 {
-    let mut bytes = [0u8; 256];
-    let a = put_number(&mut bytes, 0, b"(refused ", wide(number));
-    let b = put_number(&mut bytes, a, b" ", wide(second));
-    let len = put_text(&mut bytes, b, b")\n");
-    Line { bytes, len }
+    let mut line = Line::new();
+    push_number(&mut line, b"(refused ", number);
+    push_number(&mut line, b" ", second);
+    push_text(&mut line, b")\n");
+    line
 }
 
+#[tactic(auto, using(std::proofs::Common::append_assoc), unfolding(crate::specs::Lines::cheapest_line))]
 fn cheapest_line(retention: f32, rounds: u32, mean: f32) -> Line
-    ensures { Holds result (cheapest_line retention rounds mean) }
+    ensures { result.items ≡ cheapest_line retention rounds mean }
 {
-    let mut bytes = [0u8; 256];
-    let a = put_bits(&mut bytes, 0, b"(cheapest ", float32::to_bits(retention));
-    let b = put_number(&mut bytes, a, b" (rounds ", wide(rounds));
-    let c = put_bits(&mut bytes, b, b") (mean ", float32::to_bits(mean));
-    let len = put_text(&mut bytes, c, b"))\n");
-    Line { bytes, len }
+    let mut line = Line::new();
+    push_bits(&mut line, b"(cheapest ", retention);
+    push_number(&mut line, b" (rounds ", rounds);
+    push_bits(&mut line, b") (mean ", mean);
+    push_text(&mut line, b"))\n");
+    line
 }
 
+#[tactic(auto, using(std::proofs::Common::append_assoc), unfolding(crate::specs::Lines::day_line))]
 fn day_line(d: Day) -> Line
-    ensures { Holds result (day_line d) }
+    ensures { result.items ≡ day_line d }
 {
-    let mut bytes = [0u8; 256];
-    let a = put_number(&mut bytes, 0, b"(day ", wide(d.day));
-    let b = put_number(&mut bytes, a, b" (learn ", wide(d.learn));
-    let c = put_number(&mut bytes, b, b") (review ", wide(d.review));
-    let e = put_number(&mut bytes, c, b") (correct ", wide(d.correct));
-    let f = put_number(&mut bytes, e, b") (introduced ", wide(d.introduced));
-    let g = put_bits(&mut bytes, f, b") (cost ", float32::to_bits(d.cost));
-    let h = put_bits(&mut bytes, g, b") (held ", float32::to_bits(d.held));
-    let len = put_text(&mut bytes, h, b"))\n");
-    Line { bytes, len }
+    let mut line = Line::new();
+    push_number(&mut line, b"(day ", d.day);
+    push_number(&mut line, b" (learn ", d.learn);
+    push_number(&mut line, b") (review ", d.review);
+    push_number(&mut line, b") (correct ", d.correct);
+    push_number(&mut line, b") (introduced ", d.introduced);
+    push_bits(&mut line, b") (cost ", d.cost);
+    push_bits(&mut line, b") (held ", d.held);
+    push_text(&mut line, b"))\n");
+    line
 }
 
-// A line from `at` on, whole or not at all.
-pub fn write_line(out: &mut [u8], at: usize, line: &[u8]) -> Placed
+// A line from `at` on, whole or not at all: where it ends, if there was room.
+#[tactic(auto, unfolding(crate::specs::Lines::placed, crate::specs::Lines::written))]
+pub fn write_line(out: &mut [u8], at: usize, line: &[u8]) -> Option<usize>
     ensures { (result ≡ placed out.old at line.now)
         × (out.new ≡ written out.old at line.now) }
 {
-    if out.len() < at {
-        return Placed::Full;
+    let end = at.checked_add(line.len())?;
+    if out.len() < end {
+        return None;
     }
-    if out.len() - at < line.len() {
-        return Placed::Full;
-    }
-    Placed::To(put_text(out, at, line))
+    out[at..end].copy_from_slice(line);
+    Some(end)
 }
 
 // `(day ..)`.
-pub fn write_day(out: &mut [u8], at: usize, d: Day) -> Placed
+pub fn write_day(out: &mut [u8], at: usize, d: Day) -> Option<usize>
     ensures { (result ≡ placed out.old at (day_line d))
         × (out.new ≡ written out.old at (day_line d)) }
 {
-    let line = day_line(d);
-    let n = line.len;
-    let bytes = line.bytes;
-    write_line(out, at, &bytes[..n])
+    write_line(out, at, &day_line(d))
 }
 
 // `(forecast ..)`.
-pub fn write_forecast(out: &mut [u8], at: usize, span: u32, turns: u32, cards: u32) -> Placed
+pub fn write_forecast(out: &mut [u8], at: usize, span: u32, turns: u32, cards: u32) -> Option<usize>
     ensures { (result ≡ placed out.old at (forecast_line span turns cards))
         × (out.new ≡ written out.old at (forecast_line span turns cards)) }
 {
-    let line = forecast_line(span, turns, cards);
-    let n = line.len;
-    let bytes = line.bytes;
-    write_line(out, at, &bytes[..n])
+    write_line(out, at, &forecast_line(span, turns, cards))
 }
 
 // `(refused ..)`.
-pub fn write_refused(out: &mut [u8], at: usize, number: u32, second: u32) -> Placed
+pub fn write_refused(out: &mut [u8], at: usize, number: u32, second: u32) -> Option<usize>
     ensures { (result ≡ placed out.old at (refused_line number second))
         × (out.new ≡ written out.old at (refused_line number second)) }
 {
-    let line = refused_line(number, second);
-    let n = line.len;
-    let bytes = line.bytes;
-    write_line(out, at, &bytes[..n])
+    write_line(out, at, &refused_line(number, second))
 }
 
 // `(cheapest ..)`.
-pub fn write_cheapest(out: &mut [u8], at: usize, retention: f32, rounds: u32, mean: f32) -> Placed
+pub fn write_cheapest(
+    out: &mut [u8],
+    at: usize,
+    retention: f32,
+    rounds: u32,
+    mean: f32,
+) -> Option<usize>
     ensures { (result ≡ placed out.old at (cheapest_line retention rounds mean))
         × (out.new ≡ written out.old at (cheapest_line retention rounds mean)) }
 {
-    let line = cheapest_line(retention, rounds, mean);
-    let n = line.len;
-    let bytes = line.bytes;
-    write_line(out, at, &bytes[..n])
+    write_line(out, at, &cheapest_line(retention, rounds, mean))
 }
 
 // The row of day d.
+#[tactic(auto, unfolding(crate::specs::Rows::day_at))]
 fn day_at(days: &[[u32; 4]], costs: &[f32], memorized: &[f32], d: u32) -> Day
     requires { (d < length days.now) × ((d < length costs.now) × (d < length memorized.now)) }
     ensures { result ≡ day_at days.now costs.now memorized.now d }
 {
     let i = d as usize;
-    let count = days[i];
-    let cost = costs[i];
-    let held = memorized[i];
+    let [learn, review, correct, introduced] = days[i];
     Day {
         day: d,
-        learn: count[0],
-        review: count[1],
-        correct: count[2],
-        introduced: count[3],
-        cost,
-        held,
+        learn,
+        review,
+        correct,
+        introduced,
+        cost: costs[i],
+        held: memorized[i],
     }
 }
 
@@ -220,7 +183,7 @@ fn write_rows(
     costs: &[f32],
     memorized: &[f32],
     span: u32,
-) -> Placed
+) -> Option<usize>
     requires { (span ≤ length days.now) × ((span ≤ length costs.now) × (span ≤ length memorized.now)) }
     ensures { (result ≡ days_placed days.now costs.now memorized.now 0 span
         out.old from)
@@ -228,23 +191,14 @@ fn write_rows(
         out.old from) }
 {
     let mut at = from;
-    let mut d: u32 = 0;
-    while d < span {
-        let row = day_at(days, costs, memorized, d);
-        match write_day(out, at, row) {
-            Placed::To(n) => {
-                at = n;
-                d += 1;
-            }
-            Placed::Full => {
-                return Placed::Full;
-            }
-        }
+    for d in 0..span {
+        at = write_day(out, at, day_at(days, costs, memorized, d))?;
     }
-    Placed::To(at)
+    Some(at)
 }
 
 // The lines of the first `span` days.
+#[tactic(auto, unfolding(crate::specs::Rows::span_placed, crate::specs::Rows::span_written, crate::specs::Rows::has_rows))]
 pub fn write_days(
     out: &mut [u8],
     at: usize,
@@ -252,21 +206,15 @@ pub fn write_days(
     costs: &[f32],
     memorized: &[f32],
     span: u32,
-) -> Placed
+) -> Option<usize>
     ensures { (result ≡ span_placed days.now costs.now memorized.now span
         out.old at)
         × (out.new ≡ span_written days.now costs.now memorized.now span
         out.old at) }
 {
     let n = span as usize;
-    if days.len() < n {
-        return Placed::Full;
-    }
-    if costs.len() < n {
-        return Placed::Full;
-    }
-    if memorized.len() < n {
-        return Placed::Full;
+    if days.len() < n || costs.len() < n || memorized.len() < n {
+        return None;
     }
     write_rows(out, at, days, costs, memorized, span)
 }

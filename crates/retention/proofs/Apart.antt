@@ -13,9 +13,8 @@ use lib.Seq.{get_or-take}
 use lib.Ieee.{Float, nan}
 use Rattle.draws.specs.Draws.{split_mix}
 use Rattle.entry.specs.declared.Refusal.{Refusal}
-use Rattle.entry.specs.declared.Check.TheVariants as check
 use Rattle.simulation.specs.State.{State, Lent, state, lists_of}
-use Rattle.entry.specs.Entry.{Inputs}
+use Rattle.entry.specs.Entry.{Inputs, passed}
 use Rattle.simulation.specs.Frame.{SameLengths}
 use Rattle.simulation.specs.Simulate.{simulated}
 use Rattle.simulation.proofs.Contract.{lists_and_span}
@@ -55,7 +54,7 @@ same_said r r' x x' l l' e f = rw (e, f) (go r)
     go (some w) = refl
 
 pub run_apart : (rounds : ℕ) (i : Inputs) (l l' : Lent Float) (u : Float) (n : ℕ)
-    → checked_search rounds i l ≡ check.Passed → SameLengths l l' → SameLengths l l → T (within u)
+    → checked_search rounds i l ≡ passed → SameLengths l l' → SameLengths l l → T (within u)
     → trial_of (run_of i u n l') ≡ trial_of (run_of i u n l)
 unfolding run_of
 run_apart rounds i l l' u n e h same w =

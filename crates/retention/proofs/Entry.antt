@@ -16,30 +16,26 @@ use Rattle.float32.specs.Ops.{◌+ᶠ◌}
 use Rattle.turns.proofs.Logic.{both}
 use Rattle.draws.specs.Draws.{split_mix}
 use Rattle.entry.specs.declared.Refusal.{Refusal}
-use Rattle.entry.specs.declared.Check.{Check}
-use Rattle.entry.specs.declared.Check.TheVariants as check
-use Rattle.simulation.specs.declared.Answer.{Answer}
+use Rattle.std.specs.Prelude.{Ok, Err}
 use Rattle.simulation.specs.declared.Progress.{Progress}
-use Rattle.simulation.specs.declared.Answer.TheVariants as answer
 use Rattle.simulation.specs.State.{Lent, state, lists_of}
-use Rattle.entry.specs.Entry.{Inputs, inputs, lengths_ok, check_settings}
+use Rattle.entry.specs.Entry.{Check, passed, Inputs, inputs, lengths_ok, check_settings}
 use Rattle.simulation.specs.Checked.{checked_with, checked}
 use Rattle.entry.specs.Refusals.{number_of}
 use Rattle.simulation.specs.Frame.{beyond, SameLengths}
-use Rattle.simulation.specs.Simulate.{rules_for, simulated}
+use Rattle.simulation.specs.Simulate.{Answer, rules_for, simulated}
+use Rattle.simulation.specs.Simulate as Simulate
 use Rattle.simulation.specs.Demands.{end_of}
 use Rattle.simulation.proofs.Demands.{demands}
 use Rattle.simulation.proofs.Contract.{same_tests, setting_ok}
 use Rattle.brent.specs.Step.{within}
 use Rattle.brent.specs.Search.{Sampled, gives, refuses, ended, search, Lawful}
 use Rattle.brent.proofs.Range.{within_finite}
-use Rattle.retention.specs.declared.SearchAnswer.{SearchAnswer}
-use Rattle.retention.specs.declared.SearchAnswer.TheVariants as said
 use Rattle.retention.specs.SampleSize.{sample_size}
 use Rattle.retention.specs.Trials.{first_seed, run_inputs, refusal_in, sampled_as, run_of, and_then, runs_from}
 use Rattle.retention.specs.Trials.{mean_of}
 use Rattle.retention.specs.Trials.{sample}
-use Rattle.retention.specs.Retention.{most_rounds, rounds_ok, checked_search, optimal_retention, IsSearched}
+use Rattle.retention.specs.Retention.{most_rounds, rounds_ok, checked_search, optimal_retention, SearchAnswer, IsSearched}
 use Rattle.retention.specs.Laws.{beyond_runs}
 
 -- ---- the contract of a call
@@ -50,17 +46,17 @@ module _ (i : Inputs) (rounds : ℕ) (l : Lent Float) where
       → c ≡ checked_search rounds i l
   entry_is ok f e = same_tests i (state l 0 i.seed) ok e ∙ ap (λ (b : Bool). checked_with b i (state l 0 i.seed)) f
 
-  pub search-refused : (r : Refusal) → checked_search rounds i l ≡ check.Failed r
-      → IsSearched (optimal_retention i rounds l) (said.Refused r) l
+  pub search-refused : (r : Refusal) → checked_search rounds i l ≡ Err r
+      → IsSearched (optimal_retention i rounds l) (Err r) l
   unfolding optimal_retention ended
   search-refused r e = rw e (record { answer = refl; lists = refl })
 
-  pub search_passed : checked_search rounds i l ≡ check.Passed → {r : SearchAnswer} {after : Lent Float}
+  pub search_passed : checked_search rounds i l ≡ passed → {r : SearchAnswer} {after : Lent Float}
       → IsSearched (search (sample i) rounds l) r after → IsSearched (optimal_retention i rounds l) r after
   unfolding optimal_retention
   search_passed e c = rw e c
 
-  pub rounds_few : checked_search rounds i l ≡ check.Passed → rounds ≤ most_rounds
+  pub rounds_few : checked_search rounds i l ≡ passed → rounds ≤ most_rounds
   unfolding rounds_ok
   rounds_few e =
       let ok = setting_ok (rounds_ok rounds) i (state l 0 i.seed) e in
@@ -75,8 +71,8 @@ same_lengths ok i j a a' b b' l l' p q r s h =
     rw (p, q, r, s, h.cards, h.counts, h.rows, h.days, h.costs, h.memorized, h.due, h.keys, h.intervals)
 
 pub passes_again : (rounds : ℕ) (i : Inputs) (l l' : Lent Float) (u : Float) (n : ℕ)
-    → checked_search rounds i l ≡ check.Passed → SameLengths l l' → T (within u)
-    → checked (run_inputs i u n) (state l' 0 (first_seed + n)) ≡ check.Passed
+    → checked_search rounds i l ≡ passed → SameLengths l l' → T (within u)
+    → checked (run_inputs i u n) (state l' 0 (first_seed + n)) ≡ passed
 passes_again rounds i l l' u n e h w =
     let ok = setting_ok (rounds_ok rounds) i (state l 0 i.seed) e in
     ap (λ (b : Bool). checked_with b (run_inputs i u n) (state l' 0 (first_seed + n))) (within_finite u w ∙ sym ok)
@@ -104,7 +100,7 @@ pub record Keeps (i : Inputs) (l l' : Lent Float) : Type 0 where
   pub lengths : SameLengths l l'
   pub behind : beyond_runs i l' ≡ beyond_runs i l
 
-module _ (rounds : ℕ) (i : Inputs) (l : Lent Float) (e : checked_search rounds i l ≡ check.Passed) where
+module _ (rounds : ℕ) (i : Inputs) (l : Lent Float) (e : checked_search rounds i l ≡ passed) where
   abbrev Lawfully : Sampled (Lent Float) Refusal → Type 0
   Lawfully = Lawful (Keeps i l) SevenOrEight
 
@@ -124,11 +120,11 @@ module _ (rounds : ℕ) (i : Inputs) (l : Lent Float) (e : checked_search rounds
       (record { lengths = longer h.lengths same; behind = far ∙ h.behind })
     where
       go : (a : Option Answer) (x : Float) (after : Lent Float)
-          → ((r : Refusal) (p : Progress) → a ≡ some (answer.Refused r p) → SevenOrEight r) → Keeps i l after
+          → ((r : Refusal) (p : Progress) → a ≡ some (Simulate.refused r p) → SevenOrEight r) → Keeps i l after
           → Lawfully (sampled_as (refusal_in a) x after)
       go none x after f k = k
-      go (some (answer.Finished p)) x after f k = k
-      go (some (answer.Refused r p)) x after f k = (k, f r p refl)
+      go (some (Ok p)) x after f k = k
+      go (some (Err r)) x after f k = (k, f r.refusal r.progress refl)
 
   runs_lawful : (u : Float) (m n : ℕ) (sum : Float) (l' : Lent Float) → Keeps i l l' → T (within u)
       → Lawfully (runs_from i u m n sum l')

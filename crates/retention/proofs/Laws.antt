@@ -9,10 +9,9 @@ use lib.Dec.{T}
 use lib.ListN.{length}
 use lib.Ieee.{Float, is_nan}
 use Rattle.entry.specs.declared.Refusal.{Refusal}
-use Rattle.entry.specs.declared.Check.{Check}
-use Rattle.entry.specs.declared.Check.TheVariants as check
+use Rattle.std.specs.Prelude.{Ok, Err}
 use Rattle.simulation.specs.State.{Lent}
-use Rattle.entry.specs.Entry.{Inputs}
+use Rattle.entry.specs.Entry.{Check, passed, Inputs}
 use Rattle.simulation.specs.Frame.{SameLengths}
 use Rattle.brent.specs.Search.{Answer, found, not_found, refused, Searched, ended, search, Each, NotBelow}
 use Rattle.brent.specs.Search.{WasTried, FoundWithin, OneMore, OnlySpent, NeverTen, RefusedBy}
@@ -21,10 +20,9 @@ use Rattle.brent.proofs.Driven.{driven_is}
 use Rattle.brent.proofs.Laws as Method
 use Rattle.brent.proofs.Trials as Trials
 use Rattle.brent.proofs.Asked.{left_as}
-use Rattle.retention.specs.declared.SearchAnswer.{SearchAnswer}
 use Rattle.retention.specs.Trials.{sample}
 use Rattle.retention.specs.Retention.{checked_search, optimal_retention, answer_of, number_of, IsSearched}
-use Rattle.retention.specs.Retention.{SearchContract}
+use Rattle.retention.specs.Retention.{SearchAnswer, SearchContract}
 use Rattle.retention.specs.Laws.{SearchLaws}
 use Rattle.retention.proofs.Entry.{SevenOrEight, Keeps, trials_lawful}
 use Rattle.retention.proofs.Apart.{run_apart}
@@ -53,11 +51,11 @@ module _ (i : Inputs) (rounds : ℕ) (l : Lent Float) where
   abbrev result : Searched (Lent Float) Refusal
   result = optimal_retention i rounds l
 
-  refused_is : (r : Refusal) → checked_search rounds i l ≡ check.Failed r → result ≡ ended l (refused r)
+  refused_is : (r : Refusal) → checked_search rounds i l ≡ Err r → result ≡ ended l (refused r)
   unfolding optimal_retention
   refused_is r e = rw e
 
-  passed_is : checked_search rounds i l ≡ check.Passed → result ≡ search (sample i) rounds l
+  passed_is : checked_search rounds i l ≡ passed → result ≡ search (sample i) rounds l
   unfolding optimal_retention
   passed_is e = rw e
 
@@ -67,11 +65,11 @@ module _ (i : Inputs) (rounds : ℕ) (l : Lent Float) where
   by-entry P f p = go (checked_search rounds i l) refl
     where
       go : (c : Check) → checked_search rounds i l ≡ c → P result
-      go (check.Failed r) e = rw (refused_is r e) (f r)
-      go check.Passed e = rw (passed_is e) p
+      go (Err r) e = rw (refused_is r e) (f r)
+      go (Ok u) e = rw (passed_is e) p
 
   -- of an accepted search: what its trials keep holds in the end, and it is refused only as they are
-  passed_so : checked_search rounds i l ≡ check.Passed
+  passed_so : checked_search rounds i l ≡ passed
       → Keeps i l result.left × RefusedBy SevenOrEight result.answer
   passed_so e =
       rw (passed_is e)
@@ -83,8 +81,8 @@ module _ (i : Inputs) (rounds : ℕ) (l : Lent Float) where
   untouched p q = go (checked_search rounds i l) refl
     where
       go : (c : Check) → checked_search rounds i l ≡ c → result.left ≡ l
-      go (check.Failed r) e = ap (λ (x : Searched (Lent Float) Refusal). x.left) (refused_is r e)
-      go check.Passed e = absurd (run-number result.answer (passed_so e).1 p q)
+      go (Err r) e = ap (λ (x : Searched (Lent Float) Refusal). x.left) (refused_is r e)
+      go (Ok u) e = absurd (run-number result.answer (passed_so e).1 p q)
 
   -- ALL OF THEM
   pub search_laws : SearchLaws i rounds l

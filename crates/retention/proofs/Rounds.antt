@@ -10,17 +10,13 @@ use Rattle.entry.specs.declared.Refusal.{Refusal}
 use Rattle.simulation.specs.State.{Lent}
 use Rattle.entry.specs.Entry.{Inputs}
 use Rattle.brent.specs.declared.Stepper.{Stepper}
-use Rattle.brent.specs.declared.Next.{Next}
-use Rattle.brent.specs.declared.Next.TheVariants as next
+use Rattle.std.specs.Prelude.{Option, Some, None, Ok, Err}
 use Rattle.brent.specs.Search.{Sampled, gives, refuses, Searched, ended, noted, tried, search}
 use Rattle.brent.specs.Stepping.{started, next_retention, take_mean, told, answer, asked, closing, driven}
 use Rattle.brent.proofs.Driven.{driven_is}
-use Rattle.retention.specs.declared.Trial.{Trial}
-use Rattle.retention.specs.declared.Trial.TheVariants as trial
-use Rattle.retention.specs.declared.SearchAnswer.{SearchAnswer}
-use Rattle.retention.specs.Trials.{sample, TrialContract}
-use Rattle.retention.specs.Retention.{answer_of, refused_by, IsSearched}
-use Rattle.retention.proofs.trials.Runs.{refused-mean, same-mean}
+use Rattle.retention.specs.Trials.{sample, Trial, TrialContract}
+use Rattle.retention.specs.Retention.{SearchAnswer, answer_of, IsSearched}
+use Rattle.retention.proofs.trials.Runs.{refused-mean, same-mean, same-refusal}
 
 -- two searches with the same answer and the same lists
 pub record SameEnd (x y : Searched (Lent Float) Refusal) : Type 0 where
@@ -40,10 +36,10 @@ closed l t e = record { answer = e; lists = refl }
 -- a trial that was refused ends the search
 stopped : (u : Float) (l : Lent Float) (w : Refusal)
     (rest : Lent Float → Float → Searched (Lent Float) Refusal) {r : Trial}
-    {after : Lent Float} → TrialContract (refuses l w) r after → {x : SearchAnswer} → x ≡ refused_by r
-    → IsSearched (tried u (refuses l w) rest) x after
+    {after : Lent Float} → TrialContract (refuses l w) r after → (x : Refusal) → r ≡ Err x
+    → IsSearched (tried u (refuses l w) rest) (Err x) after
 unfolding tried ended
-stopped u l w rest d e = record { answer = e ∙ ap refused_by d.trial; lists = d.lists }
+stopped u l w rest d x e = record { answer = ap (λ (z : Refusal). Err z) (same-refusal x w (sym e ∙ d.trial)); lists = d.lists }
 
 -- and one that has a mean is followed by the rest
 followed : (u : Float) (l : Lent Float) (m : Float) (rest : Lent Float → Float → Searched (Lent Float) Refusal)
@@ -80,7 +76,7 @@ module _ (i : Inputs) (rounds : ℕ) (l₀ : Lent Float) where
       let none : rounds + 1 - k ≡ 0 = omega arith in
       is_searched (rw none at g.left) (closed l t e)
 
-  module _ {l : Lent Float} {t : Stepper} {k : ℕ} (g : Trying l t k) (h : k ≤ rounds) {x : Next}
+  module _ {l : Lent Float} {t : Stepper} {k : ℕ} (g : Trying l t k) (h : k ≤ rounds) {x : Option Float}
       (a : x ≡ next_retention t) where
     one_left : rounds + 1 - k ≡ suc (rounds + 1 - (k + 1))
     one_left = omega arith
@@ -93,23 +89,17 @@ module _ (i : Inputs) (rounds : ℕ) (l₀ : Lent Float) where
     unfolding driven
     split = rw a (rw one_left at g.left)
 
-    pub trying_ends : ((u : Float) → x ≡ next.Retention u → ⊥) → {r : SearchAnswer}
-        → r ≡ answer_of (told t.state (answer t)) → IsSearched whole r l
+    pub trying_ends : x ≡ None → {r : SearchAnswer} → r ≡ answer_of (told t.state (answer t)) → IsSearched whole r l
     unfolding asked
-    trying_ends tag {r} e = go x tag split
-      where
-        go : (y : Next) → ((u : Float) → y ≡ next.Retention u → ⊥)
-            → SameEnd (asked y (λ u. tried u (sample i l u) rest) (closing l t)) whole → IsSearched whole r l
-        go (next.Retention u) tag s = absurd (tag u refl)
-        go next.Nothing tag s = is_searched s (closed l t e)
+    trying_ends none e = is_searched (rw none at split) (closed l t e)
 
-    module _ {u : Float} (asks : x ≡ next.Retention u) {r : Trial} {after : Lent Float}
+    module _ {u : Float} (asks : x ≡ Some u) {r : Trial} {after : Lent Float}
         (c : TrialContract (sample i l u) r after) where
       here : SameEnd (tried u (sample i l u) rest) whole
       unfolding asked
       here = rw asks at split
 
-      pub trying_on : (m : Float) → r ≡ trial.Mean m → {t' : Stepper} → t' ≡ take_mean t m → Trying after t' (k + 1)
+      pub trying_on : (m : Float) → r ≡ Ok m → {t' : Stepper} → t' ≡ take_mean t m → Trying after t' (k + 1)
       trying_on m e {t'} et = go (sample i l u) c here
         where
           go : (y : Sampled (Lent Float) Refusal) → TrialContract y r after → SameEnd (tried u y rest) whole
@@ -119,11 +109,10 @@ module _ (i : Inputs) (rounds : ℕ) (l₀ : Lent Float) where
               record { left = rw (d.lists, et, ← same) (followed u l' z rest whole s); within = omega (arith, h) }
           go (refuses l' w) d s = absurd (refused-mean w m (sym d.trial ∙ e))
 
-      pub trying_stops : ((x : Float) → r ≡ trial.Mean x → ⊥) → {y : SearchAnswer} → y ≡ refused_by r
-          → IsSearched whole y after
-      trying_stops tag {y} e = go (sample i l u) c here
+      pub trying_stops : (w : Refusal) → r ≡ Err w → IsSearched whole (Err w) after
+      trying_stops w e = go (sample i l u) c here
         where
           go : (z : Sampled (Lent Float) Refusal) → TrialContract z r after → SameEnd (tried u z rest) whole
-              → IsSearched whole y after
-          go (gives l' m) d s = absurd (tag m d.trial)
-          go (refuses l' w) d s = is_searched s (stopped u l' w rest d e)
+              → IsSearched whole (Err w) after
+          go (gives l' m) d s = absurd (refused-mean w m (sym e ∙ d.trial))
+          go (refuses l' z) d s = is_searched s (stopped u l' z rest d w e)

@@ -1,12 +1,11 @@
 -- WHAT IS CLAIMED OF EVERY SEARCH beside its contract, whatever the runs give. Definitions only.
 --   run_cards i, beyond_runs i l   the cards of each run, and the places behind those that the runs need
 --   SearchLaws                   the claims
-use Rattle.std.specs.Prelude.{ℕ, ◌+◌, ◌≤◌, ◌<◌, false, ◌⊎◌, ◌≡◌, T, length, Float}
+use Rattle.std.specs.Prelude.{ℕ, ◌+◌, ◌≤◌, ◌<◌, false, ◌⊎◌, ◌≡◌, T, length, Float, Err}
 use Rattle.std.specs.Float.Ieee.{is_nan}
 use Rattle.entry.specs.declared.Refusal.{Refusal}
-use Rattle.entry.specs.declared.Check.TheVariants as check
 use Rattle.simulation.specs.State.{Lent, state}
-use Rattle.entry.specs.Entry.{Inputs}
+use Rattle.entry.specs.Entry.{Inputs, passed}
 use Rattle.entry.specs.Refusals as Refusals
 use Rattle.brent.specs.Step.{within}
 use Rattle.brent.specs.Search.{refused, ended, Each, NotBelow, WasTried, FoundWithin, OneMore, OnlySpent, NeverTen}
@@ -26,18 +25,18 @@ beyond_runs i l = beyond (run_cards i) i.config.learn_span (state l 0 0)
 
 pub record SearchLaws (i : Inputs) (rounds : ℕ) (l : Lent Float) : Type 0 where
   -- an entry refusal, exactly by the table, makes no trial and writes nothing
-  pub entry_refusal : (r : Refusal) → checked_search rounds i l ≡ check.Failed r
+  pub entry_refusal : (r : Refusal) → checked_search rounds i l ≡ Err r
       → optimal_retention i rounds l ≡ ended l (refused r)
   -- no run of an accepted search is refused at its own entry: a search is refused by 7 or 8 of a run, by 10, or not
   -- at all
-  pub run_refusal : checked_search rounds i l ≡ check.Passed
+  pub run_refusal : checked_search rounds i l ≡ passed
       → RefusedBy (λ r. (Refusals.number_of r ≡ 7) ⊎ (Refusals.number_of r ≡ 8)) (optimal_retention i rounds l).answer
   -- so a search that answers 1 to 6 left every list as it was
   pub untouched : (let number = number_of (answer_of (optimal_retention i rounds l).answer) in
       0 < number → number ≤ 6 → (optimal_retention i rounds l).left ≡ l)
   -- every list keeps its length, and the places behind those that the runs need are as they were lent
-  pub lengths_same : checked_search rounds i l ≡ check.Passed → SameLengths l (optimal_retention i rounds l).left
-  pub beyond_same : checked_search rounds i l ≡ check.Passed
+  pub lengths_same : checked_search rounds i l ≡ passed → SameLengths l (optimal_retention i rounds l).left
+  pub beyond_same : checked_search rounds i l ≡ passed
       → beyond_runs i (optimal_retention i rounds l).left ≡ beyond_runs i l
   -- every retention that was tried lies within 0.70 to 0.95, and so does the one found
   pub trials_within : Each (λ t. T (within t.retention)) (optimal_retention i rounds l).trials
@@ -55,9 +54,9 @@ pub record SearchLaws (i : Inputs) (rounds : ℕ) (l : Lent Float) : Type 0 wher
   pub never_ten : 57 ≤ rounds → NeverTen (optimal_retention i rounds l).answer
   -- a run of an accepted search says the same in any lists of the same lengths, whatever they held: so a host may make
   -- the runs of a trial in lists of their own, in any order
-  pub apart : checked_search rounds i l ≡ check.Passed → (l' : Lent Float) → SameLengths l l' → (u : Float)
+  pub apart : checked_search rounds i l ≡ passed → (l' : Lent Float) → SameLengths l l' → (u : Float)
       → T (within u)
       → (n : ℕ) → trial_of (run_of i u n l') ≡ trial_of (run_of i u n l)
   -- and the stepper, driven with the trials' means, gives the whole search
-  pub stepper : checked_search rounds i l ≡ check.Passed → (fuel : ℕ) → rounds < fuel
+  pub stepper : checked_search rounds i l ≡ passed → (fuel : ℕ) → rounds < fuel
       → driven (sample i) fuel l (started rounds) ≡ optimal_retention i rounds l

@@ -6,20 +6,15 @@
 --   answer_of, number_of, second_of  the answer as a call says it, and its numbers
 --   IsSearched x r l              what a call says and leaves is the search x
 --   SearchContract                what `optimal_retention` promises
-use Rattle.std.specs.Prelude.{ℕ, ◌≤◌, ◌<◌, Bool, ◌&&◌, ◌≡◌, leb, Float}
+use Rattle.std.specs.Prelude.{ℕ, ◌≤◌, ◌<◌, Bool, ◌&&◌, ◌≡◌, leb, Float, Result, Ok, Err}
 use Rattle.entry.specs.declared.Refusal.{Refusal}
 use Rattle.entry.specs.declared.Refusal.TheVariants as refusal
-use Rattle.entry.specs.declared.Check.{Check}
-use Rattle.entry.specs.declared.Check.TheVariants as check
 use Rattle.simulation.specs.State.{Lent, state}
-use Rattle.entry.specs.Entry.{Inputs}
+use Rattle.entry.specs.Entry.{Inputs, Check}
 use Rattle.simulation.specs.Checked.{checked_with}
 use Rattle.entry.specs.Refusals as Refusals
 use Rattle.brent.specs.Search.{Answer, found, not_found, refused, Searched, ended, search}
-use Rattle.retention.specs.declared.Trial.{Trial}
-use Rattle.retention.specs.declared.Trial.TheVariants as trial
-use Rattle.retention.specs.declared.SearchAnswer.{SearchAnswer}
-use Rattle.retention.specs.declared.SearchAnswer.TheVariants as said
+use Rattle.retention.specs.declared.Optimum.{Optimum}
 use Rattle.retention.specs.Trials.{sample}
 
 abbrev pub most_rounds : ℕ
@@ -34,30 +29,28 @@ checked_search rounds i l = checked_with (rounds_ok rounds) i (state l 0 i.seed)
 
 -- an entry refusal makes no trial and leaves the lists as they are
 abbrev pub after_check : Check → Lent Float → Searched (Lent Float) Refusal → Searched (Lent Float) Refusal
-after_check check.Passed l x = x
-after_check (check.Failed r) l x = ended l (refused r)
+after_check (Ok t) l x = x
+after_check (Err r) l x = ended l (refused r)
 
 unfoldable pub optimal_retention : Inputs → ℕ → Lent Float → Searched (Lent Float) Refusal
 optimal_retention i rounds l = after_check (checked_search rounds i l) l (search (sample i) rounds l)
 
 -- ---- as a call says it: a retention that is not found is refusal 10 with the rounds done
+abbrev pub SearchAnswer : Type 0
+SearchAnswer = Result Optimum Refusal
+
 abbrev pub answer_of : Answer Refusal → SearchAnswer
-answer_of (found x mean done) = said.Found (record { retention = x; mean = mean; rounds = done })
-answer_of (not_found done) = said.Refused (refusal.NotFound done)
-answer_of (refused r) = said.Refused r
+answer_of (found x mean done) = Ok (record { retention = x; mean = mean; rounds = done })
+answer_of (not_found done) = Err (refusal.NotFound done)
+answer_of (refused r) = Err r
 
 abbrev pub number_of : SearchAnswer → ℕ
-number_of (said.Found x) = 0
-number_of (said.Refused r) = Refusals.number_of r
+number_of (Ok x) = 0
+number_of (Err r) = Refusals.number_of r
 
 abbrev pub second_of : SearchAnswer → ℕ
-second_of (said.Found x) = 0
-second_of (said.Refused r) = Refusals.second_of r
-
--- of a trial that has no mean; for one that has, which is not asked for, any answer does
-abbrev pub refused_by : Trial → SearchAnswer
-refused_by (trial.Mean x) = said.Refused (refusal.NotFound 0)
-refused_by (trial.Refused r) = said.Refused r
+second_of (Ok x) = 0
+second_of (Err r) = Refusals.second_of r
 
 -- an answer and lists are those of a search
 pub record IsSearched (x : Searched (Lent Float) Refusal) (r : SearchAnswer) (l : Lent Float) : Type 0 where

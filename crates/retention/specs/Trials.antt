@@ -1,6 +1,6 @@
 -- A TRIAL of the search (docs/RULES.md, O1 to O3): runs at one retention, each with its own seed, one after the other
 -- in the same lists, and the mean of what they cost. Definitions only.
---   search_inputs         what a search is given besides the lists that it writes
+--   search_inputs, search_of   what a search is given besides the lists that it writes
 --   run_inputs i u n      the inputs of run n of a trial at u
 --   total xs n           the first n numbers added up
 --   target span l        what a run costs for each card that is memorized at its end
@@ -8,7 +8,7 @@
 --   runs_from i u m n sum l   m runs from run n on
 --   sample i l u         the trial at u
 --   TrialContract x r l  what a call says and leaves is the trial x
-use Rattle.std.specs.Prelude.{ℕ, zero, suc, ◌+◌, ◌-◌, List, ◌≡◌, pos, get_or, Float}
+use Rattle.std.specs.Prelude.{ℕ, zero, suc, ◌+◌, ◌-◌, List, ◌≡◌, pos, get_or, Float, Result, Ok, Err}
 use Rattle.std.proofs.Math.Option.{Option, none, some}
 use Rattle.std.specs.Float.{binary32, nan}
 use Rattle.std.specs.Float.Ieee.{neg, of_int}
@@ -16,15 +16,12 @@ use Rattle.float32.specs.Numbers.{0ᶠ}
 use Rattle.float32.specs.Ops.{◌+ᶠ◌, ◌/ᶠ◌}
 use Rattle.cards.specs.declared.SimulatorConfig.{SimulatorConfig}
 use Rattle.entry.specs.declared.Refusal.{Refusal}
-use Rattle.simulation.specs.declared.Answer.{Answer}
-use Rattle.simulation.specs.declared.Answer.TheVariants as answer
+use Rattle.entry.specs.declared.lists.Learner.{Learner}
 use Rattle.simulation.specs.State.{Lent, state, lists_of}
 use Rattle.entry.specs.Entry.{Inputs, inputs}
-use Rattle.simulation.specs.Simulate.{simulated}
+use Rattle.simulation.specs.Simulate.{Answer, simulated}
 use Rattle.brent.specs.Step.{r_min}
 use Rattle.brent.specs.Search.{Sampled, gives, refuses}
-use Rattle.retention.specs.declared.Trial.{Trial}
-use Rattle.retention.specs.declared.Trial.TheVariants as trial
 use Rattle.retention.specs.SampleSize.{sample_size}
 
 -- the seed of a trial's first run
@@ -34,6 +31,9 @@ first_seed = 42
 -- a search has no retention and no seed of its own: those of its first run stand for them
 abbrev pub search_inputs : SimulatorConfig → List Float → List (List Float) → List (List ℕ) → Inputs
 search_inputs config w existing counts = inputs config w r_min first_seed existing counts
+
+abbrev pub search_of : Learner → SimulatorConfig → Inputs
+search_of l config = search_inputs config l.parameters.now l.existing.now l.existing_counts.now
 
 -- run n of a trial at the retention u
 abbrev pub run_inputs : Inputs → Float → ℕ → Inputs
@@ -48,16 +48,11 @@ total xs (suc n) = total xs n +ᶠ get_or xs n nan
 unfoldable pub target : ℕ → List Float → List Float → Float
 target span costs memorized = total costs span /ᶠ get_or memorized (span - 1) nan
 
--- what a trial of one run says, by its answer and its target
-abbrev pub trial_from : Answer → Float → Trial
-trial_from (answer.Finished p) x = trial.Mean x
-trial_from (answer.Refused r p) x = trial.Refused r
-
 -- a run's refusal, if it was refused; every call of a run has an answer (`RunContract`)
 abbrev pub refusal_in : Option Answer → Option Refusal
 refusal_in none = none
-refusal_in (some (answer.Finished p)) = none
-refusal_in (some (answer.Refused r p)) = some r
+refusal_in (some (Ok p)) = none
+refusal_in (some (Err r)) = some r.refusal
 
 -- a run gives its target, or is refused, and leaves its lists
 abbrev pub sampled_as : Option Refusal → Float → Lent Float → Sampled (Lent Float) Refusal
@@ -89,10 +84,13 @@ sample i l u =
     let n = sample_size i.config.learn_span in
     and_then (runs_from i u n 0 (neg 0ᶠ) l) (λ after sum. gives after (mean_of n sum))
 
--- ---- as a call says it
+-- ---- as a call says it: the mean, or the refusal of the first run that was refused
+abbrev pub Trial : Type 0
+Trial = Result Float Refusal
+
 abbrev pub trial_of : Sampled (Lent Float) Refusal → Trial
-trial_of (gives l x) = trial.Mean x
-trial_of (refuses l r) = trial.Refused r
+trial_of (gives l x) = Ok x
+trial_of (refuses l r) = Err r
 
 abbrev pub left_by : {W R : Type 0} → Sampled W R → W
 left_by (gives l x) = l

@@ -1,44 +1,37 @@
 // A trial: the runs of one retention, in the same lists one after the other, and the mean of what they cost.
-ghost use Rattle.std.specs.Prelude.{◌≡◌, ◌-◌, get_or};
+ghost use Rattle.std.specs.Prelude.{◌≡◌, get_or};
 ghost use Rattle.std.specs.Float.{nan};
-ghost use Rattle.simulation.specs.State.{lent};
-ghost use Rattle.retention.specs.Trials.{search_inputs, total, target, mean_of, trial_from, run_of, sample};
+ghost use Rattle.entry.specs.Lists.{SameLists};
+ghost use Rattle.simulation.specs.State.{lent_of};
+ghost use Rattle.retention.specs.Trials.{search_of, total, target, mean_of, run_of, sample};
 ghost use Rattle.retention.specs.Trials.{TrialContract};
 
-use super::Trial;
+use super::sizes::sample_size;
 use cards::SimulatorConfig;
-use simulation::Answer;
+use entry::{Learner, Lists, Refusal, Settings};
 
 fn place(xs: &[f32], i: u32) -> f32
     ensures { result ≡ get_or xs.now i nan }
 {
-    let at = i as usize;
-    if at < xs.len() { xs[at] } else { 0.0 / 0.0 }
+    xs.get(i as usize).copied().unwrap_or(f32::NAN)
 }
 
 fn total(xs: &[f32], n: u32) -> f32
     ensures { result ≡ total xs.now n }
 {
-    let mut sum: f32 = -0.0;
-    let mut i: u32 = 0;
-    while i < n {
-        sum = sum + place(xs, i);
-        i += 1;
+    let mut sum = -0.0;
+    for i in 0..n {
+        sum += place(xs, i);
     }
     sum
 }
 
-fn before(n: u32) -> u32
-    ensures { result ≡ n - 1 }
-{
-    if n == 0 { 0 } else { n - 1 }
-}
-
 // What a run costs for each card that is memorized on its last day.
+#[tactic(auto, unfolding(crate::specs::Trials::target))]
 pub fn target(span: u32, costs: &[f32], memorized: &[f32]) -> f32
     ensures { result ≡ target span costs.now memorized.now }
 {
-    total(costs, span) / place(memorized, before(span))
+    total(costs, span) / place(memorized, span.saturating_sub(1))
 }
 
 // The mean of the first n targets.
@@ -48,120 +41,50 @@ pub fn mean(targets: &[f32], n: u32) -> f32
     total(targets, n) / float32::from_u32(n)
 }
 
-fn trial_from(answer: Answer, value: f32) -> Trial
-    ensures { result ≡ trial_from answer value }
+fn target_of(lists: &Lists<'_>, span: u32) -> f32
+    ensures { result ≡ target span lists.now.costs.now lists.now.memorized.now }
 {
-    match answer {
-        Answer::Finished(_) => Trial::Mean(value),
-        Answer::Refused(refusal, _) => Trial::Refused(refusal),
-    }
-}
-
-fn wide(n: u32) -> u64
-    ensures { result ≡ n }
-{
-    n as u64
+    target(span, lists.costs, lists.memorized)
 }
 
 // Run n of a trial.
 fn run_of(
-    cards: &mut [[f32; 6]],
-    counts: &mut [[u32; 2]],
-    rows: &mut [[u64; 2]],
-    days: &mut [[u32; 4]],
-    costs: &mut [f32],
-    memorized: &mut [f32],
-    due: &mut [u32],
-    keys: &mut [[u32; 2]],
-    intervals: &mut [f32],
-    parameters: &[f32],
-    existing: &[[f32; 6]],
-    existing_counts: &[[u32; 2]],
+    lists: &mut Lists<'_>,
+    learner: Learner<'_>,
     config: SimulatorConfig,
     retention: f32,
     n: u32,
-) -> Trial
-    ensures { TrialContract
-        (run_of (search_inputs config parameters.now existing.now existing_counts.now)
-        retention n
-        (lent cards.old counts.old rows.old days.old costs.old
-        memorized.old due.old keys.old intervals.old))
-        result
-        (lent cards.new counts.new rows.new days.new costs.new
-        memorized.new due.new keys.new intervals.new) }
+) -> Result<f32, Refusal>
+    ensures run { TrialContract (run_of (search_of learner.entry config) retention n (lent_of lists.old))
+        result (lent_of lists.new) }
+    ensures same { SameLists lists.old lists.new }
 {
-    let answer = simulation::simulate(
-        cards,
-        counts,
-        rows,
-        days,
-        costs,
-        memorized,
-        due,
-        keys,
-        intervals,
-        parameters,
-        existing,
-        existing_counts,
+    let settings = Settings {
         config,
         retention,
-        42 + wide(n),
-    );
-    trial_from(answer, target(config.learn_span, costs, memorized))
+        seed: 42 + u64::from(n),
+    };
+    match simulation::simulate(lists, learner, settings) {
+        Ok(_) => Ok(target_of(lists, config.learn_span)),
+        Err(refused) => Err(refused.refusal),
+    }
 }
 
 // The trial of a retention.
 pub(crate) fn sample(
-    cards: &mut [[f32; 6]],
-    counts: &mut [[u32; 2]],
-    rows: &mut [[u64; 2]],
-    days: &mut [[u32; 4]],
-    costs: &mut [f32],
-    memorized: &mut [f32],
-    due: &mut [u32],
-    keys: &mut [[u32; 2]],
-    intervals: &mut [f32],
-    parameters: &[f32],
-    existing: &[[f32; 6]],
-    existing_counts: &[[u32; 2]],
+    lists: &mut Lists<'_>,
+    learner: Learner<'_>,
     config: SimulatorConfig,
     retention: f32,
-) -> Trial
-    ensures { TrialContract
-        (sample (search_inputs config parameters.now existing.now existing_counts.now)
-        (lent cards.old counts.old rows.old days.old costs.old
-        memorized.old due.old keys.old intervals.old)
-        retention)
-        result
-        (lent cards.new counts.new rows.new days.new costs.new
-        memorized.new due.new keys.new intervals.new) }
+) -> Result<f32, Refusal>
+    ensures trial { TrialContract (sample (search_of learner.entry config) (lent_of lists.old) retention)
+        result (lent_of lists.new) }
+    ensures same { SameLists lists.old lists.new }
 {
-    let n = super::sizes::sample_size(config.learn_span);
-    let mut sum: f32 = -0.0;
-    let mut made: u32 = 0;
-    while made < n {
-        let trial = run_of(
-            cards,
-            counts,
-            rows,
-            days,
-            costs,
-            memorized,
-            due,
-            keys,
-            intervals,
-            parameters,
-            existing,
-            existing_counts,
-            config,
-            retention,
-            made,
-        );
-        let Trial::Mean(value) = trial else {
-            return trial;
-        };
-        sum = sum + value;
-        made += 1;
+    let runs = sample_size(config.learn_span);
+    let mut sum = -0.0;
+    for made in 0..runs {
+        sum += run_of(lists, learner, config, retention, made)?;
     }
-    Trial::Mean(sum / float32::from_u32(n))
+    Ok(sum / float32::from_u32(runs))
 }

@@ -2,28 +2,11 @@
 // limits.
 #![tactic(auto)]
 
+ghost use Rattle.std.specs.Prelude.{◌≤◌};
+
 use cards::SimulatorConfig;
-use entry::Refusal;
-use simulation::{Answer, Progress};
+use entry::{Learner, Lists, Settings, refusals};
 use std::io;
-
-fn wide(x: u32) -> u64 {
-    x as u64
-}
-
-fn blank(rt: &impl Print) -> io::Result<()> {
-    print!(rt; " ")
-}
-
-fn number(rt: &impl Print, x: u32) -> io::Result<()> {
-    blank(rt)?;
-    print!(rt; "{}", wide(x))
-}
-
-fn float(rt: &impl Print, x: f32) -> io::Result<()> {
-    blank(rt)?;
-    print!(rt; "{:08x}", wide(float32::to_bits(x)))
-}
 
 // Two streets, every first rating 4, costs of 8 seconds and at most 10 a day; the rest as `SimulatorConfig::default`
 // has it.
@@ -35,10 +18,10 @@ fn config(deck_size: u32, learn_span: u32) -> SimulatorConfig {
         max_ivl: 36500.0,
         first_rating_prob: [0.0, 0.0, 0.0, 1.0],
         review_rating_prob: model::defaults::review_rating_prob(),
-        learn_limit: 4294967295,
-        review_limit: 4294967295,
+        learn_limit: u32::MAX,
+        review_limit: u32::MAX,
         new_cards_ignore_review_limit: true,
-        suspend_after_lapses: 4294967295,
+        suspend_after_lapses: u32::MAX,
         learning_step_transitions: model::defaults::learning_step_transitions(),
         relearning_step_transitions: model::defaults::relearning_step_transitions(),
         state_rating_costs: [8.0; 12],
@@ -47,116 +30,70 @@ fn config(deck_size: u32, learn_span: u32) -> SimulatorConfig {
     }
 }
 
-fn show(rt: &impl Print, progress: Progress) -> io::Result<()> {
-    print!(rt; "turns")?;
-    number(rt, progress.turns)?;
-    print!(rt; " cards")?;
-    number(rt, progress.cards)?;
-    println!(rt; " draws {:016x}", progress.draws)
-}
-
-fn show_refusal(rt: &impl Print, refusal: Refusal) -> io::Result<()> {
-    print!(rt; "refused")?;
-    number(rt, entry::refusals::number_of(refusal))?;
-    number(rt, entry::refusals::second_of(refusal))?;
-    println!(rt; "")
-}
-
 fn day(rt: &impl Print, counts: [u32; 4], cost: f32, memorized: f32) -> io::Result<()> {
     print!(rt; "day")?;
-    number(rt, counts[0])?;
-    number(rt, counts[1])?;
-    number(rt, counts[2])?;
-    number(rt, counts[3])?;
-    float(rt, cost)?;
-    float(rt, memorized)?;
-    println!(rt; "")
+    for count in counts {
+        print!(rt; " {count}")?;
+    }
+    println!(rt; " {:08x} {:08x}", float32::to_bits(cost), float32::to_bits(memorized))
 }
 
-fn forecast(rt: &impl Print, deck_size: u32, learn_span: u32) -> io::Result<()> {
-    let mut cards: [[f32; 6]; 8] = [[0.0; 6]; 8];
-    let mut counts: [[u32; 2]; 8] = [[0; 2]; 8];
-    let mut rows: [[u64; 2]; 8] = [[0; 2]; 8];
-    let mut days: [[u32; 4]; 10] = [[0; 4]; 10];
-    let mut costs: [f32; 10] = [0.0; 10];
-    let mut memorized: [f32; 10] = [0.0; 10];
-    let mut due: [u32; 15] = [0; 15];
-    let mut keys: [[u32; 2]; 64] = [[0; 2]; 64];
-    let mut intervals: [f32; 64] = [0.0; 64];
-    let parameters: [f32; 34] = [0.5; 34];
-    let existing: [[f32; 6]; 0] = [[0.0; 6]; 0];
-    let existing_counts: [[u32; 2]; 0] = [[0; 2]; 0];
-    let answer = simulation::simulate(
-        &mut cards,
-        &mut counts,
-        &mut rows,
-        &mut days,
-        &mut costs,
-        &mut memorized,
-        &mut due,
-        &mut keys,
-        &mut intervals,
-        &parameters,
-        &existing,
-        &existing_counts,
-        config(deck_size, learn_span),
-        0.9,
-        42,
-    );
-    match answer {
-        Answer::Finished(progress) => {
-            show(rt, progress)?;
-            day(rt, days[0], costs[0], memorized[0])?;
-            day(rt, days[1], costs[1], memorized[1])?;
-            day(rt, days[9], costs[9], memorized[9])
+// A run over lists of these lengths, and those of its days that are to be shown.
+fn forecast<const CARDS: usize, const DAYS: usize, const DUE: usize, const TABLE: usize>(
+    rt: &impl Print,
+    deck_size: u32,
+    learn_span: u32,
+    shown: &[usize],
+) -> io::Result<()>
+    requires { (CARDS ≤ 65536) × (DAYS ≤ 65536) × (DUE ≤ 65536) × (TABLE ≤ 65536) }
+{
+    let mut lists = Lists {
+        cards: &mut [[0.0; 6]; CARDS],
+        counts: &mut [[0; 2]; CARDS],
+        rows: &mut [[0; 2]; CARDS],
+        days: &mut [[0; 4]; DAYS],
+        costs: &mut [0.0; DAYS],
+        memorized: &mut [0.0; DAYS],
+        due: &mut [0; DUE],
+        keys: &mut [[0; 2]; TABLE],
+        intervals: &mut [0.0; TABLE],
+    };
+    let learner = Learner {
+        parameters: &[0.5; 34],
+        existing: &[],
+        existing_counts: &[],
+    };
+    let settings = Settings {
+        config: config(deck_size, learn_span),
+        retention: 0.9,
+        seed: 42,
+    };
+    match simulation::simulate(&mut lists, learner, settings) {
+        Ok(progress) => {
+            println!(rt; "turns {} cards {} draws {:016x}", progress.turns, progress.cards, progress.draws)?;
+            for i in shown {
+                if *i < lists.days.len() && *i < lists.costs.len() && *i < lists.memorized.len() {
+                    day(rt, lists.days[*i], lists.costs[*i], lists.memorized[*i])?;
+                }
+            }
+            Ok(())
         }
-        Answer::Refused(refusal, _) => show_refusal(rt, refusal),
+        Err(refused) => {
+            let refusal = refused.refusal;
+            println!(rt; "refused {} {}", refusals::number_of(refusal), refusals::second_of(refusal))
+        }
     }
 }
 
-// The same with lists as long as the largest deck and the longest span need; the days are not shown.
-fn at_the_limits(rt: &impl Print, deck_size: u32, learn_span: u32) -> io::Result<()> {
-    let mut cards: [[f32; 6]; 65536] = [[0.0; 6]; 65536];
-    let mut counts: [[u32; 2]; 65536] = [[0; 2]; 65536];
-    let mut rows: [[u64; 2]; 65536] = [[0; 2]; 65536];
-    let mut days: [[u32; 4]; 36500] = [[0; 4]; 36500];
-    let mut costs: [f32; 36500] = [0.0; 36500];
-    let mut memorized: [f32; 36500] = [0.0; 36500];
-    let mut due: [u32; 54750] = [0; 54750];
-    let mut keys: [[u32; 2]; 20000] = [[0; 2]; 20000];
-    let mut intervals: [f32; 20000] = [0.0; 20000];
-    let parameters: [f32; 34] = [0.5; 34];
-    let existing: [[f32; 6]; 0] = [[0.0; 6]; 0];
-    let existing_counts: [[u32; 2]; 0] = [[0; 2]; 0];
-    let answer = simulation::simulate(
-        &mut cards,
-        &mut counts,
-        &mut rows,
-        &mut days,
-        &mut costs,
-        &mut memorized,
-        &mut due,
-        &mut keys,
-        &mut intervals,
-        &parameters,
-        &existing,
-        &existing_counts,
-        config(deck_size, learn_span),
-        0.9,
-        42,
-    );
-    match answer {
-        Answer::Finished(progress) => show(rt, progress),
-        Answer::Refused(refusal, _) => show_refusal(rt, refusal),
-    }
-}
+// Decks and spans at the limits: with lists as long as the largest deck and the longest span need.
+const AT_THE_LIMITS: [[u32; 2]; 5] = [[65536, 1], [65537, 1], [2, 0], [2, 36500], [2, 36501]];
 
 fn main(rt: HostRuntime) -> io::Result<()> {
-    forecast(&rt, 2, 1)?;
-    forecast(&rt, 8, 10)?;
-    at_the_limits(&rt, 65536, 1)?;
-    at_the_limits(&rt, 65537, 1)?;
-    at_the_limits(&rt, 2, 0)?;
-    at_the_limits(&rt, 2, 36500)?;
-    at_the_limits(&rt, 2, 36501)
+    for [deck_size, learn_span] in [[2, 1], [8, 10]] {
+        forecast::<8, 10, 15, 64>(&rt, deck_size, learn_span, &[0, 1, 9])?;
+    }
+    for [deck_size, learn_span] in AT_THE_LIMITS {
+        forecast::<65536, 36500, 54750, 20000>(&rt, deck_size, learn_span, &[])?;
+    }
+    Ok(())
 }

@@ -1,23 +1,25 @@
-use borrow.Author.Tests.{lt-ltb, le-ltb}
-use Rattle.brent.specs.Stepping.{taken_in, goes_on}
-use Rattle.brent.specs.Step.{step_of}
+use mathlib.Core.Path.{◌≡◌, ◌∙◌, sym, refl}
+use mathlib.Core.Bool.{Bool, true, false, not, ◌&&◌, true≢false}
+use Prim.Native.Nat.{ℕ, ◌<◌}
+use native.Mathlib.Omega.{arith}
+use lib.Dec.{ltb}
+use Rattle.std.proofs.lemmas.Bool.{ltb-true}
+use Rattle.brent.specs.declared.Brent.{Brent}
+use Rattle.brent.specs.Step.{converged}
+use Rattle.brent.specs.Stepping.{goes_on}
 use Rattle.brent.proofs.taken_in.Goals as goal
 
-pub returns-then-converged : goal.returns-then-converged
-unfolding taken_in goes_on step_of
-returns-then-converged c = rw (lt-ltb _ _ c.if-s-rounds.true, ← c.converged.ensures, c.if-converged.true)
+-- a round that is to come is one of the rounds
+going-below : (rounds : ℕ) (s : Brent) → goes_on rounds s ≡ true → s.done < rounds
+unfolding goes_on
+going-below rounds s h = go (ltb s.done rounds) refl h
+  where
+    go : (b : Bool) → ltb s.done rounds ≡ b → (b && not (converged s)) ≡ true → s.done < rounds
+    go true e h = ltb-true _ _ e
+    go false e h = absurd (true≢false (sym h))
 
-pub returns-else-converged : goal.returns-else-converged
-unfolding taken_in goes_on step_of
-returns-else-converged c =
-    rw (
-      lt-ltb _ _ c.if-s-rounds.true,
-      ← c.converged.ensures,
-      c.if-converged.false,
-      c.after_trial.ensures,
-      c.next_trial.ensures,
-    )
-
-pub returns-else-s-rounds : goal.returns-else-s-rounds
-unfolding taken_in goes_on step_of
-returns-else-s-rounds c = rw (le-ltb _ _ c.if-s-rounds.false)
+pub after_trial-requires : goal.after_trial-requires
+after_trial-requires c =
+    let h = going-below c.args.rounds c.args.s (sym c.goes_on.ensures ∙ c.if-goes_on.true) in
+    let m = c.ranges.rounds in
+    omega arith

@@ -1,29 +1,20 @@
--- The tests are those of the contract, the records are copied where they pass, and the run is the core's on the rows.
-use Rattle.simulation.specs.State.{lent}
-use Rattle.card_records.proofs.Call.{many_fits, rows_fit, records_is}
+-- The tests are those of the contract; where they pass, the records are copied, and the run is the core's on the rows.
+use mathlib.Core.Path.{sym, ◌∙◌}
+use Rattle.simulation.specs.State.{lent_of}
+use Rattle.card_records.proofs.Call.{when_failed, when_passed}
 use Rattle.card_records.proofs.simulate.Goals as goal
 
-pub copy-requires : goal.copy-requires
-copy-requires c =
-    let tests = rw c.first_not_ok-good.ensures at c.check_records-tests.ensures in
+pub returns-in-Err-clause-run : goal.returns-in-Err-clause-run
+returns-in-Err-clause-run c =
     let a = c.args in
-    rw (c.to_copy-m.ensures, tests) (many_fits a.config a.parameters.now a.retention a.seed a.records.now
-    (lent a.cards.now a.counts.now a.rows.now a.days.now a.costs.now a.memorized.now a.due.now a.keys.now
-    a.intervals.now) a.existing.now a.existing_counts.now)
+    let tests = rw c.lengths.ensures at c.check_records-tests.ensures.tests in
+    when_failed a.parameters.now a.records.now a.settings (lent_of a.lists.now) a.existing.now a.existing_counts.now
+    c.in-Err.refusal (sym tests ∙ c.in-Err.is)
 
-pub run_rows-requires : goal.run_rows-requires
-run_rows-requires c =
-    let tests = rw c.first_not_ok-good.ensures at c.check_records-tests.ensures in
+pub returns-clause-run : goal.returns-clause-run
+returns-clause-run c =
     let a = c.args in
-    rw (c.copy.ensures.0, c.copy.ensures.1, c.to_copy-m.ensures, tests) (rows_fit a.config a.parameters.now a.retention
-    a.seed a.records.now (lent a.cards.now a.counts.now a.rows.now a.days.now a.costs.now a.memorized.now a.due.now
-    a.keys.now a.intervals.now) a.existing.now a.existing_counts.now)
-
-pub returns : goal.returns
-returns c =
-    let tests = rw c.first_not_ok-good.ensures at c.check_records-tests.ensures in
-    let run = rw (c.copy.ensures.0, c.copy.ensures.1, c.to_copy-m.ensures, tests) at c.run_rows.ensures in
-    let a = c.args in
-    records_is a.config a.parameters.now a.retention a.seed a.records.now (lent a.cards.now a.counts.now a.rows.now
-    a.days.now a.costs.now a.memorized.now a.due.now a.keys.now a.intervals.now) a.existing.now a.existing_counts.now
-    _ _ _ _ run
+    let tests = rw c.lengths.ensures at c.check_records-tests.ensures.tests in
+    rw (c.copy.ensures.floats, c.copy.ensures.counts) (when_passed a.parameters.now a.records.now a.settings
+    (lent_of a.lists.now) a.existing.now a.existing_counts.now (sym tests ∙ c.in_default.is)
+    (rw (c.copy.ensures.floats, c.copy.ensures.counts) at c.simulate.ensures.run))

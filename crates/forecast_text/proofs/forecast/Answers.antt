@@ -1,3 +1,4 @@
+use Rattle.listing.specs.Forms.{told}
 use Rattle.forecast_text.specs.Forecast.{forecast_text}
 use Rattle.forecast_text.proofs.Texts.{no_room, line_text, read_text, refused-printed, printed_is}
 use Rattle.forecast_text.proofs.forecast.Goals as goal
@@ -7,20 +8,20 @@ returns-then-out-lt133680 c =
     let a = c.args in
     no_room a.out.now (forecast_text a.text.now) c.if-out-lt133680.true
 
-pub returns-in-Refused : goal.returns-in-Refused
-returns-in-Refused c =
+pub returns-in-Err : goal.returns-in-Err
+returns-in-Err c =
     let a = c.args in
     let text = line_text a.text.now _ _ c.default_settings.ensures c.read-reading.ensures
-    c.in-Refused.line c.in-Refused.is in
-    let p = refused-printed a.out.now 11 c.in-Refused.line
+    c.in-Err.e c.in-Err.is in
+    let p = refused-printed a.out.now 11 (told c.in-Err.e)
     c.write_refused.result c.write_refused.new.out
-    c.if-out-lt133680.false c.write_refused.ensures.0 c.write_refused.ensures.1 in
+    c.if-out-lt133680.false (rw c.told.ensures at c.write_refused.ensures.0) (rw c.told.ensures at c.write_refused.ensures.1) in
     printed_is a.out.now (forecast_text a.text.now) _ _ c.if-out-lt133680.false (rw text p)
 
-pub returns-in-Read : goal.returns-in-Read
-returns-in-Read c =
+pub returns-in-Ok : goal.returns-in-Ok
+returns-in-Ok c =
     let a = c.args in
     let text = read_text a.text.now _ _ c.default_settings.ensures c.read-reading.ensures
-    c.in-Read.is in
+    c.in-Ok.is in
     printed_is a.out.now (forecast_text a.text.now) _ _ c.if-out-lt133680.false
     (rw text c.forecast_settings.ensures)

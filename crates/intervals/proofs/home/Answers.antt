@@ -1,11 +1,6 @@
 use native.Mathlib.Omega.{arith}
-use Rattle.intervals.specs.Table.{home_of}
 use Rattle.intervals.proofs.Steps.{share_fits}
 use Rattle.intervals.proofs.home.Goals as goal
 
 pub overflow_mul-result : goal.overflow_mul-result
-overflow_mul-result c = omega (arith, share_fits _ _ _ _ _ c.mixed.ensures c.lesser.ensures)
-
-pub returns : goal.returns
-unfolding home_of
-returns c = rw (c.mixed.ensures, c.lesser.ensures)
+overflow_mul-result c = omega (arith, share_fits _ _ _ _ _ c.mixed.ensures c.min.ensures)

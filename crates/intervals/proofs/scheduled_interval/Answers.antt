@@ -1,25 +1,8 @@
 use mathlib.Core.Path.{sym, ◌∙◌}
 use Rattle.intervals.specs.Table.{table}
 use Rattle.model.specs.Runtime.{curve_of}
-use Rattle.intervals.proofs.Schedule.{slot_full, slot_new, slot_held, slot_anew, not_found}
+use Rattle.intervals.proofs.Schedule.{slot_held, slot_anew}
 use Rattle.intervals.proofs.scheduled_interval.Goals as goal
-
-pub returns-in_default-entry : goal.returns-in_default-entry
-returns-in_default-entry c =
-    slot_full (curve_of c.args.model) c.args.stability c.args.retention c.args.most
-    (table c.args.keys.now c.args.intervals.now) c.stability_bucket-s.result
-    c.retention_bucket-r.result c.stability_bucket-s.ensures.value
-    c.retention_bucket-r.ensures
-    (sym c.lookup-entry.ensures.entry ∙ not_found c.lookup-entry.result
-    c.in_default.not-Found c.in_default-entry.not-Free)
-
-pub returns-in_default : goal.returns-in_default
-returns-in_default c =
-    slot_new (curve_of c.args.model) c.args.stability c.args.retention c.args.most
-    (table c.args.keys.now c.args.intervals.now) c.stability_bucket-s.result
-    c.retention_bucket-r.result c.stability_bucket-s.ensures.value
-    c.retention_bucket-r.ensures
-    (sym c.lookup-entry.ensures.entry ∙ c.in-Free.is) c.scheduled.ensures
 
 pub returns-then-sure : goal.returns-then-sure
 returns-then-sure c =

@@ -11,41 +11,38 @@ use Rattle.float32.specs.Numbers.{0ᶠ}
 use Rattle.float32.specs.Ops.{◌+ᶠ◌}
 use Rattle.turns.proofs.Logic.{not-one}
 use Rattle.entry.specs.declared.Refusal.{Refusal}
-use Rattle.simulation.specs.declared.Answer.{Answer}
-use Rattle.simulation.specs.declared.Answer.TheVariants as answer
+use Rattle.std.specs.Prelude.{Ok, Err}
 use Rattle.simulation.specs.State.{Lent, state}
 use Rattle.entry.specs.Entry.{Inputs, inputs}
+use Rattle.simulation.specs.Simulate.{Answer}
 use Rattle.simulation.specs.Demands.{RunContract}
 use Rattle.brent.specs.Search.{Sampled, gives, refuses}
-use Rattle.retention.specs.declared.Trial.{Trial}
-use Rattle.retention.specs.declared.Trial.TheVariants as trial
 use Rattle.retention.specs.SampleSize.{sample_size}
-use Rattle.retention.specs.Trials.{first_seed, run_inputs, target, trial_from, refusal_in, sampled_as, run_of, and_then}
-use Rattle.retention.specs.Trials.{runs_from, mean_of, sample, TrialContract}
+use Rattle.retention.specs.Trials.{first_seed, run_inputs, target, refusal_in, sampled_as, run_of, and_then}
+use Rattle.retention.specs.Trials.{runs_from, mean_of, sample, Trial, trial_of, left_by, TrialContract}
 
 -- a run tells its target or its refusal
-tells : (a : Answer) (span : ℕ) (after : Lent Float) {x : Float} {r : Trial}
-    → x ≡ target span after.costs after.memorized → r ≡ trial_from a x
-    → TrialContract (sampled_as (refusal_in (some a)) (target span after.costs after.memorized) after) r after
-tells (answer.Finished p) span after e f = record { trial = f ∙ ap trial.Mean e; lists = refl }
-tells (answer.Refused w p) span after e f = record { trial = f; lists = refl }
-
-pub run_is : (i : Inputs) (u : Float) (n : ℕ) (l : Lent Float) {z : ℕ} → z ≡ first_seed + n
-    → {a : Answer} {after : Lent Float}
-    → RunContract (inputs i.config i.parameters u z i.existing i.existing_counts) (state l 0 z) a after
-    → {x : Float} → x ≡ target i.config.learn_span after.costs after.memorized
-    → {r : Trial} → r ≡ trial_from a x → TrialContract (run_of i u n l) r after
+pub run_is : (i : Inputs) (u : Float) (n : ℕ) (l : Lent Float) {a : Answer} {after : Lent Float}
+    → RunContract (run_inputs i u n) (state l 0 (first_seed + n)) a after → {r : Trial}
+    → r ≡ trial_of (sampled_as (refusal_in (some a)) (target i.config.learn_span after.costs after.memorized) after)
+    → TrialContract (run_of i u n l) r after
 unfolding run_of
-run_is i u n l {z} e {a} {after} c {x} q {r} f =
-    let c' : RunContract (run_inputs i u n) (state l 0 (first_seed + n)) a after = rw e at c in
-    rw (c'.result.answer, ← c'.result.lists) (tells a i.config.learn_span after q f)
+run_is i u n l {a} {after} c {r} e = rw (c.result.answer, ← c.result.lists) (record { trial = e; lists = left a })
+  where
+    left : (a : Answer) → after
+        ≡ left_by (sampled_as (refusal_in (some a)) (target i.config.learn_span after.costs after.memorized) after)
+    left (Ok p) = refl
+    left (Err w) = refl
 
 -- ---- a trial that has a mean is not refused
-pub refused-mean : (w : Refusal) (x : Float) → trial.Refused w ≡ trial.Mean x → ⊥
+pub refused-mean : (w : Refusal) (x : Float) → (let r : Trial = Err w in r ≡ Ok x) → ⊥
 refused-mean w x e = not-one cc
 
-pub same-mean : (x y : Float) → trial.Mean x ≡ trial.Mean y → x ≡ y
+pub same-mean : (x y : Float) → (let r : Trial = Ok x in r ≡ Ok y) → x ≡ y
 same-mean x y e = cc
+
+pub same-refusal : (w z : Refusal) → (let r : Trial = Err w in r ≡ Err z) → w ≡ z
+same-refusal w z e = cc
 
 module _ (i : Inputs) (u : Float) (n : ℕ) (l₀ : Lent Float) where
   -- after k runs
@@ -72,7 +69,7 @@ module _ (i : Inputs) (u : Float) (n : ℕ) (l₀ : Lent Float) where
     unfolding runs_from
     split = ap (λ (m : ℕ). runs_from i u m k sum l) (sym one_left) ∙ g.left
 
-    pub going_on : (x : Float) → r ≡ trial.Mean x → Going after (sum +ᶠ x) (k + 1)
+    pub going_on : (x : Float) → r ≡ Ok x → Going after (sum +ᶠ x) (k + 1)
     going_on x e = go (run_of i u k l) c split
       where
         go : (y : Sampled (Lent Float) Refusal) → TrialContract y r after
@@ -86,23 +83,23 @@ module _ (i : Inputs) (u : Float) (n : ℕ) (l₀ : Lent Float) where
             }
         go (refuses l' w) d s = absurd (refused-mean w x (sym d.trial ∙ e))
 
-    pub going_stops : ((x : Float) → r ≡ trial.Mean x → ⊥) → TrialContract whole r after
-    going_stops t = go (run_of i u k l) c split
+    pub going_stops : (z : Refusal) → r ≡ Err z → TrialContract whole (Err z) after
+    going_stops z e = go (run_of i u k l) c split
       where
         go : (y : Sampled (Lent Float) Refusal) → TrialContract y r after
             → and_then y (λ l' z. runs_from i u (n - (k + 1)) (k + 1) (sum +ᶠ z) l') ≡ runs_from i u n 0 (neg 0ᶠ) l₀
-            → TrialContract whole r after
-        go (gives l' z) d s = absurd (t z d.trial)
-        go (refuses l' w) d s = rw (← s) (record { trial = d.trial; lists = d.lists })
+            → TrialContract whole (Err z) after
+        go (gives l' x) d s = absurd (refused-mean z x (sym e ∙ d.trial))
+        go (refuses l' w) d s = rw (← s) (record { trial = sym e ∙ d.trial; lists = d.lists })
 
   pub going_spent : {l : Lent Float} {sum : Float} {k : ℕ} → Going l sum k → n ≤ k → {x : Float} → x ≡ mean_of n sum
-      → TrialContract whole (trial.Mean x) l
+      → TrialContract whole (Ok x) l
   unfolding runs_from
   going_spent {l} {sum} {k} g h e =
       let none : n - k ≡ 0 = omega arith in
       let s : gives l sum ≡ runs_from i u n 0 (neg 0ᶠ) l₀ = ap (λ (m : ℕ). runs_from i u m k sum l) (sym none)
       ∙ g.left in
-      rw (← s) (record { trial = ap trial.Mean e; lists = refl })
+      rw (← s) (record { trial = ap (λ (z : Float). Ok z) e; lists = refl })
 
 -- the whole loop is the trial
 pub sample_is : (i : Inputs) (u : Float) (l : Lent Float) {r : Trial} {after : Lent Float} (n : ℕ)

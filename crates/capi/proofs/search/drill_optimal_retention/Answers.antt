@@ -5,6 +5,6 @@ pub returns : goal.returns
 returns c =
     record {
       answer = c.optimal_retention-told.result;
-      numbers_are = rw (c.numbers_of.ensures, c.short_list-list.ensures);
-      search = c.optimal_retention-told.ensures;
+      numbers_are = rw (c.numbers_of.ensures, c.short_list-list.ensures, c.lengths.ensures);
+      search = c.optimal_retention-told.ensures.search;
     }

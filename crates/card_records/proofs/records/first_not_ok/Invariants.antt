@@ -1,12 +1,9 @@
--- The invariant of its loop: `good` of the first i records pass from the first on. The measure is the records left.
-use Prim.Native.Nat.{◌-◌, ◌≤◌}
+-- The invariant of its loop: none of the first i records is bad.
 use mathlib.Core.Path.{◌≡◌}
-use Rattle.entry.specs.Entry.{first_where}
+use mathlib.Core.Bool.{false}
+use Prim.Native.Nat.{ℕ, ◌<◌}
 use Rattle.card_records.specs.Records.{record_bad}
 use Rattle.card_records.proofs.records.first_not_ok.Given as goal
 
 abbrev pub invariant-loop-i : goal.invariant-loop-i
-invariant-loop-i l = (l.good ≡ first_where (record_bad l.records) l.i 0) × (l.i ≤ l.n)
-
-abbrev pub decreases-loop-i : goal.decreases-loop-i
-decreases-loop-i l = l.n - l.i
+invariant-loop-i l = (k : ℕ) → k < l.i → record_bad l.records k ≡ false

@@ -1,13 +1,12 @@
--- The invariant: what the digits from i on say, read on from v, is what all say; v is at most the most.
-use mathlib.Core.Path.{◌≡◌}
-use Prim.Native.Nat.{◌-◌, ◌≤◌, ◌<◌}
-use lib.ListN.{length, drop}
+-- The invariant: what the digits from there on say, read on from v, is what all say; v is at most the most.
+use Rattle.std.proofs.Common.{◌≡◌, ◌<◌, ◌≤◌, length, drop}
 use Rattle.listing.specs.Numbers.{digits, value}
 use Rattle.listing.proofs.numbers.number_of.Given as goal
 
-abbrev pub invariant-loop-i : goal.invariant-loop-i
-invariant-loop-i l = (0 < length l.w)
-    × ((digits l.base l.w ≡ digits l.base (drop l.i l.w)) × ((value l.base 0 l.w ≡ value l.base l.v (drop l.i l.w)) × (l.v ≤ l.most)))
-
-abbrev pub decreases-loop-i : goal.decreases-loop-i
-decreases-loop-i l = length l.w - l.i
+abbrev pub invariant-loop-b : goal.invariant-loop-b
+invariant-loop-b l = record {
+  some : 0 < length l.w;
+  digits : digits l.base l.w ≡ digits l.base (drop l.b-index l.w);
+  value : value l.base 0 l.w ≡ value l.base l.v (drop l.b-index l.w);
+  most : l.v ≤ l.most;
+}

@@ -1,47 +1,56 @@
-use mathlib.Core.Path.{refl, sym, ◌∙◌}
-use borrow.Author.Tests.{not-true, not-false}
-use Rattle.listing.specs.Text.{in_line}
-use Rattle.listing.proofs.Scan.{after}
-use Rattle.listing.specs.Forms.{read_as, refused_at}
-use Rattle.listing.proofs.LineLaws.{read_wrong, read-last, read-on}
-use native.Mathlib.Omega.{arith}
+use Rattle.std.proofs.Common.{◌∙◌, sym, rules, tests, arith, [], ◌∷◌, of_calls, length-append}
+use Rattle.std.proofs.lemmas.Iterator.Consumers.{YieldsList-at, YieldsList-turn, YieldsList-end}
+use Rattle.listing.specs.Text.{lines}
+use Rattle.listing.specs.Forms.{read_as, refused_as}
+use Rattle.listing.proofs.LineLaws.{lines-few, lines-yield, read_wrong, read-on, read-end}
 use Rattle.listing.proofs.reader.read_lines.Goals as goal
 
-pub loop-after-init : goal.loop-after-init
-loop-after-init c = (omega arith, (omega arith, refl))
+pub overflow_add-n : goal.overflow_add-n
+overflow_add-n c =
+    let at = YieldsList-turn
+    (YieldsList-at c.into_iter-line-iterator.ensures.into_iter_gives
+    (lines-yield _ c.args.text.now c.split-line-items.ensures.rest c.split-line-items.ensures.done
+    c.split-line-items.ensures.closure (λ x b q k. search (rules, tests))))
+    c.loop-line.yielded _ c.loop-line.yielded_by _ _ c.in-Some.line c.in-Some.is c.next.ensures.steps in
+    record { fits = omega (arith, at.0, c.loop-line.invariant.count, lines-few c.args.text.now) }
 
-pub returns-then-not-after : goal.returns-then-not-after
-unfolding refused_at
-returns-then-not-after c =
-    sym (c.loop-after.invariant.1.1 ∙ read_wrong c.args.text.now c.loop-after.i
-    c.line_end-to.result c.loop-after.n c.loop-after.settings c.read_line-after.result
-    c.loop-after.invariant.0 c.line_end-to.ensures
-    (rw (sym c.part_of.ensures) c.read_line-after.ensures)
-    (not-true c.read_line-after.result.ok c.if-not-after.true))
+pub returns-in_default : goal.returns-in_default
+unfolding refused_as
+returns-in_default c =
+    let at = YieldsList-turn
+    (YieldsList-at c.into_iter-line-iterator.ensures.into_iter_gives
+    (lines-yield _ c.args.text.now c.split-line-items.ensures.rest c.split-line-items.ensures.done
+    c.split-line-items.ensures.closure (λ x b q k. search (rules, tests))))
+    c.loop-line.yielded _ c.loop-line.yielded_by _ _ c.in-Some.line c.in-Some.is c.next.ensures.steps in
+    sym (c.loop-line.invariant.read
+    ∙ read_wrong (lines c.args.text.now) c.loop-line.n c.loop-line.settings c.in-Some.line.now
+    (rw (← c.loop-line.invariant.count) at at.0) (rw (← c.loop-line.invariant.count) at at.1)
+    (sym c.read_line.ensures ∙ c.in_default.is))
 
-pub returns-then-text-to : goal.returns-then-text-to
+pub loop-line-preserved : goal.loop-line-preserved
+loop-line-preserved c =
+    let at = YieldsList-turn
+    (YieldsList-at c.into_iter-line-iterator.ensures.into_iter_gives
+    (lines-yield _ c.args.text.now c.split-line-items.ensures.rest c.split-line-items.ensures.done
+    c.split-line-items.ensures.closure (λ x b q k. search (rules, tests))))
+    c.loop-line.yielded _ c.loop-line.yielded_by _ _ c.in-Some.line c.in-Some.is c.next.ensures.steps in
+    record {
+      can = search of_calls;
+      finite = tt;
+      count = omega (arith, c.loop-line.invariant.count, length-append c.loop-line.yielded (c.in-Some.line ∷ []));
+      read = c.loop-line.invariant.read
+          ∙ read-on (lines c.args.text.now) c.loop-line.n c.loop-line.settings c.in-Some.line.now
+          (rw (← c.loop-line.invariant.count) at at.0) (rw (← c.loop-line.invariant.count) at at.1)
+          c.in-Some-read_line.next (sym c.read_line.ensures ∙ c.in-Some-read_line.is);
+    }
+
+pub returns : goal.returns
 unfolding read_as
-returns-then-text-to c =
-    sym (c.loop-after.invariant.1.1 ∙ read-last c.args.text.now c.loop-after.i
-    c.line_end-to.result c.loop-after.n c.loop-after.settings c.read_line-after.result
-    c.loop-after.invariant.0 c.line_end-to.ensures
-    (rw (sym c.part_of.ensures) c.read_line-after.ensures)
-    (not-false c.read_line-after.result.ok c.if-not-after.false) c.if-text-to.true)
-
-pub loop-after-smaller : goal.loop-after-smaller
-loop-after-smaller c =
-    omega (arith, c.line_end-to.ensures, after in_line c.args.text.now c.loop-after.i)
-
-pub loop-after-preserved : goal.loop-after-preserved
-loop-after-preserved c =
-    let a = c.args in (
-      omega arith,
-      (
-        omega (arith, c.line_end-to.ensures, after in_line a.text.now c.loop-after.i),
-        c.loop-after.invariant.1.1 ∙ read-on a.text.now c.loop-after.i c.line_end-to.result
-            c.loop-after.n c.loop-after.settings c.read_line-after.result c.loop-after.invariant.0
-            c.line_end-to.ensures
-            (rw (sym c.part_of.ensures) c.read_line-after.ensures)
-            (not-false c.read_line-after.result.ok c.if-not-after.false) c.if-text-to.false,
-      ),
-    )
+returns c =
+    let all = YieldsList-end
+    (YieldsList-at c.into_iter-line-iterator.ensures.into_iter_gives
+    (lines-yield _ c.args.text.now c.split-line-items.ensures.rest c.split-line-items.ensures.done
+    c.split-line-items.ensures.closure (λ x b q k. search (rules, tests))))
+    c.loop-line.yielded _ c.loop-line.yielded_by _ _ c.in-None.is c.next.ensures.steps in
+    sym (c.loop-line.invariant.read
+    ∙ read-end (lines c.args.text.now) c.loop-line.n c.loop-line.settings (omega (arith, all.1)))

@@ -1,14 +1,14 @@
--- The invariant: what the lines from i on say, as line n and on, in the settings so far, is what the text says.
-use mathlib.Core.Path.{◌≡◌}
-use Prim.Native.Nat.{◌+◌, ◌-◌, ◌≤◌}
-use lib.ListN.{length, drop}
+-- The invariant: what the lines that are left say, in the settings so far, is what the text says.
+use Rattle.std.proofs.Common.{◌≡◌, ◌+◌, length, drop}
 use Rattle.listing.specs.Text.{lines}
 use Rattle.listing.specs.Forms.{read_lines}
 use Rattle.listing.proofs.reader.read_lines.Given as goal
 
-abbrev pub invariant-loop-after : goal.invariant-loop-after
-invariant-loop-after l = (l.i ≤ length l.text)
-    × ((l.n ≤ l.i + 1) × (read_lines 1 (lines l.text) l.initial.settings ≡ read_lines l.n (lines (drop l.i l.text)) l.settings))
-
-abbrev pub decreases-loop-after : goal.decreases-loop-after
-decreases-loop-after l = length l.text - l.i
+abbrev pub invariant-loop-line : goal.invariant-loop-line
+invariant-loop-line l = record {
+  can : (goal.iterator-loop-line).can_next l.line-iterator;
+  finite : (goal.iterator-loop-line).is_finite l.line-iterator;
+  count : l.n ≡ length l.yielded;
+  read : read_lines 1 (lines l.text) l.initial.settings
+      ≡ read_lines (l.n + 1) (drop l.n (lines l.text)) l.settings;
+}

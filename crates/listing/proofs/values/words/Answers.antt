@@ -1,47 +1,36 @@
-use mathlib.Core.Path.{refl, sym, ◌∙◌}
-use lib.ListN.{drop, length-set, replicate}
+use Rattle.std.proofs.Common.{◌∙◌, sym, arith, drop, length-set}
+use Rattle.std.proofs.lemmas.List.{length-replicate}
 use Rattle.listing.specs.Text.{parts}
 use Rattle.listing.specs.Forms.{several}
-use Rattle.listing.specs.Parsed.{as_several}
 use Rattle.listing.proofs.SeveralLaws.{words-start, words-on, words_off, words-end}
-use native.Mathlib.Omega.{arith}
 use Rattle.listing.proofs.values.words.Goals as goal
 
-pub loop-j-init : goal.loop-j-init
-loop-j-init c =
-    let a = c.args in
-    (omega arith, (refl, words-start a.k (parts (drop a.i a.s.now)) (replicate 34 0)))
+pub loop-value-init : goal.loop-value-init
+loop-value-init g c = record {
+  room = length-replicate g.row.K 0;
+  read = words-start g.row.K (parts (drop c.args.i c.args.s.now));
+}
 
-pub loop-j-preserved : goal.loop-j-preserved
-loop-j-preserved c =
-    let a = c.args in (
-      omega arith,
-      (
-        length-set c.loop-j.values c.loop-j.j c.in-Is.v
-            ∙ c.loop-j.invariant.1.0,
-        words-on a.s.now a.k c.loop-j.j c.loop-j.at
-            c.in-Is.v c.in-Is.to c.loop-j.values
-            (several a.k (parts (drop a.i a.s.now))) c.loop-j-test.true (omega arith)
-            (sym c.next_bits.ensures ∙ c.in-Is.is) c.loop-j.invariant.1.1,
-      ),
-    )
+pub returns-in_err-w : goal.returns-in_err-w
+returns-in_err-w g c =
+    c.from_residual.ensures ∙ words_off c.args.s.now g.row.K c.loop-value.value-index c.loop-value.at c.loop-value.value-items
+    (several g.row.K (parts (drop c.args.i c.args.s.now))) c.loop-value.invariant.read (omega arith)
+    (sym c.next_bits.ensures ∙ c.in_err-w.was)
 
-pub returns-in-Not : goal.returns-in-Not
-unfolding as_several
-returns-in-Not c =
-    let a = c.args in (
-      c.loop-j.invariant.1.0,
-      words_off a.s.now a.k c.loop-j.j c.loop-j.at
-          c.loop-j.values (several a.k (parts (drop a.i a.s.now))) c.loop-j-test.true
-          (sym c.next_bits.ensures ∙ c.in-Not.is) c.loop-j.invariant.1.1,
-    )
+pub loop-value-preserved : goal.loop-value-preserved
+loop-value-preserved g c = record {
+  room = length-set c.loop-value.value-items c.loop-value.value-index _ ∙ c.loop-value.invariant.room;
+  read = words-on c.args.s.now g.row.K c.loop-value.value-index c.loop-value.at c.loop-value.value-items
+      (several g.row.K (parts (drop c.args.i c.args.s.now))) c.loop-value.invariant.read
+      _ _ (omega arith) (omega arith) (sym c.next_bits.ensures ∙ c.in_ok-w.was);
+}
 
-pub returns : goal.returns
-unfolding as_several
-returns c =
-    let a = c.args in (
-      c.loop-j.invariant.1.0,
-      words-end a.s.now a.k c.loop-j.j c.loop-j.at
-          c.loop-j.values (several a.k (parts (drop a.i a.s.now))) c.closes_at-ok.result
-          c.loop-j.invariant.0 c.loop-j-test.false c.closes_at-ok.ensures c.loop-j.invariant.1.1,
-    )
+pub returns-then-closes_at : goal.returns-then-closes_at
+returns-then-closes_at g c =
+    rw (← c.closes_at.ensures, c.if-closes_at.true) at (words-end c.args.s.now g.row.K c.loop-value.value-index c.loop-value.at c.loop-value.value-items
+    (several g.row.K (parts (drop c.args.i c.args.s.now))) c.loop-value.invariant.read (omega arith) c.loop-value.invariant.room)
+
+pub returns-else-closes_at : goal.returns-else-closes_at
+returns-else-closes_at g c =
+    rw (← c.closes_at.ensures, c.if-closes_at.false) at (words-end c.args.s.now g.row.K c.loop-value.value-index c.loop-value.at c.loop-value.value-items
+    (several g.row.K (parts (drop c.args.i c.args.s.now))) c.loop-value.invariant.read (omega arith) c.loop-value.invariant.room)

@@ -1,17 +1,13 @@
--- The invariant: the words passed stand in the first j places, and what is to be read is what they and the parts from
--- `at` on say.
-use mathlib.Core.Path.{◌≡◌}
-use Prim.Native.Nat.{◌-◌, ◌≤◌}
-use lib.ListN.{length, drop, take}
+-- The invariant: what is to be read is what the words passed and the parts from `at` on say.
+use Rattle.std.proofs.Common.{◌≡◌, ◌-◌, length, drop, take}
 use Rattle.listing.specs.Text.{parts}
 use Rattle.listing.specs.Forms.{several}
-use Rattle.listing.proofs.SeveralLaws.{prepend}
+use Rattle.listing.proofs.SeveralLaws.{before_all}
 use Rattle.listing.proofs.values.words.Given as goal
 
-abbrev pub invariant-loop-j : goal.invariant-loop-j
-invariant-loop-j l = (l.j ≤ l.k)
-    × ((length l.values ≡ 34)
-    × (several l.k (parts (drop l.i l.s)) ≡ prepend (take l.j l.values) (several (l.k - l.j) (parts (drop l.at l.s)))))
-
-abbrev pub decreases-loop-j : goal.decreases-loop-j
-decreases-loop-j l = l.k - l.j
+abbrev pub invariant-loop-value : goal.invariant-loop-value
+invariant-loop-value g l = record {
+  room : length l.value-items ≡ g.row.K;
+  read : several g.row.K (parts (drop l.i l.s))
+      ≡ before_all (take l.value-index l.value-items) (several (g.row.K - l.value-index) (parts (drop l.at l.s)));
+}

@@ -1,16 +1,20 @@
 -- One run, and what it costs.
-use Prim.Native.Nat.{ℕ, ◌+◌}
-use mathlib.Core.Path.{ap}
-use Rattle.simulation.specs.State.{lent}
-use Rattle.retention.specs.Trials.{first_seed, search_inputs}
+use mathlib.Core.Path.{refl, ap}
+use lib.Ieee.{Float}
+use Rattle.std.specs.Prelude.{Ok}
+use Rattle.simulation.specs.State.{lent_of}
+use Rattle.retention.specs.Trials.{search_of}
 use Rattle.retention.proofs.trials.Runs.{run_is}
 use Rattle.retention.proofs.trials.run_of.Goals as goal
 
-pub returns : goal.returns
-returns c =
+pub returns-in-Ok-clause-run : goal.returns-in-Ok-clause-run
+returns-in-Ok-clause-run c =
     let a = c.args in
-    let i = search_inputs a.config a.parameters.now a.existing.now a.existing_counts.now in
-    let l = lent a.cards.now a.counts.now a.rows.now a.days.now a.costs.now a.memorized.now
-    a.due.now a.keys.now a.intervals.now in
-    run_is i a.retention a.n l (ap (λ (z : ℕ). first_seed + z) c.wide.ensures)
-    c.simulate-answer.ensures c.target.ensures c.trial_from.ensures
+    run_is (search_of a.learner a.config) a.retention a.n (lent_of a.lists.now)
+    (rw (c.from.ensures, c.in-Ok.is) at c.simulate.ensures.run) (ap (λ (x : Float). Ok x) c.target_of.ensures)
+
+pub returns-in-Err-clause-run : goal.returns-in-Err-clause-run
+returns-in-Err-clause-run c =
+    let a = c.args in
+    run_is (search_of a.learner a.config) a.retention a.n (lent_of a.lists.now)
+    (rw (c.from.ensures, c.in-Err.is) at c.simulate.ensures.run) refl

@@ -1,4 +1,0 @@
-use Rattle.capi.proofs.search.drill_search_answer.Goals as goal
-
-pub returns : goal.returns
-returns c = rw (c.verdict_number.ensures, c.answer.ensures)
