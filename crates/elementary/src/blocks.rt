@@ -44,7 +44,7 @@ fn intervals(e: &mut [u64; 64], f: &mut [u64; 64], x: &[f32; 64], n: usize)
 {
     let mut i: usize = 0;
     while i < n {
-        let k = power_tables::block_interval_at((f32::to_bits(x[i]) / 16384) as u64);
+        let k = power_tables::interval_at((f32::to_bits(x[i]) / 16384) as u64);
         e[i] = k.0;
         f[i] = k.1;
         i += 1;
@@ -77,7 +77,7 @@ fn powers(f: &mut [u64; 64], e: &[u64; 64], n: usize)
 {
     let mut i: usize = 0;
     while i < n {
-        f[i] = power_tables::block_power_at(e[i] / 4294967296);
+        f[i] = power_tables::power_at(e[i] / 4294967296);
         i += 1;
     }
 }

@@ -5,6 +5,8 @@ ghost use Rattle.power_tables.specs.Tables.{line_word, curvature};
 ghost use Rattle.elementary.specs.Power.{exp2_bits, fine_log2_at, fine_log2, fine_arg, large_arg, large_bits};
 ghost use Rattle.elementary.specs.Power as Power;
 
+use power_tables::Interval;
+
 // 1/4 and 4 in units of 2^-60; log2 1 in units of 2^-35; exponents of 2 below and above every result.
 const QUARTER: u64 = 1 << 58;
 
@@ -66,14 +68,13 @@ fn fine_log2_by(line: u64, bend: u64, i: u64, t: u64) -> u64
     (line + line % 4294967296 * (t * 64) - bend % 4294967296 * (t * t / 16777216)) / 4294967296
 }
 
-// The same with the interval's height from its table, and its slope and curvature by division.
+// The same with the words from the table.
 fn fine_log2_at(i: u64, t: u64) -> u64
     requires { (i < 512) × (t < 2 ^ 26) }
     ensures { (result ≡ fine_log2_at i t) × (result ≤ 2 ^ 32) }
 {
-    let n = 512 + i;
-    let line = power_tables::large_height_at(i) * 4294967296 + 49570588694 / n;
-    fine_log2_by(line, 395790452196 / (n * n), i, t)
+    let Interval(line, bend) = power_tables::interval_at(i);
+    fine_log2_by(line, bend, i, t)
 }
 
 // log2 x + 159 in units of 2^-35, for x in units of 2^-60.
@@ -142,7 +143,7 @@ fn large_arg(x: u64, c: u32) -> u64
 fn large_value(z: u64) -> f32
     ensures { result ≡ from_bits binary32 (exp2_bits z) }
 {
-    let w = power_tables::large_power_at(z / 4294967296);
+    let w = power_tables::power_at(z / 4294967296);
     super::exp2::ranged(z, super::exp2::digits_by(w, z))
 }
 

@@ -18,8 +18,8 @@ pub loop-i-preserved : goal.loop-i-preserved
 loop-i-preserved c =
     let inv = c.loop-i.invariant in (
       omega arith,
-      fill_turn _ _ _ _ _ inv.1 c.block_interval_at-k.ensures.0,
-      fill_turn _ _ _ _ _ inv.2 c.block_interval_at-k.ensures.1,
+      fill_turn _ _ _ _ _ inv.1 c.interval_at-k.ensures.0,
+      fill_turn _ _ _ _ _ inv.2 c.interval_at-k.ensures.1,
     )
 
 pub returns : goal.returns

@@ -8,7 +8,7 @@ unfolding filled
 loop-i-init c = (omega arith, refl)
 
 pub loop-i-preserved : goal.loop-i-preserved
-loop-i-preserved c = (omega arith, fill_turn _ _ _ _ _ c.loop-i.invariant.1 c.block_power_at.ensures)
+loop-i-preserved c = (omega arith, fill_turn _ _ _ _ _ c.loop-i.invariant.1 c.power_at.ensures)
 
 pub returns : goal.returns
 returns c = fill_end _ _ _ _ _ c.loop-i.invariant.1 (omega arith) (omega arith)
