@@ -33,7 +33,7 @@ fn power_at(i: u64) -> u64
     requires { i < 355 }
     ensures { result ≡ power i }
 {
-    super::exp_tables::coarse_at(i / 32 % 16) * super::exp_tables::fine_at(i % 32) / 2147483648
+    super::exp_tables::coarse_at(i / 32) * super::exp_tables::fine_at(i % 32) / 2147483648
 }
 
 // e^(r / 2^48) in units of 2^-31.
