@@ -103,8 +103,7 @@ fn exp_at(b: u32) -> f32
     0.0
 }
 
-#[unsafe(no_mangle)]
-pub extern "C" fn exp_f32(x: f32) -> f32
+pub fn exp_f32(x: f32) -> f32
     ensures value { result ≡ exp_of x }
     ensures bound { IsExp x result }
 {

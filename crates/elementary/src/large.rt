@@ -39,12 +39,7 @@ fn square(x: u64) -> u64
 fn square_once(x: u64) -> u64
     ensures { result ≡ Power.squares 1 x }
 {
-    if QUARTER <= x {
-        if x < FOUR {
-            return square(x);
-        }
-    }
-    x
+    if QUARTER <= x && x < FOUR { square(x) } else { x }
 }
 
 // k squares.
@@ -52,10 +47,8 @@ pub(crate) fn squares(k: u32, x: u64) -> u64
     ensures { result ≡ Power.squares k x }
 {
     let mut y = x;
-    let mut i: u32 = 0;
-    while i < k {
+    for _ in 0..k {
         y = square_once(y);
-        i += 1;
     }
     y
 }
@@ -94,7 +87,7 @@ fn fine_arg(l: u64, c: u32) -> u64
     requires { (157 * 2 ^ 35 ≤ l) × (l ≤ 161 * 2 ^ 35 + 8) }
     ensures { result ≡ fine_arg l c }
 {
-    let u = ((c % 8388608 + 8388608) as u64) * super::power::abs_diff(l, LOG2_ONE) / 8192;
+    let u = ((c % 8388608 + 8388608) as u64) * l.abs_diff(LOG2_ONE) / 8192;
     super::power::signed_arg(LOG2_ONE, l, c, u)
 }
 
@@ -139,19 +132,11 @@ fn large_arg(x: u64, c: u32) -> u64
     ARG_LEAST
 }
 
-// 2^(z / 2^39 - 2^16 - 126), by the powers' other table.
-fn large_value(z: u64) -> f32
-    ensures { result ≡ from_bits binary32 (exp2_bits z) }
-{
-    let w = power_tables::power_at(z / 4294967296);
-    super::exp2::ranged(z, super::exp2::digits_by(w, z))
-}
-
 // x^y from the bit patterns, for x other than 1.
 pub(crate) fn large_pow(b: u32, c: u32) -> f32
     requires { (0 < b) × (b < 0x7F800000) × (0x43000000 < c % 2 ^ 31) }
     ensures { result ≡ from_bits binary32 (large_bits b c) }
 {
     let x = squared(super::power::normalized(b), c);
-    large_value(large_arg(x, c))
+    super::exp2::value_of(large_arg(x, c))
 }

@@ -115,8 +115,7 @@ fn ln_rounded(w: u64) -> u32
     round_fixed(s) + sign_of(w)
 }
 
-#[unsafe(no_mangle)]
-pub extern "C" fn ln_f32(x: f32) -> f32
+pub fn ln_f32(x: f32) -> f32
     ensures value { result ≡ ln_of x }
     ensures bound { IsLn x result }
 {

@@ -92,20 +92,11 @@ fn special(b: u32, c: u32) -> f32
     f32::from_bits(special_bits(b, c))
 }
 
-// Whether x is finite and above 0 and |y| up to 128: as a value, so that the powers have one caller.
-fn is_near(b: u32, c: u32, quick: bool) -> bool
-    requires { quick ≡ true → Quick b c }
+// Whether x is finite and above 0 and |y| up to 128.
+fn is_near(b: u32, c: u32) -> bool
     ensures { (result ≡ true → Near b c) × (result ≡ false → Near b c → ⊥) }
 {
-    if quick {
-        return true;
-    }
-    if 0 < b {
-        if b < 0x7F800000 {
-            return c % 0x80000000 < 0x43000001;
-        }
-    }
-    false
+    0 < b && b < 0x7F800000 && c % 0x80000000 < 0x43000001
 }
 
 // A large exponent, or a special case.
@@ -113,16 +104,11 @@ fn not_near(b: u32, c: u32) -> f32
     requires { (b % 2 ^ 31 ≤ 0x7F800000) × (c % 2 ^ 31 ≤ 0x7F800000) × (Near b c → ⊥) }
     ensures { result ≡ pow_at b c }
 {
-    if 0 < b {
-        if b < 0x7F800000 {
-            if c % 0x80000000 < 0x7F800000 {
-                if b != 0x3F800000 {
-                    return super::large::large_pow(b, c);
-                }
-            }
-        }
+    if 0 < b && b < 0x7F800000 && c % 0x80000000 < 0x7F800000 && b != 0x3F800000 {
+        super::large::large_pow(b, c)
+    } else {
+        special(b, c)
     }
-    special(b, c)
 }
 
 // Two numbers, by their bit patterns.
@@ -130,11 +116,13 @@ fn of_numbers(b: u32, c: u32) -> f32
     requires { (b % 2 ^ 31 ≤ 0x7F800000) × (c % 2 ^ 31 ≤ 0x7F800000) }
     ensures { result ≡ pow_at b c }
 {
-    let quick = super::power::is_quick(b, c);
-    if is_near(b, c, quick) {
-        return super::power::near_pow(b, c, quick);
+    if super::power::is_quick(b, c) {
+        super::power::quick_pow(b, c)
+    } else if is_near(b, c) {
+        super::power::near_pow(b, c)
+    } else {
+        not_near(b, c)
     }
-    not_near(b, c)
 }
 
 // x or y is a NaN.
@@ -158,15 +146,13 @@ fn of_nan(x: f32, y: f32) -> f32
     x
 }
 
-#[unsafe(no_mangle)]
-pub extern "C" fn powf_f32(x: f32, y: f32) -> f32
+pub fn powf_f32(x: f32, y: f32) -> f32
     ensures value { result ≡ pow_of x y }
     ensures bound { IsPow x y result }
 {
-    if x == x {
-        if y == y {
-            return of_numbers(f32::to_bits(x), f32::to_bits(y));
-        }
+    if x == x && y == y {
+        of_numbers(x.to_bits(), y.to_bits())
+    } else {
+        of_nan(x, y)
     }
-    of_nan(x, y)
 }

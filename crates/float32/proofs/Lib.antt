@@ -5,7 +5,6 @@ pub mod Limits
 pub mod Numbers
 pub mod NonNegative
 pub mod Casts
-pub mod Simple
 pub mod Decode
 pub mod Sticky
 pub mod Patterns
