@@ -48,9 +48,10 @@ pub(crate) fn ranged(z: u64, d: u64) -> f32
         return f32::from_bits(0x7F800000);
     }
     if z < ARG_ZERO {
-        return 0.0;
+        0.0
+    } else {
+        f32::from_bits(((d / 4294967296 + z / 4294967296 % 128 * 16777216 + 128) / 512) as u32)
     }
-    f32::from_bits(((d / 4294967296 + z / 4294967296 % 128 * 16777216 + 128) / 512) as u32)
 }
 
 // 2^(z / 2^39 - 126), where that is normal, from the word w of z.

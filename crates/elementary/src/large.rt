@@ -39,7 +39,11 @@ fn square(x: u64) -> u64
 fn square_once(x: u64) -> u64
     ensures { result ≡ Power.squares 1 x }
 {
-    if QUARTER <= x && x < FOUR { square(x) } else { x }
+    if QUARTER <= x && x < FOUR {
+        square(x)
+    } else {
+        x
+    }
 }
 
 // k squares.
@@ -124,12 +128,12 @@ fn large_arg(x: u64, c: u32) -> u64
         return ARG_MOST;
     }
     if x < FOUR {
-        return fine_arg(fine_log2(x), c);
+        fine_arg(fine_log2(x), c)
+    } else if c < 0x80000000 {
+        ARG_MOST
+    } else {
+        ARG_LEAST
     }
-    if c < 0x80000000 {
-        return ARG_MOST;
-    }
-    ARG_LEAST
 }
 
 // x^y from the bit patterns, for x other than 1.

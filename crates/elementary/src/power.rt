@@ -35,7 +35,11 @@ pub(crate) fn signed_arg(n: u64, l: u64, c: u32, u: u64) -> u64
     requires { u ≤ (2 ^ 16 + 126) * 2 ^ 39 }
     ensures { result ≡ signed_arg n l c u }
 {
-    if is_negative(n, l, c) { ARG_ONE - u } else { ARG_ONE + u }
+    if is_negative(n, l, c) {
+        ARG_ONE - u
+    } else {
+        ARG_ONE + u
+    }
 }
 
 // |y log2 x| in units of 2^-39, for |log2 x| in units of 2^-32 and |y| with the bit pattern a up to 128; 0 below 2^-47.

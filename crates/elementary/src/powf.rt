@@ -23,10 +23,7 @@ fn is_odd(a: u32) -> bool
 fn zero_size(c: u32) -> u32
     ensures { result ≡ zero_size c }
 {
-    if c < 0x80000000 {
-        return 0;
-    }
-    0x7F800000
+    if c < 0x80000000 { 0 } else { 0x7F800000 }
 }
 
 // A zero to the y: the sign of the zero where y is odd.
@@ -35,19 +32,17 @@ fn zero_bits(b: u32, c: u32) -> u32
     ensures { result ≡ zero_bits b c }
 {
     if is_odd(c % 0x80000000) {
-        return zero_size(c) + b;
+        zero_size(c) + b
+    } else {
+        zero_size(c)
     }
-    zero_size(c)
 }
 
 // +infinity to the y.
 fn inf_bits(c: u32) -> u32
     ensures { result ≡ inf_bits c }
 {
-    if c < 0x80000000 {
-        return 0x7F800000;
-    }
-    0
+    if c < 0x80000000 { 0x7F800000 } else { 0 }
 }
 
 // x above 0 to an infinity.
@@ -55,9 +50,10 @@ fn to_inf_bits(b: u32, c: u32) -> u32
     ensures { result ≡ to_inf_bits b c }
 {
     if b < 0x3F800000 {
-        return zero_size(c);
+        zero_size(c)
+    } else {
+        inf_bits(c)
     }
-    inf_bits(c)
 }
 
 // x a zero or +infinity, or y an infinity; y is not 0 and x not 1.
@@ -67,12 +63,12 @@ fn special_bits(b: u32, c: u32) -> u32
     ensures { result ≡ num_bits b c }
 {
     if b % 0x80000000 == 0 {
-        return zero_bits(b, c);
+        zero_bits(b, c)
+    } else if b == 0x7F800000 {
+        inf_bits(c)
+    } else {
+        to_inf_bits(b, c)
     }
-    if b == 0x7F800000 {
-        return inf_bits(c);
-    }
-    to_inf_bits(b, c)
 }
 
 // All of these, with x^0, 1^y and x below 0.
@@ -81,15 +77,14 @@ fn special(b: u32, c: u32) -> f32
     ensures { result ≡ pow_at b c }
 {
     if c % 0x80000000 == 0 {
-        return f32::from_bits(0x3F800000);
+        f32::from_bits(0x3F800000)
+    } else if b == 0x3F800000 {
+        f32::from_bits(0x3F800000)
+    } else if 0x80000000 < b {
+        0.0 / 0.0
+    } else {
+        f32::from_bits(special_bits(b, c))
     }
-    if b == 0x3F800000 {
-        return f32::from_bits(0x3F800000);
-    }
-    if 0x80000000 < b {
-        return 0.0 / 0.0;
-    }
-    f32::from_bits(special_bits(b, c))
 }
 
 // Whether x is finite and above 0 and |y| up to 128.
@@ -140,10 +135,7 @@ fn of_nan(x: f32, y: f32) -> f32
         return y;
     }
     let zero = f32::to_bits(y) % 0x80000000 == 0;
-    if zero {
-        return f32::from_bits(0x3F800000);
-    }
-    x
+    if zero { f32::from_bits(0x3F800000) } else { x }
 }
 
 pub fn powf_f32(x: f32, y: f32) -> f32

@@ -43,10 +43,10 @@ quick_arg-requires c =
 pub loop-i-preserved : goal.loop-i-preserved
 loop-i-preserved c =
     let b = (c.requires.2 c.loop-i.i (omega arith)).0 in fill_turn _ _ _ _ _ c.loop-i.invariant
-          (arg_from (to_bits binary32 (get_or c.args.x.now c.loop-i.i nan)) c.args.c b.low
-          b.high
-          c.requires.1 c.log2_by-l.result c.quick_arg.result c.log2_by-l.ensures
-          c.quick_arg.ensures)
+    (arg_from (to_bits binary32 (get_or c.args.x.now c.loop-i.i nan)) c.args.c b.low
+    b.high
+    c.requires.1 c.log2_by-l.result c.quick_arg.result c.log2_by-l.ensures
+    c.quick_arg.ensures)
 
 pub returns : goal.returns
 returns c = fill_end _ _ _ _ _ c.loop-i.invariant (omega arith) (omega arith)

@@ -7,11 +7,11 @@ use Rattle.elementary.proofs.blocks.outside_one.Goals as goal
 pub returns-then-x : goal.returns-then-x
 returns-then-x c =
     let w : to_bits binary32 c.args.x < 2 ^ 32 = to_bits-lt binary32 c.args.x (subst T (sym c.well_formed.0.1) tt) in (
-  λ e. record {
-    single = subst T (sym c.well_formed.0.1) tt;
-    number = equals_itself c.args.x c.if-x.true;
-    low = omega (arith, e, w);
-    high = omega (arith, e, w);
-  },
-  omega arith,
-)
+      λ e. record {
+        single = subst T (sym c.well_formed.0.1) tt;
+        number = equals_itself c.args.x c.if-x.true;
+        low = omega (arith, e, w);
+        high = omega (arith, e, w);
+      },
+      omega arith,
+    )

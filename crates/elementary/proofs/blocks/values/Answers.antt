@@ -13,7 +13,7 @@ normal_by-requires c =
 
 pub loop-i-preserved : goal.loop-i-preserved
 loop-i-preserved c = fill_turn _ _ _ _ _ c.loop-i.invariant
-      c.normal_by.ensures
+    c.normal_by.ensures
 
 pub returns : goal.returns
 returns c = fill_end _ _ _ _ _ c.loop-i.invariant (omega arith) (omega arith)

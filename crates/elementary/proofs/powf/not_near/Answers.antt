@@ -28,4 +28,3 @@ returns-then-b-ne1065353216 c =
     ∙ sym (at_regular c.args.b c.args.c p f c.if-c-lt2139095040.true
     ∙ ap (of_bits binary32) (is_large c.args.b c.args.c (above c.args.b c.args.c c.requires.2 p f)
     c.if-b-ne1065353216.true))
-
