@@ -1,8 +1,8 @@
 #!/usr/bin/env python3
 """The tables of the crates `elementary` and `power_tables`, by exact arithmetic: python3 tables.py
 
-Prints each table as the list of specs/ has it. With --check REPO it compares them, and the arms of the
-`match`es, with the files in REPO instead. Needs python3 alone."""
+Prints each table as the list of specs/ has it. With --check REPO it compares them, and the
+tables of src/, with the files in REPO instead. Needs python3 alone."""
 import re
 import sys
 from fractions import Fraction
@@ -100,12 +100,13 @@ FIRST = rounded(*sorted((v - v**3 * Fraction(3, 2**19)) * 2**31 for v in LN2))
 SECOND = rounded(*sorted((v**2 / 2 + v**3 / 512) * 2**32 for v in LN2))
 
 
-def intervals():
-    """The height with the slope in one word, and the curvature, as the code has them."""
-    rows = []
-    for i, a in enumerate(heights()):
-        rows += [a * 2**32 + SLOPE // (512 + i), CURVATURE // (512 + i) ** 2]
-    return rows
+def lines():
+    """The height with the slope in one word, as the code has them."""
+    return [a * 2**32 + SLOPE // (512 + i) for i, a in enumerate(heights())]
+
+
+def curvatures():
+    return [CURVATURE // (512 + i) ** 2 for i in range(512)]
 
 
 def words():
@@ -113,19 +114,17 @@ def words():
     return [(t + 128 - i * 2**24) * 2**32 + t for i, t in enumerate(powers())]
 
 
-# (list of specs/ or none, function of src/ or none, the rows), each with its file; words stand in specs/ as formulas
+# (list of specs/ or none, table of src/ or none, the rows), each with its file; words stand in specs/ as formulas
 TABLES = [
     ("elementary/specs/Exp coarse", "elementary/src/exp_tables coarse_at", coarse),
-    ("elementary/specs/Exp fine", "elementary/src/exp_tables fine_at", fine),
-    ("elementary/specs/Ln first", "elementary/src/ln_tables first_at", first),
-    ("elementary/specs/Ln second", "elementary/src/ln_tables second_at", second),
-    ("power_tables/specs/Tables heights", "power_tables/src/large height", heights),
+    ("elementary/specs/Exp fine", "elementary/src/exp_tables FINE", fine),
+    ("elementary/specs/Ln first", "elementary/src/ln_tables FIRST", first),
+    ("elementary/specs/Ln second", "elementary/src/ln_tables SECOND", second),
+    ("power_tables/specs/Tables heights", None, heights),
     ("power_tables/specs/Tables powers", None, powers),
-    (None, "power_tables/src/log2 entry", intervals),
-    (None, "power_tables/src/exp2 power", words),
-    (None, "power_tables/src/large power", words),
-    (None, "power_tables/src/blocks entry", intervals),
-    (None, "power_tables/src/blocks power", words),
+    (None, "power_tables/src/lib LINES", lines),
+    (None, "power_tables/src/lib CURVATURES", curvatures),
+    (None, "power_tables/src/lib POWERS", words),
 ]
 
 
@@ -136,19 +135,22 @@ def listed(repo, place):
     return [int(v) for v in re.findall(r"(\d+)\s*∷", body[: body.index("[]")])]
 
 
-def arms(repo, place):
+def coded(repo, place):
+    """The entries of a const array, or the arms of a function's `match`."""
     path, name = place.split()
     code = open(f"{repo}/crates/{path}.rt").read()
+    if name.isupper():
+        body = code[code.index(f"const {name}: ") :]
+        return [int(v) for v in re.findall(r"\d+", body[body.index("= [") : body.index("];")])]
     body = code[code.index(f"fn {name}(") :]
-    rows = re.findall(r"=> (?:Interval\()?(\d+)(?:, (\d+)\))?,", body[: body.index("\n}\n")])
-    return [int(v) for row in rows for v in row if v]
+    return [int(v) for v in re.findall(r"=> (\d+),", body[: body.index("\n}\n")])]
 
 
 def check(repo):
     bad = 0
     for spec, source, make in TABLES:
         rows = make()
-        same = (spec is None or listed(repo, spec) == rows) and (source is None or arms(repo, source) == rows)
+        same = (spec is None or listed(repo, spec) == rows) and (source is None or coded(repo, source) == rows)
         bad += not same
         print(spec or source, len(rows), "numbers:", "as computed" if same else "DIFFERENT")
     ln2 = {48: 195103586505167, 52: 3121657384082679}

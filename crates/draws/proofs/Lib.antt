@@ -1,5 +1,4 @@
 -- What the proofs of several functions use, and what other crates cite.
-pub mod Halves
 pub mod Choice
 pub mod Laws
 pub mod Points

@@ -1,5 +1,5 @@
 // The draws of a run: SplitMix64, a rating by weights, and a recall.
-#![tactic(auto)]
+#![tactic(auto, unfolding(crate::specs::Draws::advance, crate::specs::Draws::mix, crate::specs::Draws::xor_shift, crate::specs::Draws::word, crate::specs::Draws::recalled))]
 
 ghost use Rattle.std.specs.Prelude.{◌≡◌, ◌*◌, ◌%◌, ◌^◌, ◌<◌, if◌then◌else◌};
 ghost use Rattle.std.specs.Float.Ieee.{lt};
@@ -30,7 +30,7 @@ impl SplitMix64 {
         ensures { (result.generator.state ≡ Draws.advance self.state)
             × (result.output ≡ Draws.mix (Draws.advance self.state)) }
     {
-        let state = std::num::wrapping_add_u64(self.state, 0x9e37_79b9_7f4a_7c15);
+        let state = self.state.wrapping_add(0x9e37_79b9_7f4a_7c15);
         Drawn {
             generator: SplitMix64 { state },
             output: mix(state),
@@ -41,8 +41,8 @@ impl SplitMix64 {
 fn mix(z: u64) -> u64
     ensures { result ≡ Draws.mix z }
 {
-    let a = wrapping_mul(xor_shift(z, 30), 0xbf58_476d_1ce4_e5b9);
-    let b = wrapping_mul(xor_shift(a, 27), 0x94d0_49bb_1331_11eb);
+    let a = xor_shift(z, 30).wrapping_mul(0xbf58_476d_1ce4_e5b9);
+    let b = xor_shift(a, 27).wrapping_mul(0x94d0_49bb_1331_11eb);
     xor_shift(b, 31)
 }
 
@@ -53,21 +53,11 @@ fn xor_shift(z: u64, k: u64) -> u64
     z ^ (z >> k)
 }
 
-// a * b modulo 2 ^ 64, from halves of 32 bits.
-fn wrapping_mul(a: u64, b: u64) -> u64
-    ensures { result ≡ a * b % 2 ^ 64 }
-{
-    let a0 = a % 4294967296;
-    let b0 = b % 4294967296;
-    let cross = std::num::wrapping_add_u64(a / 4294967296 * b0, a0 * (b / 4294967296));
-    std::num::wrapping_add_u64(a0 * b0, cross % 4294967296 * 4294967296)
-}
-
 // The top 32 bits of an output.
 pub fn word(output: u64) -> u32
     ensures { result ≡ Draws.word output }
 {
-    (output / 4294967296) as u32
+    (output >> 32) as u32
 }
 
 // A word as a number from 0 to below 1.
@@ -81,19 +71,10 @@ fn total(weights: &[f32]) -> f32
     ensures { result ≡ Draws.sum_from 0ᶠ weights.now }
 {
     let mut sum = 0.0;
-    let mut i = 0;
-    while i < weights.len() {
-        let weight = weights[i];
-        sum = sum + weight;
-        i += 1;
+    for &weight in weights {
+        sum += weight;
     }
     sum
-}
-
-fn last_positive(weight: f32, i: usize, before: usize) -> usize
-    ensures { result ≡ (if lt 0ᶠ weight then i else before) }
-{
-    if 0.0 < weight { i } else { before }
 }
 
 // The index, from 0, of the weight that a word chooses.
@@ -103,15 +84,12 @@ pub fn rating(weights: &[f32], word: u32) -> usize
     let target = unit(word) * total(weights);
     let mut sum = 0.0;
     let mut positive = 0;
-    let mut i = 0;
-    while i < weights.len() {
-        let weight = weights[i];
-        sum = sum + weight;
+    for (i, &weight) in weights.iter().enumerate() {
+        sum += weight;
         if target < sum {
             return i;
         }
-        positive = last_positive(weight, i, positive);
-        i += 1;
+        positive = if 0.0 < weight { i } else { positive };
     }
     positive
 }

@@ -1,15 +1,13 @@
 -- What the arms of powf's code ask and promise, by the bit patterns b of x and c of y.
 --   Near b c               x finite and above 0, |y| up to 128
 --   Quick b c              x from 1 to 2^32, y from -2 to -2^-31
---   ArgAsked l c quick     what the exponent of 2 asks of log2 x and of y
---   ArgIs l c quick r      r is that exponent
 --   Special b c            neither is a NaN, and x^y is a special case
 --   IsBase x, IsDecay c    the x and the y of a block of powers, in the range of Quick
 --   quick_arg b c           y log2 x + 126 in units of 2^-39, for these
-use Rattle.std.specs.Prelude.{◌≡◌, ℕ, ◌+◌, ◌-◌, ◌*◌, ◌/◌, ◌%◌, ◌^◌, ◌<◌, ◌≤◌, Bool, true, false, cond, not, T, ◌≢◌, is_nan, to_bits, Float}
+use Rattle.std.specs.Prelude.{◌≡◌, ℕ, ◌+◌, ◌-◌, ◌*◌, ◌/◌, ◌%◌, ◌^◌, ◌<◌, ◌≤◌, not, T, ◌≢◌, is_nan, to_bits, Float}
 use Rattle.std.specs.Float.{binary32}
 use Rattle.std.specs.Float.Ieee.{fits}
-use Rattle.elementary.specs.Power.{log2_of, arg_of}
+use Rattle.elementary.specs.Power.{log2_of}
 
 -- x finite and above 0, |y| up to 128, by their bit patterns
 pub record Near (b c : ℕ) : Type 0 where
@@ -23,17 +21,6 @@ pub record Quick (b c : ℕ) : Type 0 where
   pub x_high : b < 0x4F800000
   pub y_low : 0xB0000000 ≤ c
   pub y_high : c < 0xC0000000
-
--- l is log2 x in units of 2^-32, counted from 1 in the quick arm and else from 2^-159
-pub record ArgAsked (l c : ℕ) (quick : Bool) : Type 0 where
-  pub small : c % 2 ^ 31 ≤ 0x43000000
-  pub usual : quick ≡ true → (l ≤ 2 ^ 37) × (0xB0000000 ≤ c) × (c < 0xC0000000)
-  pub other : quick ≡ false → (10 * 2 ^ 32 ≤ l) × (l ≤ 287 * 2 ^ 32)
-
--- the exponent, in the quick arm without the 2^16
-pub record ArgIs (l c : ℕ) (quick : Bool) (r : ℕ) : Type 0 where
-  pub is : cond quick (r + 2 ^ 55) r ≡ arg_of (cond quick (l + 159 * 2 ^ 32) l) c
-  pub range : cond quick r 0 < 254 * 2 ^ 39
 
 -- two numbers, of which y is an infinity where x is finite, above 0 and not 1, and y is not 0
 pub record Special (b c : ℕ) : Type 0 where

@@ -15,9 +15,10 @@ fn outside_one(x: f32) -> u32
     ensures { (result ≡ 0 → IsBase x) × (result ≤ 15) }
 {
     if x == x {
-        return std::num::wrapping_sub_u32(f32::to_bits(x), 0x3F800000) / 0x10000000;
+        x.to_bits().wrapping_sub(0x3F800000) / 0x10000000
+    } else {
+        1
     }
-    1
 }
 
 // 0 only where the first n are from 1 to 2^32.
@@ -26,10 +27,8 @@ fn outside(x: &[f32; 64], n: usize) -> u32
     ensures { result ≡ 0 → (i : ℕ) → i < n → IsBase (slice_index_or x.now i nan) }
 {
     let mut sum: u32 = 0;
-    let mut i: usize = 0;
-    while i < n {
+    for i in 0..n {
         sum += outside_one(x[i]);
-        i += 1;
     }
     sum
 }
@@ -42,12 +41,10 @@ fn intervals(e: &mut [u64; 64], f: &mut [u64; 64], x: &[f32; 64], n: usize)
     ensures curvatures { f.new ≡ filled (λ i. curvature (to_bits binary32 (slice_index_or x.now i nan) / 2 ^ 14 % 512)) n
         f.old }
 {
-    let mut i: usize = 0;
-    while i < n {
-        let k = power_tables::block_interval_at((f32::to_bits(x[i]) / 16384) as u64);
+    for i in 0..n {
+        let k = power_tables::interval_at(u64::from(x[i].to_bits() / 16384));
         e[i] = k.0;
         f[i] = k.1;
-        i += 1;
     }
 }
 
@@ -61,11 +58,9 @@ fn args(e: &mut [u64; 64], f: &[u64; 64], x: &[f32; 64], c: u32, n: usize)
 {
     let m = c % 8388608 + 8388608;
     let s = 399 - c / 8388608;
-    let mut i: usize = 0;
-    while i < n {
-        let l = super::log2::log2_by(e[i], f[i], f32::to_bits(x[i]) - 0x3F800000);
+    for i in 0..n {
+        let l = super::log2::log2_by(e[i], f[i], x[i].to_bits() - 0x3F800000);
         e[i] = super::power::quick_arg(l, m, s);
-        i += 1;
     }
 }
 
@@ -75,10 +70,8 @@ fn powers(f: &mut [u64; 64], e: &[u64; 64], n: usize)
     ensures { f.new ≡ filled (λ i. power_word (slice_index e.now i / 2 ^ 32 % 128)) n
         f.old }
 {
-    let mut i: usize = 0;
-    while i < n {
-        f[i] = power_tables::block_power_at(e[i] / 4294967296);
-        i += 1;
+    for i in 0..n {
+        f[i] = power_tables::power_at(e[i] / 4294967296);
     }
 }
 
@@ -89,10 +82,8 @@ fn values(x: &mut [f32; 64], e: &[u64; 64], f: &[u64; 64], n: usize)
     ensures { x.new ≡ filled (λ i. from_bits binary32 (exp2_bits (slice_index e.now i + 2 ^ 55))) n
         x.old }
 {
-    let mut i: usize = 0;
-    while i < n {
+    for i in 0..n {
         x[i] = super::exp2::normal_by(f[i], e[i]);
-        i += 1;
     }
 }
 
@@ -100,10 +91,7 @@ fn values(x: &mut [f32; 64], e: &[u64; 64], f: &[u64; 64], n: usize)
 fn is_decay(y: f32) -> bool
     ensures { result ≡ true → IsDecay (to_bits binary32 y) }
 {
-    if y == y {
-        return std::num::wrapping_sub_u32(f32::to_bits(y), 0xB0000000) < 0x10000000;
-    }
-    false
+    y == y && y.to_bits().wrapping_sub(0xB0000000) < 0x10000000
 }
 
 // The powers where y is from -2 to -2^-31 and each x from 1 to 2^32.
@@ -128,10 +116,8 @@ fn one_by_one(x: &mut [f32; 64], y: f32, n: usize)
     ensures bound { (i : ℕ) → i < n
         → IsPow (slice_index_or x.old i nan) y (pow_of (slice_index_or x.old i nan) y) }
 {
-    let mut i: usize = 0;
-    while i < n {
+    for i in 0..n {
         x[i] = super::powf::powf_f32(x[i], y);
-        i += 1;
     }
 }
 
@@ -139,7 +125,7 @@ fn one_by_one(x: &mut [f32; 64], y: f32, n: usize)
 pub fn up_to_64(n: usize) -> usize
     ensures { (result ≡ min n 64) × (result ≤ 64) }
 {
-    if n < 64 { n } else { 64 }
+    n.min(64)
 }
 
 fn powers_of_first(x: &mut [f32; 64], y: f32, n: usize)
@@ -148,13 +134,11 @@ fn powers_of_first(x: &mut [f32; 64], y: f32, n: usize)
     ensures bound { (i : ℕ) → i < n
         → IsPow (slice_index_or x.old i nan) y (pow_of (slice_index_or x.old i nan) y) }
 {
-    if is_decay(y) {
-        if outside(x, n) == 0 {
-            quick_powers(x, y, n);
-            return;
-        }
+    if is_decay(y) && outside(x, n) == 0 {
+        quick_powers(x, y, n);
+    } else {
+        one_by_one(x, y, n);
     }
-    one_by_one(x, y, n);
 }
 
 // The first n of x become their powers, or all 64 where n is more.

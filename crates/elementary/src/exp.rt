@@ -33,7 +33,7 @@ fn power_at(i: u64) -> u64
     requires { i < 355 }
     ensures { result ≡ power i }
 {
-    super::exp_tables::coarse_at(i / 32 % 16) * super::exp_tables::fine_at(i % 32) / 2147483648
+    super::exp_tables::coarse_at(i / 32) * super::exp_tables::fine_at(i % 32) / 2147483648
 }
 
 // e^(r / 2^48) in units of 2^-31.
@@ -51,9 +51,10 @@ fn pack(e: u64, r: u64) -> f32
 {
     let m = mantissa(r);
     if e == 0 {
-        return f32::from_bits(((m + 256) / 512) as u32);
+        f32::from_bits(((m + 256) / 512) as u32)
+    } else {
+        f32::from_bits(((e - 1) * 8388608 + (m + 128) / 256) as u32)
     }
-    f32::from_bits(((e - 1) * 8388608 + (m + 128) / 256) as u32)
 }
 
 // |x| in units of 2^-48, from its bit pattern.
@@ -69,10 +70,7 @@ fn shift(b: u32, x: u64) -> u64
     requires { (x < 2 ^ 55) × (0x80000000 ≤ b → x ≤ 127 * (ln2 + 1) - 128) }
     ensures { result ≡ shifted (nat_lt b 0x80000000) x }
 {
-    if b < 0x80000000 {
-        return ADDED + x;
-    }
-    ADDED - x
+    if b < 0x80000000 { ADDED + x } else { ADDED - x }
 }
 
 // The pattern of |x| from which on e^x is +infinity, or 0.
@@ -80,9 +78,10 @@ fn limit_of(b: u32) -> u32
     ensures { result ≡ limit (nat_lt b 0x80000000) }
 {
     if b < 0x80000000 {
-        return PATTERN_INFINITE;
+        PATTERN_INFINITE
+    } else {
+        PATTERN_ZERO
     }
-    PATTERN_ZERO
 }
 
 // e^x from the bit pattern of a number x.
@@ -98,18 +97,15 @@ fn exp_at(b: u32) -> f32
         return pack(z / LN2, z % LN2);
     }
     if b < 0x80000000 {
-        return f32::from_bits(0x7F800000);
+        f32::from_bits(0x7F800000)
+    } else {
+        0.0
     }
-    0.0
 }
 
-#[unsafe(no_mangle)]
-pub extern "C" fn exp_f32(x: f32) -> f32
+pub fn exp_f32(x: f32) -> f32
     ensures value { result ≡ exp_of x }
     ensures bound { IsExp x result }
 {
-    if x != x {
-        return x;
-    }
-    exp_at(f32::to_bits(x))
+    if x != x { x } else { exp_at(f32::to_bits(x)) }
 }

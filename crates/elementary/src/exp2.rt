@@ -48,9 +48,10 @@ pub(crate) fn ranged(z: u64, d: u64) -> f32
         return f32::from_bits(0x7F800000);
     }
     if z < ARG_ZERO {
-        return 0.0;
+        0.0
+    } else {
+        f32::from_bits(((d / 4294967296 + z / 4294967296 % 128 * 16777216 + 128) / 512) as u32)
     }
-    f32::from_bits(((d / 4294967296 + z / 4294967296 % 128 * 16777216 + 128) / 512) as u32)
 }
 
 // 2^(z / 2^39 - 126), where that is normal, from the word w of z.
@@ -61,14 +62,17 @@ pub(crate) fn normal_by(w: u64, z: u64) -> f32
     f32::from_bits(normal(z / 4294967296, digits_by(w, z)))
 }
 
-// Of z itself, or quick of z counted from 2^55.
-pub(crate) fn value_of(z: u64, quick: bool) -> f32
-    requires { (if quick then z else 0) < 254 * 2 ^ 39 }
-    ensures { result ≡ from_bits binary32 (exp2_bits (if quick then z + 2 ^ 55 else z)) }
+// The same of z, with its word from the table.
+pub(crate) fn normal_of(z: u64) -> f32
+    requires { z < 254 * 2 ^ 39 }
+    ensures { result ≡ from_bits binary32 (exp2_bits (z + 2 ^ 55)) }
 {
-    let w = power_tables::power_at(z / 4294967296);
-    if quick {
-        return normal_by(w, z);
-    }
-    ranged(z, digits_by(w, z))
+    normal_by(power_tables::power_at(z / 4294967296), z)
+}
+
+// 2^(z / 2^39 - 2^16 - 126).
+pub(crate) fn value_of(z: u64) -> f32
+    ensures { result ≡ from_bits binary32 (exp2_bits z) }
+{
+    ranged(z, digits_by(power_tables::power_at(z / 4294967296), z))
 }

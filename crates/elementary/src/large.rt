@@ -5,6 +5,8 @@ ghost use Rattle.power_tables.specs.Tables.{line_word, curvature};
 ghost use Rattle.elementary.specs.Power.{exp2_bits, fine_log2_at, fine_log2, fine_arg, large_arg, large_bits};
 ghost use Rattle.elementary.specs.Power as Power;
 
+use power_tables::Interval;
+
 // 1/4 and 4 in units of 2^-60; log2 1 in units of 2^-35; exponents of 2 below and above every result.
 const QUARTER: u64 = 1 << 58;
 
@@ -37,12 +39,11 @@ fn square(x: u64) -> u64
 fn square_once(x: u64) -> u64
     ensures { result ≡ Power.squares 1 x }
 {
-    if QUARTER <= x {
-        if x < FOUR {
-            return square(x);
-        }
+    if QUARTER <= x && x < FOUR {
+        square(x)
+    } else {
+        x
     }
-    x
 }
 
 // k squares.
@@ -50,10 +51,8 @@ pub(crate) fn squares(k: u32, x: u64) -> u64
     ensures { result ≡ Power.squares k x }
 {
     let mut y = x;
-    let mut i: u32 = 0;
-    while i < k {
+    for _ in 0..k {
         y = square_once(y);
-        i += 1;
     }
     y
 }
@@ -66,14 +65,13 @@ fn fine_log2_by(line: u64, bend: u64, i: u64, t: u64) -> u64
     (line + line % 4294967296 * (t * 64) - bend % 4294967296 * (t * t / 16777216)) / 4294967296
 }
 
-// The same with the interval's height from its table, and its slope and curvature by division.
+// The same with the words from the table.
 fn fine_log2_at(i: u64, t: u64) -> u64
     requires { (i < 512) × (t < 2 ^ 26) }
     ensures { (result ≡ fine_log2_at i t) × (result ≤ 2 ^ 32) }
 {
-    let n = 512 + i;
-    let line = power_tables::large_height_at(i) * 4294967296 + 49570588694 / n;
-    fine_log2_by(line, 395790452196 / (n * n), i, t)
+    let Interval(line, bend) = power_tables::interval_at(i);
+    fine_log2_by(line, bend, i, t)
 }
 
 // log2 x + 159 in units of 2^-35, for x in units of 2^-60.
@@ -93,7 +91,7 @@ fn fine_arg(l: u64, c: u32) -> u64
     requires { (157 * 2 ^ 35 ≤ l) × (l ≤ 161 * 2 ^ 35 + 8) }
     ensures { result ≡ fine_arg l c }
 {
-    let u = ((c % 8388608 + 8388608) as u64) * super::power::abs_diff(l, LOG2_ONE) / 8192;
+    let u = ((c % 8388608 + 8388608) as u64) * l.abs_diff(LOG2_ONE) / 8192;
     super::power::signed_arg(LOG2_ONE, l, c, u)
 }
 
@@ -130,20 +128,12 @@ fn large_arg(x: u64, c: u32) -> u64
         return ARG_MOST;
     }
     if x < FOUR {
-        return fine_arg(fine_log2(x), c);
+        fine_arg(fine_log2(x), c)
+    } else if c < 0x80000000 {
+        ARG_MOST
+    } else {
+        ARG_LEAST
     }
-    if c < 0x80000000 {
-        return ARG_MOST;
-    }
-    ARG_LEAST
-}
-
-// 2^(z / 2^39 - 2^16 - 126), by the powers' other table.
-fn large_value(z: u64) -> f32
-    ensures { result ≡ from_bits binary32 (exp2_bits z) }
-{
-    let w = power_tables::large_power_at(z / 4294967296);
-    super::exp2::ranged(z, super::exp2::digits_by(w, z))
 }
 
 // x^y from the bit patterns, for x other than 1.
@@ -152,5 +142,5 @@ pub(crate) fn large_pow(b: u32, c: u32) -> f32
     ensures { result ≡ from_bits binary32 (large_bits b c) }
 {
     let x = squared(super::power::normalized(b), c);
-    large_value(large_arg(x, c))
+    super::exp2::value_of(large_arg(x, c))
 }

@@ -49,9 +49,10 @@ pub(crate) fn exponent_of(b: u32) -> u64
     ensures { result ≡ exponent b }
 {
     if b < 8388608 {
-        return (41 - u32::leading_zeros(b)) as u64;
+        (41 - u32::leading_zeros(b)) as u64
+    } else {
+        (32 + b / 8388608) as u64
     }
-    (32 + b / 8388608) as u64
 }
 
 // The m of x.
@@ -60,9 +61,10 @@ pub(crate) fn significand_of(b: u32) -> u64
     ensures { result ≡ significand b }
 {
     if b < 8388608 {
-        return (b << (u32::leading_zeros(b) - 8)) as u64;
+        (b << (u32::leading_zeros(b) - 8)) as u64
+    } else {
+        (b % 8388608 + 8388608) as u64
     }
-    (b % 8388608 + 8388608) as u64
 }
 
 // ln x + 159 ln 2 in units of 2^-52, from below.
@@ -79,19 +81,17 @@ fn size_of(w: u64) -> u64
     ensures { result ≡ ln_size w }
 {
     if w < LN2_159 {
-        return LN2_159_LESS - w;
+        LN2_159_LESS - w
+    } else {
+        w - LN2_159
     }
-    w - LN2_159
 }
 
 // The sign's bit of ln x.
 fn sign_of(w: u64) -> u32
     ensures { result ≡ ln_sign w }
 {
-    if w < LN2_159 {
-        return 0x80000000;
-    }
-    0
+    if w < LN2_159 { 0x80000000 } else { 0 }
 }
 
 // The bit pattern of w / 2^52, rounded to the nearest f32, for w above 0.
@@ -110,13 +110,13 @@ fn ln_rounded(w: u64) -> u32
 {
     let s = size_of(w);
     if s == 0 {
-        return sign_of(w);
+        sign_of(w)
+    } else {
+        round_fixed(s) + sign_of(w)
     }
-    round_fixed(s) + sign_of(w)
 }
 
-#[unsafe(no_mangle)]
-pub extern "C" fn ln_f32(x: f32) -> f32
+pub fn ln_f32(x: f32) -> f32
     ensures value { result ≡ ln_of x }
     ensures bound { IsLn x result }
 {
@@ -131,10 +131,10 @@ pub extern "C" fn ln_f32(x: f32) -> f32
         return f32::from_bits(ln_rounded(ln_wide(exponent_of(b), significand_of(b))));
     }
     if b == 0x7F800000 {
-        return x;
+        x
+    } else if b == 0x80000000 {
+        f32::from_bits(0xFF800000)
+    } else {
+        0.0 / 0.0
     }
-    if b == 0x80000000 {
-        return f32::from_bits(0xFF800000);
-    }
-    0.0 / 0.0
 }

@@ -2,9 +2,9 @@
 ghost use Rattle.std.specs.Prelude.{◌≡◌, ◌+◌, ◌-◌, ◌*◌, ◌/◌, ◌%◌, ◌^◌, ◌<◌, ◌≤◌, true, not, if◌then◌else◌, from_bits, nat_lt};
 ghost use Rattle.std.specs.Float.{binary32};
 ghost use Rattle.std.specs.Float.Ieee.{unlike};
-ghost use Rattle.elementary.specs.Power.{abs_diff, product, signed_arg, near_bits};
+ghost use Rattle.elementary.specs.Power.{product, signed_arg, near_bits};
 ghost use Rattle.elementary.specs.Power as Power;
-ghost use Rattle.elementary.specs.Quick.{Near, Quick, ArgAsked, ArgIs};
+ghost use Rattle.elementary.specs.Quick.{Near, Quick};
 
 // log2 1 as the patterns count it, in units of 2^-32, and the exponent of 2 for x^y = 1, in units of 2^-39.
 const LOG2_ONE: u64 = 159 << 32;
@@ -23,23 +23,11 @@ pub(crate) fn normalized(b: u32) -> u32
     b + 0x10000000
 }
 
-pub(crate) fn abs_diff(l: u64, n: u64) -> u64
-    ensures { result ≡ abs_diff l n }
-{
-    if l < n {
-        return n - l;
-    }
-    l - n
-}
-
 // Whether y log2 x is below 0, where l is log2 x + n.
 fn is_negative(n: u64, l: u64, c: u32) -> bool
     ensures { result ≡ unlike (nat_lt l n) (not (nat_lt c (2 ^ 31))) }
 {
-    if l < n {
-        return c < 0x80000000;
-    }
-    0x80000000 <= c
+    (l < n) != (0x80000000 <= c)
 }
 
 // (2^16 + 126) 2^39 and u, which is taken away where y log2 x is below 0.
@@ -48,9 +36,10 @@ pub(crate) fn signed_arg(n: u64, l: u64, c: u32, u: u64) -> u64
     ensures { result ≡ signed_arg n l c u }
 {
     if is_negative(n, l, c) {
-        return ARG_ONE - u;
+        ARG_ONE - u
+    } else {
+        ARG_ONE + u
     }
-    ARG_ONE + u
 }
 
 // |y log2 x| in units of 2^-39, for |log2 x| in units of 2^-32 and |y| with the bit pattern a up to 128; 0 below 2^-47.
@@ -59,20 +48,10 @@ fn product_of(g: u64, a: u32) -> u64
     ensures { result ≡ product g a }
 {
     if 0x28000000 <= a {
-        return (((a % 8388608 + 8388608) as u64) * g) >> (143 - a / 8388608);
+        (u64::from(a % 8388608 + 8388608) * g) >> (143 - a / 8388608)
+    } else {
+        0
     }
-    0
-}
-
-// The pattern of x for the logarithm, quick counted from that of 1.
-fn pattern_of(b: u32, quick: bool) -> u32
-    requires { (0 < b) × (b < 0x7F800000) × ((if quick then 0x3F800000 else 0) ≤ b) }
-    ensures { result ≡ (if quick then b - 0x3F800000 else Power.normalized b) }
-{
-    if quick {
-        return b - 0x3F800000;
-    }
-    normalized(b)
 }
 
 // 126 + y log2 x in units of 2^-39, for x from 1 to 2^32 and y from -2 to -2^-31: m has the digits of y, s how far they
@@ -81,41 +60,40 @@ pub(crate) fn quick_arg(l: u64, m: u32, s: u32) -> u64
     requires { (l ≤ 2 ^ 37) × (m < 2 ^ 24) × (16 ≤ s) × (s < 64) }
     ensures { result + m * l / 2 ^ s ≡ 126 * 2 ^ 39 }
 {
-    (126 << 39) - (((m as u64) * l) >> s)
+    (126 << 39) - ((u64::from(m) * l) >> s)
 }
 
 // Whether x is from 1 to 2^32 and y from -2 to -2^-31: two differences, each below 2^28.
 pub(crate) fn is_quick(b: u32, c: u32) -> bool
     ensures { result ≡ true → Quick b c }
 {
-    std::num::wrapping_sub_u32(b, 0x3F800000) / 0x10000000
-        + std::num::wrapping_sub_u32(c, 0xB0000000) / 0x10000000
-        == 0
+    b.wrapping_sub(0x3F800000) / 0x10000000 + c.wrapping_sub(0xB0000000) / 0x10000000 == 0
 }
 
-// y log2 x and 2^16 + 126 in units of 2^-39; quick without the 2^16, from a logarithm counted from 1.
-fn arg_of(l: u64, c: u32, quick: bool) -> u64
-    requires { ArgAsked l c quick }
-    ensures { ArgIs l c quick result }
+// y log2 x and 2^16 + 126 in units of 2^-39.
+fn arg_of(l: u64, c: u32) -> u64
+    requires { (10 * 2 ^ 32 ≤ l) × (l ≤ 287 * 2 ^ 32) × (c % 2 ^ 31 ≤ 0x43000000) }
+    ensures { result ≡ Power.arg_of l c }
 {
-    if quick {
-        return quick_arg(l, c % 8388608 + 8388608, 399 - c / 8388608);
-    }
-    signed_arg(
-        LOG2_ONE,
-        l,
-        c,
-        product_of(abs_diff(l, LOG2_ONE), c % 0x80000000),
-    )
+    let u = product_of(l.abs_diff(LOG2_ONE), c % 0x80000000);
+    signed_arg(LOG2_ONE, l, c, u)
 }
 
-// x^y from the bit patterns. The quick arm is a flag, so that each table has one caller.
-pub(crate) fn near_pow(b: u32, c: u32, quick: bool) -> f32
-    requires { Near b c × (quick ≡ true → Quick b c) }
+// x^y from the bit patterns.
+pub(crate) fn near_pow(b: u32, c: u32) -> f32
+    requires { Near b c }
     ensures { result ≡ from_bits binary32 (near_bits b c) }
 {
-    let p = pattern_of(b, quick);
-    let l = super::log2::log2_of(p);
-    let z = arg_of(l, c, quick);
-    super::exp2::value_of(z, quick)
+    let l = super::log2::log2_of(normalized(b));
+    super::exp2::value_of(arg_of(l, c))
+}
+
+// The same for the quick pairs: the logarithm is counted from 1, and the result is a normal number.
+pub(crate) fn quick_pow(b: u32, c: u32) -> f32
+    requires { Quick b c }
+    ensures { result ≡ from_bits binary32 (near_bits b c) }
+{
+    let l = super::log2::log2_of(b - 0x3F800000);
+    let z = quick_arg(l, c % 8388608 + 8388608, 399 - c / 8388608);
+    super::exp2::normal_of(z)
 }

@@ -23,10 +23,7 @@ fn is_odd(a: u32) -> bool
 fn zero_size(c: u32) -> u32
     ensures { result ≡ zero_size c }
 {
-    if c < 0x80000000 {
-        return 0;
-    }
-    0x7F800000
+    if c < 0x80000000 { 0 } else { 0x7F800000 }
 }
 
 // A zero to the y: the sign of the zero where y is odd.
@@ -35,19 +32,17 @@ fn zero_bits(b: u32, c: u32) -> u32
     ensures { result ≡ zero_bits b c }
 {
     if is_odd(c % 0x80000000) {
-        return zero_size(c) + b;
+        zero_size(c) + b
+    } else {
+        zero_size(c)
     }
-    zero_size(c)
 }
 
 // +infinity to the y.
 fn inf_bits(c: u32) -> u32
     ensures { result ≡ inf_bits c }
 {
-    if c < 0x80000000 {
-        return 0x7F800000;
-    }
-    0
+    if c < 0x80000000 { 0x7F800000 } else { 0 }
 }
 
 // x above 0 to an infinity.
@@ -55,9 +50,10 @@ fn to_inf_bits(b: u32, c: u32) -> u32
     ensures { result ≡ to_inf_bits b c }
 {
     if b < 0x3F800000 {
-        return zero_size(c);
+        zero_size(c)
+    } else {
+        inf_bits(c)
     }
-    inf_bits(c)
 }
 
 // x a zero or +infinity, or y an infinity; y is not 0 and x not 1.
@@ -67,12 +63,12 @@ fn special_bits(b: u32, c: u32) -> u32
     ensures { result ≡ num_bits b c }
 {
     if b % 0x80000000 == 0 {
-        return zero_bits(b, c);
+        zero_bits(b, c)
+    } else if b == 0x7F800000 {
+        inf_bits(c)
+    } else {
+        to_inf_bits(b, c)
     }
-    if b == 0x7F800000 {
-        return inf_bits(c);
-    }
-    to_inf_bits(b, c)
 }
 
 // All of these, with x^0, 1^y and x below 0.
@@ -81,31 +77,21 @@ fn special(b: u32, c: u32) -> f32
     ensures { result ≡ pow_at b c }
 {
     if c % 0x80000000 == 0 {
-        return f32::from_bits(0x3F800000);
+        f32::from_bits(0x3F800000)
+    } else if b == 0x3F800000 {
+        f32::from_bits(0x3F800000)
+    } else if 0x80000000 < b {
+        0.0 / 0.0
+    } else {
+        f32::from_bits(special_bits(b, c))
     }
-    if b == 0x3F800000 {
-        return f32::from_bits(0x3F800000);
-    }
-    if 0x80000000 < b {
-        return 0.0 / 0.0;
-    }
-    f32::from_bits(special_bits(b, c))
 }
 
-// Whether x is finite and above 0 and |y| up to 128: as a value, so that the powers have one caller.
-fn is_near(b: u32, c: u32, quick: bool) -> bool
-    requires { quick ≡ true → Quick b c }
+// Whether x is finite and above 0 and |y| up to 128.
+fn is_near(b: u32, c: u32) -> bool
     ensures { (result ≡ true → Near b c) × (result ≡ false → Near b c → ⊥) }
 {
-    if quick {
-        return true;
-    }
-    if 0 < b {
-        if b < 0x7F800000 {
-            return c % 0x80000000 < 0x43000001;
-        }
-    }
-    false
+    0 < b && b < 0x7F800000 && c % 0x80000000 < 0x43000001
 }
 
 // A large exponent, or a special case.
@@ -113,16 +99,11 @@ fn not_near(b: u32, c: u32) -> f32
     requires { (b % 2 ^ 31 ≤ 0x7F800000) × (c % 2 ^ 31 ≤ 0x7F800000) × (Near b c → ⊥) }
     ensures { result ≡ pow_at b c }
 {
-    if 0 < b {
-        if b < 0x7F800000 {
-            if c % 0x80000000 < 0x7F800000 {
-                if b != 0x3F800000 {
-                    return super::large::large_pow(b, c);
-                }
-            }
-        }
+    if 0 < b && b < 0x7F800000 && c % 0x80000000 < 0x7F800000 && b != 0x3F800000 {
+        super::large::large_pow(b, c)
+    } else {
+        special(b, c)
     }
-    special(b, c)
 }
 
 // Two numbers, by their bit patterns.
@@ -130,11 +111,13 @@ fn of_numbers(b: u32, c: u32) -> f32
     requires { (b % 2 ^ 31 ≤ 0x7F800000) × (c % 2 ^ 31 ≤ 0x7F800000) }
     ensures { result ≡ pow_at b c }
 {
-    let quick = super::power::is_quick(b, c);
-    if is_near(b, c, quick) {
-        return super::power::near_pow(b, c, quick);
+    if super::power::is_quick(b, c) {
+        super::power::quick_pow(b, c)
+    } else if is_near(b, c) {
+        super::power::near_pow(b, c)
+    } else {
+        not_near(b, c)
     }
-    not_near(b, c)
 }
 
 // x or y is a NaN.
@@ -152,21 +135,16 @@ fn of_nan(x: f32, y: f32) -> f32
         return y;
     }
     let zero = f32::to_bits(y) % 0x80000000 == 0;
-    if zero {
-        return f32::from_bits(0x3F800000);
-    }
-    x
+    if zero { f32::from_bits(0x3F800000) } else { x }
 }
 
-#[unsafe(no_mangle)]
-pub extern "C" fn powf_f32(x: f32, y: f32) -> f32
+pub fn powf_f32(x: f32, y: f32) -> f32
     ensures value { result ≡ pow_of x y }
     ensures bound { IsPow x y result }
 {
-    if x == x {
-        if y == y {
-            return of_numbers(f32::to_bits(x), f32::to_bits(y));
-        }
+    if x == x && y == y {
+        of_numbers(x.to_bits(), y.to_bits())
+    } else {
+        of_nan(x, y)
     }
-    of_nan(x, y)
 }

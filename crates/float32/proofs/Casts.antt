@@ -8,9 +8,9 @@
 --   bottom_signed, nan_signed          below -2 ^ 31, and a NaN
 --   zero_unsigned                      -1 and below, and a NaN
 --   Middle-unsigned, middle-unsigned   above -1 and below 2 ^ 32, as Middle
-use Rattle.std.proofs.Common.{◌≡◌, ℕ, ◌+◌, ◌-◌, ◌*◌, ◌/◌, ◌^◌, ◌<◌, ◌≤◌, min, Bool, true, false, not, ◌&&◌, ◌||◌, T, eqb, ltb, ℤ, pos, negsuc, neg_ℤ, sym, refl, ap, le_of_lt, mul_comm, div-lt_iff_lt-mul, mul-pos, one-mul, le-div_iff_mul-le, arith, lit<, lit≤, eqb→eq, lt→ltb, T_not, pow_pos}
+use Rattle.std.proofs.Common.{◌≡◌, ℕ, ◌+◌, ◌-◌, ◌*◌, ◌/◌, ◌^◌, ◌<◌, ◌≤◌, min, Bool, true, false, not, ◌&&◌, ◌||◌, T, eqb, ltb, pos, negsuc, neg_ℤ, sym, refl, ap, le_of_lt, mul_comm, div-lt_iff_lt-mul, mul-pos, one-mul, le-div_iff_mul-le, arith, lit<, lit≤, eqb→eq, lt→ltb, T_not, pow_pos}
 use native.Mathlib.Nat.{div-le_of_le-mul}
-use lib.Ieee.{Float, nan, inf, fin, up, down, lt, eq, le, to_signed, to_unsigned}
+use lib.Ieee.{Float, nan, inf, fin, up, down, lt, eq, le, to_signed}
 use lib.Ieee.Fits.{down_pos, and_r}
 use Rattle.float32.proofs.Cmp.{le_pos, gt_pos, le-neg, gt-neg}
 
@@ -60,16 +60,6 @@ top_signed w (fin true m e) t = absurd (not-zero (1 * 2 ^ w * down e) (eqb (1 * 
     (above_zero w (down e) (down_pos e)) t)
 top_signed w (fin false m e) t = ap pos
     (capped (2 ^ w) (m * up e / down e) (at_least (m * up e) (down e) (2 ^ w) (down_pos e) (le_pos 1 (pos w) m e t)))
-
-pub top_unsigned : (w : ℕ) (x : Float) → T (le (two_to w) x) → 2 ^ w - 1 ≡ to_unsigned w x
-unfolding le lt eq to_unsigned
-top_unsigned w nan t = absurd t
-top_unsigned w (inf true) t = absurd t
-top_unsigned w (inf false) t = refl
-top_unsigned w (fin true m e) t = absurd (not-zero (1 * 2 ^ w * down e) (eqb (1 * 2 ^ w * down e) (m * up e * 1))
-    (above_zero w (down e) (down_pos e)) t)
-top_unsigned w (fin false m e) t = capped (2 ^ w) (m * up e / down e) (at_least (m * up e) (down e) (2 ^ w) (down_pos e)
-    (le_pos 1 (pos w) m e t))
 
 -- ---- at least -2 ^ 31, and below 2 ^ 31
 uncapped_le : (q P R : ℕ) → q ≤ P → P ≤ R → min q R ≡ min q P
@@ -159,36 +149,3 @@ nan_signed (fin false m e) a b = absurd (T_not (ltb 0 (1 * 2 ^ 31 * down e + m *
     (lt→ltb 0 (1 * 2 ^ 31 * down e + m * up e * 1) (positive_sum _ _ (above_zero 31 (down e) (down_pos e)))))
 
 -- ---- unsigned
-pub zero_unsigned : (w : ℕ) (x : Float) → T (not (lt (minus_two_to 0) x)) → 0 ≡ to_unsigned w x
-unfolding lt to_unsigned
-zero_unsigned w nan a = refl
-zero_unsigned w (inf true) a = refl
-zero_unsigned w (inf false) a = absurd a
-zero_unsigned w (fin true m e) a = refl
-zero_unsigned w (fin false m e) a = absurd (T_not (ltb 0 (1 * down e + m * up e * 1)) a
-    (lt→ltb 0 (1 * down e + m * up e * 1) (positive_sum _ _ (above_zero 0 (down e) (down_pos e)))))
-
-negative_lt : (m : ℕ) (e : ℤ) (w : ℕ) → T (lt (fin true m e) (two_to w))
-unfolding lt
-negative_lt m e w = lt→ltb 0 (m * up e * 1 + 1 * 2 ^ w * down e) (sum_positive _ _ (above_zero w (down e) (down_pos e)))
-
-abbrev pub Middle-unsigned : Float → Type 0
-Middle-unsigned x = T (lt x (two_to 64)) × (to_unsigned 64 x ≡ to_unsigned 32 x)
-
-wide-u : (n d : ℕ) → 0 < d → n * 1 < 4294967296 * d → n * 1 < 18446744073709551616 * d
-wide-u n d h k = omega arith
-
-pub middle-unsigned : (x : Float) → T (lt (minus_two_to 0) x) → T (not (le (two_to 32) x)) → Middle-unsigned x
-unfolding lt le eq to_unsigned
-middle-unsigned nan a b = absurd a
-middle-unsigned (inf true) a b = absurd a
-middle-unsigned (inf false) a b = absurd b
-middle-unsigned (fin true m e) a b = (negative_lt m e 64, refl)
-middle-unsigned (fin false m e) a b =
-    let n = m * up e in
-    let d = down e in
-    let h : n * 1 < 1 * 2 ^ 32 * d = gt_pos 1 (pos 32) m e b in (
-      lt→ltb (n * 1) (1 * 2 ^ 64 * d) (wide-u n d (down_pos e) h),
-      uncapped_lt (n / d) (2 ^ 32) (2 ^ 64)
-          (below n d (2 ^ 32) (down_pos e) h) (lit≤ tt),
-    )

@@ -2,12 +2,11 @@
 --   product_lt            a product of two significands has at most 48 digits
 --   left, right           the two terms of the sum, over 2 ^ 1074
 --   fma_is                of finite floats: `mul_add` is the sum of these
---   fma_x, fma_y, fma_z   where x, y or z is not finite
-use Rattle.std.proofs.Common.{◌≡◌, ℕ, ◌+◌, ◌*◌, ◌^◌, ◌<◌, Bool, false, T, sym, refl, ap, ◌∙◌, true≢false, lt_of_le_of_lt, le_of_lt, mul_assoc, mul_comm, mul-le-mul_left, mul-lt-mul_of_pos_right, mul-pos, mul_left_comm, lit<, pow_pos, pow-add}
-use lib.Ieee.{Float, nan, inf, fin, binary32, up, down, unlike, sum, mul, add}
+use Rattle.std.proofs.Common.{◌≡◌, ℕ, ◌+◌, ◌*◌, ◌^◌, ◌<◌, Bool, sym, ap, ◌∙◌, lt_of_le_of_lt, le_of_lt, mul_assoc, mul_comm, mul-le-mul_left, mul-lt-mul_of_pos_right, mul-pos, mul_left_comm, lit<, pow_pos, pow-add}
+use lib.Ieee.{Float, nan, inf, fin, binary32, up, down, unlike, sum}
 use lib.Ieee.Fits.{down_pos}
 use lib.Ieee.Exact.{HasValue}
-use Rattle.float32.specs.Float32.{is_finite, mul_add}
+use Rattle.float32.specs.Float32.{mul_add}
 use Rattle.float32.proofs.Sums.{sum_same}
 
 pub product_lt : (a b : ℕ) → a < 2 ^ 24 → b < 2 ^ 24 → a * b < 2 ^ 48
@@ -66,26 +65,3 @@ fma_is (fin s' m e) (fin t' n d) (fin u' h g) s t u a b c i j k p q r =
     (right (m * up e) (n * up d) (h * up g) (down e) (down d) (down g) a b c i j k p.1 q.1 r.1)
 
 -- ---- where one is not finite
-pub fma_x : (x y z : Float) → is_finite x ≡ false → add binary32 (mul binary32 x y) z ≡ mul_add x y z
-unfolding is_finite mul_add add mul
-fma_x nan y z h = refl
-fma_x (inf s) y z h = refl
-fma_x (fin s m e) y z h = absurd (true≢false h)
-
-pub fma_y : (x y z : Float) → T (is_finite x) → is_finite y ≡ false → add binary32 (mul binary32 x y) z ≡ mul_add x y z
-unfolding is_finite mul_add add mul
-fma_y nan y z f h = absurd f
-fma_y (inf s) y z f h = absurd f
-fma_y (fin s m e) nan z f h = refl
-fma_y (fin s m e) (inf t) z f h = refl
-fma_y (fin s m e) (fin t n d) z f h = absurd (true≢false h)
-
-pub fma_z : (x y z : Float) → T (is_finite x) → T (is_finite y) → is_finite z ≡ false → z ≡ mul_add x y z
-unfolding is_finite mul_add
-fma_z nan y z f g h = absurd f
-fma_z (inf s) y z f g h = absurd f
-fma_z (fin s m e) nan z f g h = absurd g
-fma_z (fin s m e) (inf t) z f g h = absurd g
-fma_z (fin s m e) (fin t n d) nan f g h = refl
-fma_z (fin s m e) (fin t n d) (inf u) f g h = refl
-fma_z (fin s m e) (fin t n d) (fin u k o) f g h = absurd (true≢false h)

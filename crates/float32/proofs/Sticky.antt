@@ -1,6 +1,4 @@
--- Rounding sees of a fraction only where it lies between two neighbours of a fine enough grid. So where a fraction is
--- not on the grid, any other point strictly between the same two neighbours stands for it: the odd one of a grid twice
--- as fine. `round_odd` says so of `Ieee.round`.
+-- Where a fraction lies between two neighbours of a grid, and how it is rounded to them.
 --   Cmp, cmp                             what the outcome of `compare` says
 --   compare-lt, compare-gt, compare-eq   its outcome, from the order
 --   closest_of                           `closest` from a quotient and a remainder
@@ -8,8 +6,7 @@
 --   size-gt, drop_is                     how many digits are dropped, from where the fraction lies
 --   drop_under, drop-over                where the fraction lies, from how many digits are dropped
 --   round-at                             `round` by `closest`, with k digits dropped
---   round_odd                            the rule above
-use Rattle.std.proofs.Common.{◌≡◌, ℕ, ◌+◌, ◌-◌, ◌*◌, ◌/◌, ◌%◌, ◌^◌, ◌<◌, ◌≤◌, Bool, true, false, not, T, eqb, ltb, ◌⊎◌, sym, refl, ap, ◌∙◌, subst, inl, inr, le_trans, le_of_eq, lt_of_lt_of_le, lt_of_le_of_lt, le_of_lt, lt_irrefl, mul-le-mul_right, mod-lt, mul_assoc, mul_comm, div-lt_iff_lt-mul, add-mul, eq-zero-or-pos, lt_of_mul-lt-mul_right, mul-lt-mul_of_pos_right, mul-pos, lt_of_not-le, div-add-mod', le-div_iff_mul-le, mul_right_comm, not-le_of_lt, le_of_mul-le-mul_right, mul_left_comm, arith, eqb→eq, ltb→lt, leb→le, nltb→le, pow_pos, pow_mono, pow-add}
+use Rattle.std.proofs.Common.{◌≡◌, ℕ, ◌+◌, ◌-◌, ◌*◌, ◌/◌, ◌%◌, ◌^◌, ◌<◌, ◌≤◌, Bool, true, false, not, T, eqb, ltb, ◌⊎◌, sym, refl, ap, ◌∙◌, subst, inl, inr, le_trans, le_of_eq, lt_of_lt_of_le, lt_of_le_of_lt, lt_irrefl, mul-le-mul_right, mod-lt, mul_assoc, mul_comm, div-lt_iff_lt-mul, add-mul, eq-zero-or-pos, mul-lt-mul_of_pos_right, mul-pos, lt_of_not-le, div-add-mod', le-div_iff_mul-le, mul_right_comm, not-le_of_lt, mul_left_comm, arith, eqb→eq, ltb→lt, leb→le, nltb→le, pow_pos, pow_mono, pow-add}
 use Prim.Native.Nat.{compare, Ordering}
 use lib.Dec.{is_le, compare_is_eq, nleb→lt, eqb_refl}
 use lib.Arith.{lt_of_le-ne, digits_div, digits_mod}
@@ -325,52 +322,5 @@ module _ (f : Format) (s : Bool) (num den O a b : ℕ) (D : 0 < den) (o : O % 2 
   top_is = ap (λ (z : ℕ). z * B) (pow-add 2 p j) ∙ mul_assoc (2 ^ p) (2 ^ j) B ∙ ap (λ (z : ℕ). 2 ^ p * z)
       (mul_comm (2 ^ j) B ∙ sym Wu ∙ mul_comm W u) ∙ sym (mul_assoc (2 ^ p) u W)
 
-  O-under : O < 2 ^ p * u
-  O-under = lt_of_mul-lt-mul_right W (lt_of_lt_of_le n₂_under (le_of_eq top_is))
-
-  n₁_under : n₁ < 2 ^ (p + j) * den
-  n₁_under =
-      lt_of_mul-lt-mul_right B
-      (lt_of_lt_of_le hi'
-      (le_trans (mul-le-mul_right v (go (2 ^ p * u) O-under))
-      (le_of_eq (sym (mul_assoc (2 ^ p * u) W den) ∙ ap (λ (z : ℕ). z * den) (sym top_is) ∙ mul_right_comm (2 ^ (p + j))
-      B den))))
-    where
-      go : (x : ℕ) → O < x → O + 1 ≤ x
-      go x h = omega arith
-
   abbrev E : ℕ
   E = 2 ^ p * (2 * 2 ^ i)
-
-  half_top : 2 ^ (p + j - 1) * B ≡ E * W
-  half_top =
-      sym (pow-add 2 (p + j - 1) b)
-      ∙ ap (λ (z : ℕ). 2 ^ z) go
-      ∙ pow-add 2 (p + (1 + i)) (a + l)
-      ∙ ap (λ (z : ℕ). z * W) (pow-add 2 p (1 + i) ∙ ap (λ (z : ℕ). 2 ^ p * z) (pow-add 2 1 i))
-    where
-      go : p + j - 1 + b ≡ p + (1 + i) + (a + l)
-      go = omega (arith, reach, p_pos)
-
-  E-even : E ≡ 2 * (2 ^ p * 2 ^ i)
-  E-even = mul_left_comm (2 ^ p) 2 (2 ^ i)
-
-  n₁-over : 0 < j → 2 ^ (p + j - 1) * den ≤ n₁
-  n₁-over h =
-      let a1 : E * W ≤ O * W = le_trans (le_of_eq (sym half_top)) (le_trans (drop-over p n₂ B p_pos (pow_pos b) h)
-      (le_of_eq n₂_is)) in
-      let a2 : E ≤ O = le_of_mul-le-mul_right a1 (pow_pos (a + l)) in
-      let a3 : E * v < n₁ * B = lt_of_le_of_lt (mul-le-mul_right v (go E (2 ^ p * 2 ^ i) E-even a2)) lo' in
-      le_of_mul-le-mul_right
-      (le_trans (le_of_eq (mul_right_comm (2 ^ (p + j - 1)) den B ∙ ap (λ (z : ℕ). z * den) half_top
-      ∙ mul_assoc E W den)) (le_of_lt a3)) (pow_pos b)
-    where
-      go : (x y : ℕ) → x ≡ 2 * y → x ≤ O → x ≤ O - 1
-      go x y e g = omega arith
-
-  pub round_odd : round f s num den ≡ round f s (O * 2 ^ a) (2 ^ b)
-  round_odd =
-      round-at f s num den j D n₁_under n₁-over
-      ∙ ap (λ (z : ℕ). units f s z j) both
-      ∙ sym (round-at f s (O * 2 ^ a) B j (pow_pos b) (drop_under p n₂ B p_pos (pow_pos b))
-      (drop-over p n₂ B p_pos (pow_pos b)))

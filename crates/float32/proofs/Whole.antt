@@ -1,34 +1,20 @@
 -- `Float32.round` of a finite `f32` from the fields of its bit pattern.
---   not_finite-round             a float that is not finite stays as it is
 --   cross, half                  a fraction n / d as q * 2 ^ k / 2 ^ 149, and its whole part with a half added
 --   w-scaled, n_is, half-none    the same where it is a whole number
---   round-small, round_big       the law, of a float with a fraction, and of a whole number
 --   neg-round                    a negative result
---   half_le, half_none'          the whole part is at most 2 ^ 24, and 0 where more than 25 digits go
---   one_shifted, one-small       1 shifted up by at most 25 digits
 --   round_number                 a number rounds to a number
-use Rattle.std.proofs.Common.{◌≡◌, ℕ, zero, suc, ◌+◌, ◌-◌, ◌*◌, ◌/◌, ◌%◌, ◌^◌, ◌<◌, ◌≤◌, Bool, true, false, cond, T, ltb, leb, sym, refl, ap, ◌∙◌, true≢false, le_trans, le_of_eq, lt_of_lt_of_le, lt_of_le_of_lt, le_of_lt, mod-eq_of_lt, mul_assoc, mul_comm, add-mul, mul-pos, one-mul, mul-one, mul_right_comm, mul_left_comm, arith, lit<, pow_pos, pow_mono, shl_lt}
-use native.Mathlib.Nat.{eq_of_mul-eq-mul_right, div-eq_of_lt}
-use native.Mathlib.Nat.{div-le_of_le-mul}
+use Rattle.std.proofs.Common.{◌≡◌, ℕ, zero, suc, ◌+◌, ◌-◌, ◌*◌, ◌/◌, ◌^◌, ◌<◌, ◌≤◌, Bool, true, false, cond, T, ltb, leb, sym, refl, ap, ◌∙◌, true≢false, le_of_lt, mul_assoc, mul_comm, add-mul, mul-pos, mul_right_comm, mul_left_comm, arith, lit<, pow_pos}
+use native.Mathlib.Nat.{eq_of_mul-eq-mul_right}
 use lib.Arith.{digits_div}
 use lib.Ieee.{Float, is_nan, nan, inf, fin, binary32, up, down, fits, to_bits, round, odd, units, neg, prec, emax, low}
 use lib.Ieee.{Format}
-use lib.Ieee.Fits.{down_pos, round-fits, round_is}
+use lib.Ieee.Fits.{round_is}
 use lib.Ieee.Bits.{is_false}
-use lib.Ieee.Exact.{HasValue, round_exact}
 use lib.Ieee.Nearest.{div_same}
-use lib.Ieee.Back.{whole_unique}
 use Rattle.float32.specs.Float32 as Float32
-use Rattle.float32.specs.Encoding.{significand, exponent}
-use Rattle.float32.proofs.Decode.{Decoded, decode, significand-lt}
+use Rattle.float32.proofs.Decode.{Decoded, decode}
 use Rattle.float32.proofs.Rescale.{pow_split}
 use Rattle.float32.proofs.Widened.{round_no_nan}
-
-pub not_finite-round : (x : Float) → Float32.is_finite x ≡ false → x ≡ Float32.round x
-unfolding Float32.is_finite Float32.round
-not_finite-round nan h = refl
-not_finite-round (inf s) h = refl
-not_finite-round (fin s m e) h = absurd (true≢false h)
 
 -- ---- n / d is q * 2 ^ k / 2 ^ 149
 module _ (n d q k : ℕ) (D : 0 < d) (v : n * 2 ^ 149 ≡ q * 2 ^ k * d) where
@@ -89,57 +75,8 @@ module _ (x : Float) (F : T (fits binary32 x)) (p : T (Float32.is_finite x)) whe
 
   d : Decoded binary32 b x
   d = decode binary32 x F p
-
   -- ---- with a fraction
-  pub round-small : exponent binary32 b < 149
-      → round binary32 s ((2 * significand binary32 b + 2 ^ (149 - exponent binary32 b))
-      / (2 * 2 ^ (149 - exponent binary32 b))) 1 ≡ Float32.round x
-  unfolding Float32.round
-  round-small K = go x d.0
-    where
-      go : (y : Float) → HasValue y s (significand binary32 b * 2 ^ exponent binary32 b) (2 ^ 149)
-          → round binary32 s ((2 * significand binary32 b + 2 ^ (149 - exponent binary32 b))
-          / (2 * 2 ^ (149 - exponent binary32 b))) 1 ≡ Float32.round y
-      go nan h = absurd h
-      go (inf t) h = absurd h
-      go (fin t m e) h = ap
-          (λ (z : Bool). round binary32 z
-          ((2 * significand binary32 b + 2 ^ (149 - exponent binary32 b)) / (2 * 2 ^ (149 - exponent binary32 b))) 1)
-          (sym h.0) ∙ ap (λ (z : ℕ). round binary32 t z 1)
-          (sym (half (m * up e) (down e) (significand binary32 b) (exponent binary32 b) (down_pos e) h.1 K))
-
   -- ---- with none
-  whole_is : (K : 149 ≤ exponent binary32 b) → HasValue x s (significand binary32 b * 2 ^ (exponent binary32 b - 149)) 1
-      → x ≡ round binary32 s (significand binary32 b * 2 ^ (exponent binary32 b - 149)) 1
-  whole_is K h =
-      let w = significand binary32 b * 2 ^ (exponent binary32 b - 149) in
-      whole_unique binary32 x (round binary32 s w 1) s w F (round-fits binary32 s w 1) h
-      (round_exact binary32 s w 1 (significand binary32 b) (exponent binary32 b) (lit< tt) (significand-lt binary32 b)
-      (lt_of_lt_of_le (shl_lt 24 (exponent binary32 b) (significand-lt binary32 b))
-      (pow_mono {i = 24 + exponent binary32 b} {j = 277} (omega (arith, d.1))))
-      (mul_assoc (significand binary32 b) (2 ^ (exponent binary32 b - 149)) (2 ^ 149)
-      ∙ ap (λ (z : ℕ). significand binary32 b * z) (pow_split (exponent binary32 b - 149) 149 (exponent binary32 b)
-      (omega arith)) ∙ sym (mul-one (significand binary32 b * 2 ^ exponent binary32 b))))
-
-  pub round_big : 149 ≤ exponent binary32 b → x ≡ Float32.round x
-  unfolding Float32.round
-  round_big K = go x d.0 (whole_is K)
-    where
-      go : (y : Float) → HasValue y s (significand binary32 b * 2 ^ exponent binary32 b) (2 ^ 149)
-          → (HasValue y s (significand binary32 b * 2 ^ (exponent binary32 b - 149)) 1
-          → y ≡ round binary32 s (significand binary32 b * 2 ^ (exponent binary32 b - 149)) 1) → y ≡ Float32.round y
-      go nan h f = absurd h
-      go (inf t) h f = absurd h
-      go (fin t m e) h f =
-          f (
-            h.0,
-            mul-one (m * up e) ∙ n_is (m * up e) (down e) (significand binary32 b) (exponent binary32 b)
-                (down_pos e) h.1 K,
-          )
-          ∙ ap (λ (z : Bool). round binary32 z (significand binary32 b * 2 ^ (exponent binary32 b - 149)) 1)
-          (sym h.0)
-          ∙ ap (λ (z : ℕ). round binary32 t z 1)
-          (sym (half-none (m * up e) (down e) (significand binary32 b) (exponent binary32 b) (down_pos e) h.1 K))
 
 -- ---- a negative result
 neg-odd : (d q k l : ℕ) → neg (odd d false q k l) ≡ odd d true q k l
@@ -160,24 +97,6 @@ pub neg-round : (f : Format) (num den : ℕ) → neg (round f false num den) ≡
 neg-round f num den = ap neg (round_is f false num den) ∙ neg-units f _ _ ∙ sym (round_is f true num den)
 
 -- ---- what the two shifts leave
-pub half_le : (q u : ℕ) → q < 2 ^ 24 → 0 < u → (2 * q + u) / (2 * u) ≤ 2 ^ 24
-half_le q u h p = div-le_of_le-mul (2 * u) (go (2 * u * 2 ^ 24) refl)
-  where
-    go : (x : ℕ) → x ≡ 2 * u * 2 ^ 24 → 2 * q + u ≤ x
-    go x e = omega arith
-
-pub half_none' : (q sh : ℕ) → q < 2 ^ 24 → 25 < sh → 0 ≡ (2 * q + 2 ^ sh) / (2 * 2 ^ sh)
-half_none' q sh h k = sym (div-eq_of_lt (go (2 ^ sh) (pow_mono {i = 25} {j = sh} (le_of_lt k))))
-  where
-    go : (x : ℕ) → 2 ^ 25 ≤ x → 2 * q + x < 2 * x
-    go x l = omega arith
-
-pub one_shifted : (sh : ℕ) → sh ≤ 25 → 1 * 2 ^ sh % 2 ^ 64 ≡ 2 ^ sh
-one_shifted sh h = mod-eq_of_lt (lt_of_le_of_lt (le_trans (le_of_eq (one-mul (2 ^ sh))) (pow_mono {i = sh} {j = 25} h))
-    (lit< tt)) ∙ one-mul (2 ^ sh)
-
-pub one-small : (sh : ℕ) → sh ≤ 25 → 1 * 2 ^ sh % 2 ^ 64 ≤ 2 ^ 25
-one-small sh h = le_trans (le_of_eq (one_shifted sh h)) (pow_mono {i = sh} {j = 25} h)
 
 -- ---- a number rounds to a number
 pub round_number : (x : Float) → is_nan x ≡ false → is_nan (Float32.round x) ≡ false

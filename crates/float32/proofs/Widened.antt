@@ -5,11 +5,10 @@
 --   mul-exact                   the product is exact
 --   wider                       a value in units of 2 ^ -149, in units of 2 ^ -1074
 --   sum_64                      the sum is the exact value, rounded once
---   round_no_nan, bits_finite   a rounded fraction is no NaN; a pattern whose field is not all ones is finite
-use Rattle.std.proofs.Common.{◌≡◌, ℕ, zero, suc, ◌+◌, ◌-◌, ◌*◌, ◌/◌, ◌%◌, ◌^◌, ◌<◌, ◌≤◌, Bool, true, false, cond, not, ◌&&◌, T, eqb, ltb, sym, refl, ap, ◌∙◌, subst, lt_of_lt_of_le, mul_assoc, mul_comm, mul-pos, mul-one, mul_right_comm, arith, lit≤, pow_pos, pow_mono, pow-add, shl_lt, ne_eqb}
-use lib.Pow.{field}
+--   round_no_nan                a rounded fraction is no NaN
+use Rattle.std.proofs.Common.{◌≡◌, ℕ, zero, suc, ◌+◌, ◌-◌, ◌*◌, ◌^◌, ◌<◌, ◌≤◌, Bool, true, false, cond, not, ◌&&◌, T, ltb, sym, refl, ap, ◌∙◌, subst, lt_of_lt_of_le, mul_assoc, mul_comm, mul-pos, mul-one, mul_right_comm, arith, lit≤, pow_pos, pow_mono, pow-add, shl_lt}
 use lib.Ieee.{Float, nan, inf, fin, Format, binary32, binary64, up, down, prec, emax, low, odd, units, fits, unlike}
-use lib.Ieee.{is_nan, round, sum, add, mul, of_fields, of_bits}
+use lib.Ieee.{is_nan, round, sum, add, mul}
 use lib.Ieee.Fits.{and_i, down_pos, fits_widens, round_is}
 use lib.Ieee.Exact.{HasValue, round_exact}
 use lib.Ieee.Scale.{round_same}
@@ -123,19 +122,3 @@ pub round_no_nan : (f : Format) (s : Bool) (num den : ℕ) → T (not (is_nan (r
 round_no_nan f s num den = subst (λ (x : Float). T (not (is_nan x))) (sym (round_is f s num den)) (units_no_nan f s _ _)
 
 -- ---- a pattern whose field is not all ones is finite
-odd_finite : (d : ℕ) (s : Bool) (q k l : ℕ) → T (is_finite (odd d s q k l))
-unfolding odd is_finite
-odd_finite d s zero k l = tt
-odd_finite d s (suc q) k l = tt
-
-fields_finite : (s : Bool) (x t : ℕ) → (x ≡ 2047 → ⊥) → T (is_finite (of_fields binary64 s x t))
-unfolding of_fields
-fields_finite s zero t h = odd_finite 53 s t 0 1074
-fields_finite s (suc j) t h = subst
-    (λ (b : Bool). T (is_finite (cond b (cond (eqb t 0) (inf s) nan) (odd 53 s (2 ^ 52 + t) j 1074))))
-    (sym (ne_eqb (suc j) 2047 h)) (odd_finite 53 s (2 ^ 52 + t) j 1074)
-
-pub bits_finite : (b : ℕ) → (b / 2 ^ 52 % 2 ^ 11 ≡ 2047 → ⊥) → T (is_finite (of_bits binary64 b))
-unfolding of_bits
-bits_finite b h = fields_finite _ (b % 2 ^ 63 / 2 ^ 52) (b % 2 ^ 52)
-    (λ (e : b % 2 ^ 63 / 2 ^ 52 ≡ 2047). h (sym (field b 11 52) ∙ e))

@@ -2,4 +2,3 @@ pub mod Float32
 pub mod Ops
 pub mod Numbers
 pub mod Encoding
-pub mod Sticky

@@ -1,14 +1,8 @@
--- The loop's invariant: the choice among the weights from i on, by the sum and the last positive weight before them,
--- is the choice among all.
--- The measure is how many weights are left.
-use Rattle.std.proofs.Common.{◌≡◌, ◌-◌, ◌≤◌, length, drop}
+-- The choice among the weights from i on, by the sum and the last positive weight before them, is the choice among all.
+use Rattle.std.proofs.Common.{◌≡◌, drop}
 use Rattle.float32.specs.Numbers.{0ᶠ}
 use Rattle.draws.specs.Draws.{choose}
 use Rattle.draws.proofs.rating.Given as goal
 
 abbrev pub invariant-loop-i : goal.invariant-loop-i
-invariant-loop-i l = (l.i ≤ length l.weights)
-    × (choose l.target 0ᶠ 0 0 l.weights ≡ choose l.target l.sum l.i l.positive (drop l.i l.weights))
-
-abbrev pub decreases-loop-i : goal.decreases-loop-i
-decreases-loop-i l = length l.weights - l.i
+invariant-loop-i l = choose l.target 0ᶠ 0 0 l.weights ≡ choose l.target l.sum l.i l.positive (drop l.i l.weights)

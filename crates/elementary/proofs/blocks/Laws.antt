@@ -9,9 +9,9 @@ use native.Mathlib.Decide.{dec_lt}
 use lib.Ieee.{Float, binary32, to_bits, of_bits}
 use Rattle.elementary.specs.Power.{log2_of, exp2_bits, near_bits}
 use Rattle.elementary.specs.Pow.{pow_of}
-use Rattle.elementary.specs.Quick.{Quick, IsBase, IsDecay, quick_arg}
+use Rattle.elementary.specs.Quick.{IsBase, IsDecay, quick_arg}
 use Rattle.elementary.proofs.Common.{number_of-bits}
-use Rattle.elementary.proofs.power.Steps.{log_most, quick_size, arg_quick, pow-from}
+use Rattle.elementary.proofs.power.Steps.{log_most, quick_size, arg_quick, pow_quick}
 use Rattle.elementary.proofs.power.Finite.{is_near}
 use Rattle.elementary.proofs.powf.Cases.{of_numbers, at_regular}
 
@@ -47,13 +47,10 @@ module _ (b c : ℕ) (low : 0x3F800000 ≤ b) (high : b < 0x4F800000) (d : IsDec
   arg_from l r el e =
       omega (arith, e, whole, ap (λ (z : ℕ). (c % 2 ^ 23 + 2 ^ 23) * z / 2 ^ (399 - c / 2 ^ 23)) el)
 
-  quick : Quick b c
-  quick = record { x_low = low; x_high = high; y_low = d.low; y_high = d.high }
-
   bits_is : exp2_bits (quick_arg b c + 2 ^ 55) ≡ near_bits b c
   bits_is =
-      pow-from b c (b - 0x3F800000) (log2_of (b - 0x3F800000)) (quick_arg b c) true (λ _. quick) refl refl
-      (arg_quick (log2_of (b - 0x3F800000)) c (quick_arg b c) true refl d.low d.high whole)
+      pow_quick b c (log2_of (b - 0x3F800000)) (quick_arg b c) low refl
+      (arg_quick (log2_of (b - 0x3F800000)) c (quick_arg b c) d.low d.high whole)
 
 pub quick_is : (x y : Float) → IsBase x → IsDecay (to_bits binary32 y)
     → of_bits binary32 (exp2_bits (quick_arg (to_bits binary32 x) (to_bits binary32 y) + 2 ^ 55)) ≡ pow_of x y

@@ -2,7 +2,7 @@
 -- 8 too high and 16 too low, and z is y log2 x + 2^16 + 126 in units of 2^-39.
 --   Sized n m g u              u is |y| g in units of 2^-39, rounded down
 --   Side n s l g, side         l is g above n, or with s set below; abs_diff gives that g
---   diff_le                    abs_diff from above
+--   diff_is, diff_le           abs_diff from the differences, and from above
 --   Around s z u, arg_around   z is 2^16 + 126 and u, or with s set less u; signed_arg gives that z
 --   low-at, high-at            the bounds of x^y
 use Rattle.std.proofs.Common.{◌≡◌, ℕ, ◌+◌, ◌-◌, ◌*◌, ◌^◌, ◌<◌, ◌≤◌, Bool, true, false, cond, not, ltb, ◌⊎◌, sym, refl, ap, ◌∙◌, inl, inr, mul-le-mul_left, arith, lit<, le-ltb, lt-ltb}
@@ -28,6 +28,15 @@ unfolding abs_diff
 side n l = go (lt_or_ge l n)
   where
     go : (l < n) ⊎ (n ≤ l) → Side n (ltb l n) l (abs_diff l n)
+    go (inl h) = rw (lt-ltb l n h) (omega arith)
+    go (inr h) = rw (le-ltb l n h) (omega arith)
+
+-- the library's is the sum of both differences, of which one is 0
+pub diff_is : (l n : ℕ) → l - n + (n - l) ≡ abs_diff l n
+unfolding abs_diff
+diff_is l n = go (lt_or_ge l n)
+  where
+    go : (l < n) ⊎ (n ≤ l) → l - n + (n - l) ≡ abs_diff l n
     go (inl h) = rw (lt-ltb l n h) (omega arith)
     go (inr h) = rw (le-ltb l n h) (omega arith)
 

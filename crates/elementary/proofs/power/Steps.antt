@@ -3,10 +3,10 @@
 --   product_near, product-none   product by a shift, and where it is 0
 --   product_small                its size
 --   quick_size                   the sizes in the quick arm
---   arg_quick, arg_other         the exponent of 2 is as promised, in the quick arm and elsewhere
+--   arg_quick, arg_other         the exponent of 2 is as defined, in the quick arm and elsewhere
 --   log_most                     log2 x counted from 1
---   pattern-asked, arg_asked     what the two steps ask
---   near_is, pow-from            near_bits, and from the code's steps
+--   near_is                      near_bits
+--   pow_near, pow_quick          from the code's steps
 --   quick_from                   the quick arm's test
 --   near_to_zero, near_one       x^0 and 1^y
 use Rattle.std.proofs.Common.{◌≡◌, ℕ, ◌+◌, ◌-◌, ◌*◌, ◌/◌, ◌%◌, ◌^◌, ◌<◌, ◌≤◌, Bool, true, false, cond, not, T, eqb, ltb, sym, refl, ap, ◌∙◌, subst, ap₂, true≢false, le_trans, le_of_eq, lt_of_le_of_lt, mul-le-mul, mul-le-mul_left, mul-zero, zero-mul, div-mul-le_self, mul-div_cancel, arith, lit<, lit≤, eqb→eq, pow_pos, pow_mono, pow-add, le-ltb}
@@ -14,7 +14,7 @@ use native.Mathlib.Nat.{div-div-eq-div-mul, div-eq_of_lt, zero-div}
 use lib.Ieee.{unlike}
 use Rattle.elementary.specs.Power.{normalized, log2_at, log2_of, abs_diff, signed_arg, product, arg_of, exp2_of}
 use Rattle.elementary.specs.Power.{exp2_bits, near_bits}
-use Rattle.elementary.specs.Quick.{Quick, ArgAsked, ArgIs}
+use Rattle.elementary.specs.Quick.{Quick}
 use Rattle.elementary.proofs.power.Parts.{normalized-normal, is, w_le, parts, log_range}
 use Rattle.elementary.proofs.power.Order.{diff_le}
 use Rattle.elementary.proofs.power.Arg.{product_is}
@@ -75,10 +75,10 @@ arg_is : (l c : ℕ) → arg_of l c ≡ signed_arg (159 * 2 ^ 32) l c (product (
 unfolding arg_of
 arg_is l c = refl
 
-quick_arg_is : (l c r : ℕ) → 2952790016 ≤ c → c < 3221225472
+pub arg_quick : (l c r : ℕ) → 2952790016 ≤ c → c < 3221225472
     → r + (c % 2 ^ 23 + 2 ^ 23) * l / 2 ^ (399 - c / 2 ^ 23) ≡ 69269232549888
     → r + 2 ^ 55 ≡ arg_of (l + 159 * 2 ^ 32) c
-quick_arg_is l c r h k e =
+arg_quick l c r h k e =
     let a = c % 2 ^ 31 in
     let s : 399 - c / 2 ^ 23 ≡ 143 - a / 2 ^ 23 = omega arith in
     let d : c % 2 ^ 23 ≡ a % 2 ^ 23 = omega arith in
@@ -88,16 +88,10 @@ quick_arg_is l c r h k e =
     ∙ sym (arg_is (l + 159 * 2 ^ 32) c ∙ ap (λ (g : ℕ). signed_arg (159 * 2 ^ 32) (l + 159 * 2 ^ 32) c (product g a))
     (quick_diff l))
 
-pub arg_quick : (l c r : ℕ) (q : Bool) → q ≡ true → 2952790016 ≤ c → c < 3221225472
-    → r + (c % 2 ^ 23 + 2 ^ 23) * l / 2 ^ (399 - c / 2 ^ 23) ≡ 69269232549888 → ArgIs l c q r
-arg_quick l c r q e h k i = rw e record { is = quick_arg_is l c r h k i; range = omega arith }
-
-pub arg_other : (l c r g u : ℕ) (q : Bool) → q ≡ false → g ≡ abs_diff l (159 * 2 ^ 32) → u ≡ product g (c % 2 ^ 31)
-    → r ≡ signed_arg (159 * 2 ^ 32) l c u → ArgIs l c q r
-arg_other l c r g u q e eg eu er = rw e record {
-  is = er ∙ ap (signed_arg (159 * 2 ^ 32) l c) (eu ∙ ap (λ (z : ℕ). product z (c % 2 ^ 31)) eg) ∙ sym (arg_is l c);
-  range = lit< tt;
-}
+pub arg_other : (l c r g u : ℕ) → g ≡ abs_diff l (159 * 2 ^ 32) → u ≡ product g (c % 2 ^ 31)
+    → r ≡ signed_arg (159 * 2 ^ 32) l c u → r ≡ arg_of l c
+arg_other l c r g u eg eu er =
+    er ∙ ap (signed_arg (159 * 2 ^ 32) l c) (eu ∙ ap (λ (z : ℕ). product z (c % 2 ^ 31)) eg) ∙ sym (arg_is l c)
 
 -- log2 counted from 1 and from 2^-159
 log-shift : (p : ℕ) → log2_of (p + 159 * 2 ^ 23) ≡ log2_of p + 159 * 2 ^ 32
@@ -118,44 +112,17 @@ quick_log b h =
 pub log_most : (p : ℕ) → p < 2 ^ 28 → log2_of p ≤ 2 ^ 37
 log_most p h = omega (arith, is p, w_le p)
 
-pub pattern-asked : (b c : ℕ) (q : Bool) → (q ≡ true → Quick b c) → cond q 0x3F800000 0 ≤ b
-pattern-asked b c true f = (f refl).x_low
-pattern-asked b c false f = omega arith
-
-pub arg_asked : (b c p l : ℕ) (q : Bool) → 0 < b → b < 0x7F800000 → c % 2 ^ 31 ≤ 0x43000000 → (q ≡ true → Quick b c)
-    → p ≡ cond q (b - 0x3F800000) (normalized b) → l ≡ log2_of p → ArgAsked l c q
-arg_asked b c p l true B h k f ep el =
-    let Q = f refl in
-    record {
-      small = k;
-      usual =
-          λ _. (
-            le_trans (le_of_eq (el ∙ ap log2_of ep)) (log_most (b - 0x3F800000) (omega (arith, Q.x_high))),
-            Q.y_low,
-            Q.y_high,
-          );
-      other = λ e. absurd (true≢false e);
-    }
-arg_asked b c p l false B h k f ep el =
-    let P = parts b B h in
-    record {
-      small = k;
-      usual = λ e. absurd (true≢false (sym e));
-      other = λ _. rw (el ∙ ap log2_of ep) (log_range (normalized b) P.least P.most);
-    }
-
 pub near_is : (b c : ℕ) → near_bits b c ≡ exp2_bits (arg_of (log2_of (normalized b)) c)
 unfolding near_bits
 near_is b c = refl
 
-pub pow-from : (b c p l z : ℕ) (q : Bool) → (q ≡ true → Quick b c) → p ≡ cond q (b - 0x3F800000) (normalized b)
-    → l ≡ log2_of p → ArgIs l c q z → exp2_bits (cond q (z + 2 ^ 55) z) ≡ near_bits b c
-pow-from b c p l z q f ep el a = ap exp2_bits (a.is ∙ ap (λ (x : ℕ). arg_of x c) (go q f ep)) ∙ sym (near_is b c)
-  where
-    go : (q : Bool) → (q ≡ true → Quick b c) → p ≡ cond q (b - 0x3F800000) (normalized b)
-        → cond q (l + 159 * 2 ^ 32) l ≡ log2_of (normalized b)
-    go true f ep = ap (λ (x : ℕ). x + 159 * 2 ^ 32) (el ∙ ap log2_of ep) ∙ quick_log b (f refl).x_low
-    go false f ep = el ∙ ap log2_of ep
+pub pow_near : (b c l z : ℕ) → l ≡ log2_of (normalized b) → z ≡ arg_of l c → exp2_bits z ≡ near_bits b c
+pow_near b c l z el ez = ap exp2_bits (ez ∙ ap (λ (x : ℕ). arg_of x c) el) ∙ sym (near_is b c)
+
+pub pow_quick : (b c l z : ℕ) → 0x3F800000 ≤ b → l ≡ log2_of (b - 0x3F800000) → z + 2 ^ 55 ≡ arg_of (l + 159 * 2 ^ 32) c
+    → exp2_bits (z + 2 ^ 55) ≡ near_bits b c
+pow_quick b c l z h el ez =
+    pow_near b c (l + 159 * 2 ^ 32) (z + 2 ^ 55) (ap (λ (x : ℕ). x + 159 * 2 ^ 32) el ∙ quick_log b h) ez
 
 -- the test of the usual arm
 pub quick_from : (b c u v : ℕ) → u < 2 ^ 32 → v < 2 ^ 32 → (u + 0x3F800000) % 2 ^ 32 ≡ b

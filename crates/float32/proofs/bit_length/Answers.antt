@@ -7,4 +7,4 @@ pub overflow_sub-m : goal.overflow_sub-m
 overflow_sub-m c = leading_le 64 c.args.m
 
 pub returns : goal.returns
-returns c = c.wide.ensures ∙ size-leading 64 c.args.m c.ranges.m.fits
+returns c = c.from.ensures ∙ size-leading 64 c.args.m c.ranges.m.fits

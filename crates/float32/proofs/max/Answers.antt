@@ -1,16 +1,19 @@
--- `float32::max` meets its contract: each arm returns what the definition's two `cond` pick under the arm's tests.
+-- Each arm returns what the definition's two `cond` pick under the arm's tests.
+use Rattle.std.proofs.Common.{sym, ◌∙◌, true≢false}
 use Rattle.float32.specs.Float32.{max}
-use Rattle.float32.proofs.Simple.{nan_test}
 use Rattle.float32.proofs.max.Goals as goal
-
-pub returns-then-x : goal.returns-then-x
-unfolding max
-returns-then-x c = rw (← nan_test c.args.x, c.if-x.true)
+use Rattle.float32.proofs.max.Goals.{then-is_nan, else-is_nan}
 
 pub returns-then-x-y : goal.returns-then-x-y
 unfolding max
-returns-then-x-y c = rw (← nan_test c.args.x, c.if-x.false, c.if-x-y.true)
+returns-then-x-y c = elim c.if-is_nan.branch [
+  | then-is_nan w ↦ rw (← c.is_nan.ensures.value, w.if-is_nan.true)
+  | else-is_nan w ↦ rw (← c.is_nan.ensures.value, w.if-is_nan.false, sym w.value-is ∙ c.if-x-y.true)
+]
 
 pub returns-else-x-y : goal.returns-else-x-y
 unfolding max
-returns-else-x-y c = rw (← nan_test c.args.x, c.if-x.false, c.if-x-y.false)
+returns-else-x-y c = elim c.if-is_nan.branch [
+  | then-is_nan w ↦ absurd (true≢false (sym w.if-is_nan.true ∙ sym w.value-is ∙ c.if-x-y.false))
+  | else-is_nan w ↦ rw (← c.is_nan.ensures.value, w.if-is_nan.false, sym w.value-is ∙ c.if-x-y.false)
+]

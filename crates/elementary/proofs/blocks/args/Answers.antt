@@ -12,7 +12,7 @@ overflow_sub-s c = omega (arith, c.requires.1.high)
 
 pub loop-i-init : goal.loop-i-init
 unfolding filled
-loop-i-init c = (omega arith, refl)
+loop-i-init c = refl
 
 pub float_to_bits-x : goal.float_to_bits-x
 float_to_bits-x c = (c.requires.2 c.loop-i.i (omega arith)).0.number
@@ -24,7 +24,7 @@ pub log2_by-l-requires : goal.log2_by-l-requires
 log2_by-l-requires c =
     let words = c.requires.2 c.loop-i.i (omega arith) in
     let b = to_bits binary32 (get_or c.args.x.now c.loop-i.i nan) in (
-      ap (λ (l : List ℕ). get_or l c.loop-i.i 0) c.loop-i.invariant.1
+      ap (λ (l : List ℕ). get_or l c.loop-i.i 0) c.loop-i.invariant
           ∙ fill_after _ c.loop-i.i c.loop-i.i c.args.e.now 0 (omega arith) ∙ words.1
           ∙ ap line_word (same-interval b words.0.low),
       words.2 ∙ ap curvature (same-interval b words.0.low),
@@ -42,14 +42,11 @@ quick_arg-requires c =
 
 pub loop-i-preserved : goal.loop-i-preserved
 loop-i-preserved c =
-    let b = (c.requires.2 c.loop-i.i (omega arith)).0 in (
-      omega arith,
-      fill_turn _ _ _ _ _ c.loop-i.invariant.1
-          (arg_from (to_bits binary32 (get_or c.args.x.now c.loop-i.i nan)) c.args.c b.low
-          b.high
-          c.requires.1 c.log2_by-l.result c.quick_arg.result c.log2_by-l.ensures
-          c.quick_arg.ensures),
-    )
+    let b = (c.requires.2 c.loop-i.i (omega arith)).0 in fill_turn _ _ _ _ _ c.loop-i.invariant
+    (arg_from (to_bits binary32 (get_or c.args.x.now c.loop-i.i nan)) c.args.c b.low
+    b.high
+    c.requires.1 c.log2_by-l.result c.quick_arg.result c.log2_by-l.ensures
+    c.quick_arg.ensures)
 
 pub returns : goal.returns
-returns c = fill_end _ _ _ _ _ c.loop-i.invariant.1 (omega arith) (omega arith)
+returns c = fill_end _ _ _ _ _ c.loop-i.invariant (omega arith) (omega arith)

@@ -6,7 +6,4 @@ use Rattle.elementary.specs.Quick.{quick_arg}
 use Rattle.elementary.proofs.blocks.args.Given as goal
 
 abbrev pub invariant-loop-i : goal.invariant-loop-i
-invariant-loop-i l = (l.i ≤ l.n) × (l.e ≡ filled (λ i. quick_arg (to_bits binary32 (get_or l.x i nan)) l.c) l.i l.initial.e)
-
-abbrev pub decreases-loop-i : goal.decreases-loop-i
-decreases-loop-i l = l.n - l.i
+invariant-loop-i l = (l.e ≡ filled (λ i. quick_arg (to_bits binary32 (get_or l.x i nan)) l.c) l.i l.initial.e)

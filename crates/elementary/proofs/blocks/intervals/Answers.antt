@@ -5,24 +5,19 @@ use Rattle.elementary.proofs.blocks.intervals.Goals as goal
 
 pub loop-i-init : goal.loop-i-init
 unfolding filled
-loop-i-init c = (omega arith, refl, refl)
+loop-i-init c = (refl, refl)
 
 pub float_to_bits-x : goal.float_to_bits-x
 float_to_bits-x c = (c.requires.1 c.loop-i.i (omega arith)).number
 
-pub overflow_cast-x : goal.overflow_cast-x
-overflow_cast-x c = let base = c.requires.1 c.loop-i.i (omega arith) in
-    omega (arith, base.high)
-
 pub loop-i-preserved : goal.loop-i-preserved
 loop-i-preserved c =
     let inv = c.loop-i.invariant in (
-      omega arith,
-      fill_turn _ _ _ _ _ inv.1 c.block_interval_at-k.ensures.0,
-      fill_turn _ _ _ _ _ inv.2 c.block_interval_at-k.ensures.1,
+      fill_turn _ _ _ _ _ inv.0 (rw c.from.ensures at c.interval_at-k.ensures.0),
+      fill_turn _ _ _ _ _ inv.1 (rw c.from.ensures at c.interval_at-k.ensures.1),
     )
 
 pub returns : goal.returns
 returns c =
     let inv = c.loop-i.invariant in
-    record { lines = fill_end _ _ _ _ _ inv.1 (omega arith) (omega arith); curvatures = fill_end _ _ _ _ _ inv.2 (omega arith) (omega arith) }
+    record { lines = fill_end _ _ _ _ _ inv.0 (omega arith) (omega arith); curvatures = fill_end _ _ _ _ _ inv.1 (omega arith) (omega arith) }

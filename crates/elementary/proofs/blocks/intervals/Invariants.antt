@@ -7,8 +7,5 @@ use Rattle.elementary.proofs.blocks.intervals.Given as goal
 
 abbrev pub invariant-loop-i : goal.invariant-loop-i
 invariant-loop-i l =
-    (l.i ≤ l.n) × (l.e ≡ filled (λ i. line_word (to_bits binary32 (get_or l.x i nan) / 2 ^ 14 % 512)) l.i l.initial.e)
+    (l.e ≡ filled (λ i. line_word (to_bits binary32 (get_or l.x i nan) / 2 ^ 14 % 512)) l.i l.initial.e)
     × (l.f ≡ filled (λ i. curvature (to_bits binary32 (get_or l.x i nan) / 2 ^ 14 % 512)) l.i l.initial.f)
-
-abbrev pub decreases-loop-i : goal.decreases-loop-i
-decreases-loop-i l = l.n - l.i

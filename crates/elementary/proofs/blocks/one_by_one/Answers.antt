@@ -9,7 +9,7 @@ use Rattle.elementary.proofs.blocks.one_by_one.Goals as goal
 
 pub loop-i-init : goal.loop-i-init
 unfolding filled
-loop-i-init c = (omega arith, refl, λ j h. absurd (omega arith))
+loop-i-init c = (refl, λ j h. absurd (omega arith))
 
 pub loop-i-preserved : goal.loop-i-preserved
 loop-i-preserved c =
@@ -17,11 +17,10 @@ loop-i-preserved c =
     let i = c.loop-i.i in
     let x = c.args.x.now in
     let y = c.args.y in
-    let same = ap (λ (l : List Float). get_or l i nan) inv.1 ∙ fill_after _ i i x nan (omega arith) in
+    let same = ap (λ (l : List Float). get_or l i nan) inv.0 ∙ fill_after _ i i x nan (omega arith) in
     let power = c.powf_f32.ensures.value ∙ ap (λ (v : Float). pow_of v y) same in (
-      omega arith,
-      fill_turn _ _ _ _ _ inv.1 power,
-      all-turn (λ j. IsPow (get_or x j nan) y (pow_of (get_or x j nan) y)) i inv.2
+      fill_turn _ _ _ _ _ inv.0 power,
+      all-turn (λ j. IsPow (get_or x j nan) y (pow_of (get_or x j nan) y)) i inv.1
           (subst (IsPow (get_or x i nan) y) power (subst (λ (v : Float). IsPow v y c.powf_f32.result) same
           c.powf_f32.ensures.bound)),
     )
@@ -29,4 +28,4 @@ loop-i-preserved c =
 pub returns : goal.returns
 returns c =
     let inv = c.loop-i.invariant in
-    record { value = fill_end _ _ _ _ _ inv.1 (omega arith) (omega arith); bound = λ i h. inv.2 i (omega arith) }
+    record { value = fill_end _ _ _ _ _ inv.0 (omega arith) (omega arith); bound = λ i h. inv.1 i (omega arith) }

@@ -8,8 +8,5 @@ use Rattle.elementary.proofs.blocks.one_by_one.Given as goal
 
 abbrev pub invariant-loop-i : goal.invariant-loop-i
 invariant-loop-i l =
-    (l.i ≤ l.n) × (l.x ≡ filled (λ i. pow_of (get_or l.initial.x i nan) l.y) l.i l.initial.x)
+    (l.x ≡ filled (λ i. pow_of (get_or l.initial.x i nan) l.y) l.i l.initial.x)
     × ((j : ℕ) → j < l.i → IsPow (get_or l.initial.x j nan) l.y (pow_of (get_or l.initial.x j nan) l.y))
-
-abbrev pub decreases-loop-i : goal.decreases-loop-i
-decreases-loop-i l = l.n - l.i

@@ -5,7 +5,4 @@ use Rattle.elementary.specs.Quick.{IsBase}
 use Rattle.elementary.proofs.blocks.outside.Given as goal
 
 abbrev pub invariant-loop-i : goal.invariant-loop-i
-invariant-loop-i l = (l.i ≤ l.n) × (l.sum ≤ 15 * l.i) × (l.sum ≡ 0 → (j : ℕ) → j < l.i → IsBase (get_or l.x j nan))
-
-abbrev pub decreases-loop-i : goal.decreases-loop-i
-decreases-loop-i l = l.n - l.i
+invariant-loop-i l = (l.sum ≤ 15 * l.i) × (l.sum ≡ 0 → (j : ℕ) → j < l.i → IsBase (get_or l.x j nan))

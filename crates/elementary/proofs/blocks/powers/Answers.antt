@@ -5,10 +5,10 @@ use Rattle.elementary.proofs.blocks.powers.Goals as goal
 
 pub loop-i-init : goal.loop-i-init
 unfolding filled
-loop-i-init c = (omega arith, refl)
+loop-i-init c = refl
 
 pub loop-i-preserved : goal.loop-i-preserved
-loop-i-preserved c = (omega arith, fill_turn _ _ _ _ _ c.loop-i.invariant.1 c.block_power_at.ensures)
+loop-i-preserved c = fill_turn _ _ _ _ _ c.loop-i.invariant c.power_at.ensures
 
 pub returns : goal.returns
-returns c = fill_end _ _ _ _ _ c.loop-i.invariant.1 (omega arith) (omega arith)
+returns c = fill_end _ _ _ _ _ c.loop-i.invariant (omega arith) (omega arith)

@@ -5,7 +5,4 @@ use Rattle.elementary.specs.Filled.{filled}
 use Rattle.elementary.proofs.blocks.powers.Given as goal
 
 abbrev pub invariant-loop-i : goal.invariant-loop-i
-invariant-loop-i l = (l.i ≤ l.n) × (l.f ≡ filled (λ i. power_word (get_or l.e i 0 / 2 ^ 32 % 128)) l.i l.initial.f)
-
-abbrev pub decreases-loop-i : goal.decreases-loop-i
-decreases-loop-i l = l.n - l.i
+invariant-loop-i l = (l.f ≡ filled (λ i. power_word (get_or l.e i 0 / 2 ^ 32 % 128)) l.i l.initial.f)

@@ -6,7 +6,4 @@ use Rattle.elementary.specs.Filled.{filled}
 use Rattle.elementary.proofs.blocks.values.Given as goal
 
 abbrev pub invariant-loop-i : goal.invariant-loop-i
-invariant-loop-i l = (l.i ≤ l.n) × (l.x ≡ filled (λ i. of_bits binary32 (exp2_bits (get_or l.e i 0 + 2 ^ 55))) l.i l.initial.x)
-
-abbrev pub decreases-loop-i : goal.decreases-loop-i
-decreases-loop-i l = l.n - l.i
+invariant-loop-i l = (l.x ≡ filled (λ i. of_bits binary32 (exp2_bits (get_or l.e i 0 + 2 ^ 55))) l.i l.initial.x)

@@ -65,8 +65,8 @@ returns-then-b-lt2147483648 c =
     (sym (past b c.limit_of.result c.limit_of.ensures c.if-a-limit_of.false
     ∙ ap (λ (s : Bool). cond s 0x7F800000 0) (lt-ltb b (2 ^ 31) c.if-b-lt2147483648.true)))
 
-pub returns : goal.returns
-returns c =
+pub returns-else-b-lt2147483648 : goal.returns-else-b-lt2147483648
+returns-else-b-lt2147483648 c =
     let b = c.args.b in
     ap (of_bits binary32)
     (sym (past b c.limit_of.result c.limit_of.ensures c.if-a-limit_of.false

@@ -20,8 +20,8 @@ returns-then-x c =
 pub float_to_bits-x : goal.float_to_bits-x
 float_to_bits-x c = is_number c.args.x c.if-x.false
 
-pub returns : goal.returns
-returns c =
+pub returns-else-x : goal.returns-else-x
+returns-else-x c =
     let x = c.args.x in
     let v : c.exp_at.result ≡ exp_of x = c.exp_at.ensures ∙ sym (of_x x (is_number x c.if-x.false)) in
     record { value = v; bound = law x c.exp_at.result (subst T (sym c.well_formed.0.1) tt) v }

@@ -6,6 +6,6 @@ pub returns-then-b-lt2147483648 : goal.returns-then-b-lt2147483648
 unfolding limit
 returns-then-b-lt2147483648 c = sym (ap limit (lt-ltb c.args.b (2 ^ 31) c.if-b-lt2147483648.true))
 
-pub returns : goal.returns
+pub returns-else-b-lt2147483648 : goal.returns-else-b-lt2147483648
 unfolding limit
-returns c = sym (ap limit (le-ltb c.args.b (2 ^ 31) c.if-b-lt2147483648.false))
+returns-else-b-lt2147483648 c = sym (ap limit (le-ltb c.args.b (2 ^ 31) c.if-b-lt2147483648.false))

@@ -39,16 +39,16 @@ float_from_bits-result c = no_nan_bits ((c.mantissa-m.result + 256) / 512)
 pub returns-then-e-eq0 : goal.returns-then-e-eq0
 returns-then-e-eq0 c = ap (of_bits binary32) (tiny-is c)
 
-pub overflow_add-result-2 : goal.overflow_add-result-2
-overflow_add-result-2 c = omega (arith, high c.mantissa-m.ensures c.requires.1)
+pub overflow_add-result-else-e-eq0 : goal.overflow_add-result-else-e-eq0
+overflow_add-result-else-e-eq0 c = omega (arith, high c.mantissa-m.ensures c.requires.1)
 
-pub overflow_cast-result-2 : goal.overflow_cast-result-2
-overflow_cast-result-2 c = omega (arith, high c.mantissa-m.ensures c.requires.1)
+pub overflow_cast-result-else-e-eq0 : goal.overflow_cast-result-else-e-eq0
+overflow_cast-result-else-e-eq0 c = omega (arith, high c.mantissa-m.ensures c.requires.1)
 
-pub float_from_bits-result-2 : goal.float_from_bits-result-2
-float_from_bits-result-2 c = no_nan_bits
+pub float_from_bits-result-else-e-eq0 : goal.float_from_bits-result-else-e-eq0
+float_from_bits-result-else-e-eq0 c = no_nan_bits
     ((c.args.e - 1) * 2 ^ 23 + (c.mantissa-m.result + 128) / 256)
     (number c.requires.0 c.requires.1 (rest-is c))
 
-pub returns : goal.returns
-returns c = ap (of_bits binary32) (rest-is c)
+pub returns-else-e-eq0 : goal.returns-else-e-eq0
+returns-else-e-eq0 c = ap (of_bits binary32) (rest-is c)

@@ -10,7 +10,7 @@ returns-then-b-lt2147483648 c = sym (ap (λ (s : Bool). shifted s c.args.x)
 pub overflow_sub-result : goal.overflow_sub-result
 overflow_sub-result c = omega (arith, c.requires.1 c.if-b-lt2147483648.false)
 
-pub returns : goal.returns
+pub returns-else-b-lt2147483648 : goal.returns-else-b-lt2147483648
 unfolding shifted
-returns c = sym (ap (λ (s : Bool). shifted s c.args.x)
+returns-else-b-lt2147483648 c = sym (ap (λ (s : Bool). shifted s c.args.x)
     (le-ltb c.args.b (2 ^ 31) c.if-b-lt2147483648.false))

@@ -25,11 +25,11 @@ returns-then-z-ge-ARG_NORMAL c = ap (of_bits binary32) (sym (value_inf c.args.z 
 pub returns-then-z-lt-ARG_ZERO : goal.returns-then-z-lt-ARG_ZERO
 returns-then-z-lt-ARG_ZERO c = ap (of_bits binary32) (sym (value_zero c.args.z c.if-z-lt-ARG_ZERO.true))
 
-pub float_from_bits-result-2 : goal.float_from_bits-result-2
-float_from_bits-result-2 c =
+pub float_from_bits-result-else-z-lt-ARG_ZERO : goal.float_from_bits-result-else-z-lt-ARG_ZERO
+float_from_bits-result-else-z-lt-ARG_ZERO c =
     below_nan ((c.args.d / 2 ^ 32 + c.args.z / 2 ^ 32 % 128 * 2 ^ 24 + 128) / 512)
     (le_trans (sub-le c.args.z c.args.d c.requires) (lit≤ tt))
 
-pub returns : goal.returns
-returns c =
+pub returns-else-z-lt-ARG_ZERO : goal.returns-else-z-lt-ARG_ZERO
+returns-else-z-lt-ARG_ZERO c =
     ap (of_bits binary32) (sub_is c.args.z c.args.d c.requires c.if-z-lt-ARG_ZERO.false c.if-z-ge-ARG_NORMAL.false)

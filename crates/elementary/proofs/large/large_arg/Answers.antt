@@ -29,7 +29,7 @@ returns-then-c-lt2147483648-2 c =
     sym (arg_high c.args.x c.args.c c.if-x-lt-FOUR.false
     ∙ plus c.args.c (2 ^ 56) 0 c.if-c-lt2147483648-2.true)
 
-pub returns : goal.returns
-returns c =
+pub returns-else-c-lt2147483648-2 : goal.returns-else-c-lt2147483648-2
+returns-else-c-lt2147483648-2 c =
     sym (arg_high c.args.x c.args.c c.if-x-lt-FOUR.false
     ∙ minus c.args.c (2 ^ 56) 0 c.if-c-lt2147483648-2.false)

@@ -7,6 +7,6 @@ pub returns : goal.returns
 returns c =
     let n = c.normalized in
     let q = c.squared-x in
-    c.large_value.ensures ∙ ap (of_bits binary32)
+    c.value_of.ensures ∙ ap (of_bits binary32)
     (large_from c.args.b c.args.c n.result q.result c.large_arg.result n.ensures
     q.ensures c.large_arg.ensures)

@@ -8,5 +8,5 @@ overflow_sub-result c = let s = sub32 c.args.b c.requires.0 c.if-b-lt8388608.tru
 pub returns-then-b-lt8388608 : goal.returns-then-b-lt8388608
 returns-then-b-lt8388608 c = sym (exponent-sub c.args.b c.if-b-lt8388608.true)
 
-pub returns : goal.returns
-returns c = sym (exponent-normal c.args.b c.if-b-lt8388608.false)
+pub returns-else-b-lt8388608 : goal.returns-else-b-lt8388608
+returns-else-b-lt8388608 c = sym (exponent-normal c.args.b c.if-b-lt8388608.false)

@@ -123,8 +123,8 @@ returns-then-b c =
     (minus_infinity ∙ sym (at_zero (to_bits binary32 x) (ap (λ (n : ℕ). n % 2 ^ 31) c.if-b.true))) in
     record { value = v; bound = law x r (subst T (sym c.well_formed.0.1) tt) v }
 
-pub returns : goal.returns
-returns c =
+pub returns-else-b : goal.returns-else-b
+returns-else-b c =
     let x = c.args.x in
     let r : Float = div binary32 (of_bits binary32 0) (of_bits binary32 0) in
     let v : r ≡ ln_of x = at_pattern x r (is_number x c.if-x.false)

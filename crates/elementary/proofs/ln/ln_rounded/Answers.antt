@@ -11,7 +11,7 @@ sign_le w = go (ltb w 496343524069145961)
     go true = lit≤ tt
     go false = lit≤ tt
 
-size_is : (c : goal.After-sign_of-2) → c.round_fixed.result
+size_is : (c : goal.After-sign_of-else-s-eq0) → c.round_fixed.result
     ≡ rounded (ln_size c.args.w)
 size_is c = c.round_fixed.ensures ∙ ap rounded c.size_of-s.ensures
 
@@ -31,8 +31,8 @@ round_fixed-requires c = pos_of_ne-zero c.if-s-eq0.false
 pub overflow_add-result : goal.overflow_add-result
 overflow_add-result c =
     let w = c.args.w in
-    omega (arith, size_is c, rounded-lt (ln_size w) (size-lt w (omega arith)), c.sign_of-2.ensures, sign_le w)
+    omega (arith, size_is c, rounded-lt (ln_size w) (size-lt w (omega arith)), c.sign_of-else-s-eq0.ensures, sign_le w)
 
-pub returns : goal.returns
+pub returns-else-s-eq0 : goal.returns-else-s-eq0
 unfolding ln_rounded
-returns c = ap₂ (λ (i j : ℕ). i + j) (size_is c) c.sign_of-2.ensures
+returns-else-s-eq0 c = ap₂ (λ (i j : ℕ). i + j) (size_is c) c.sign_of-else-s-eq0.ensures

@@ -16,5 +16,5 @@ pub returns-then-b-lt8388608 : goal.returns-then-b-lt8388608
 returns-then-b-lt8388608 c = mod-eq_of_lt (lt_of_lt_of_le (sub c).high (lit≤ tt))
     ∙ sym (significand-sub c.args.b c.if-b-lt8388608.true)
 
-pub returns : goal.returns
-returns c = sym (significand-normal c.args.b c.if-b-lt8388608.false)
+pub returns-else-b-lt8388608 : goal.returns-else-b-lt8388608
+returns-else-b-lt8388608 c = sym (significand-normal c.args.b c.if-b-lt8388608.false)

@@ -1,21 +1,22 @@
-use Rattle.std.proofs.Common.{ap, ◌∙◌}
+use Rattle.std.proofs.Common.{◌≡◌, ap, ◌∙◌}
 use lib.Ieee.{binary32, of_bits}
-use Rattle.elementary.proofs.power.Steps.{pattern-asked, arg_asked, pow-from}
+use Rattle.elementary.specs.Power.{normalized, log2_of}
+use Rattle.elementary.proofs.power.Parts.{parts, log_range}
+use Rattle.elementary.proofs.power.Steps.{pow_near}
 use Rattle.elementary.proofs.power.near_pow.Goals as goal
 
-pub pattern_of-p-requires : goal.pattern_of-p-requires
-pattern_of-p-requires c =
-    (c.requires.0.positive, c.requires.0.finite, pattern-asked c.args.b c.args.c c.args.quick c.requires.1)
+log-is : (c : goal.After-log2_of-l) → c.log2_of-l.result ≡ log2_of (normalized c.args.b)
+log-is c = c.log2_of-l.ensures ∙ ap log2_of c.normalized.ensures
 
-pub arg_of-z-requires : goal.arg_of-z-requires
-arg_of-z-requires c =
-    arg_asked c.args.b c.args.c c.pattern_of-p.result c.log2_of-l.result c.args.quick
-    c.requires.0.positive c.requires.0.finite c.requires.0.small c.requires.1 c.pattern_of-p.ensures
-    c.log2_of-l.ensures
+pub arg_of-requires : goal.arg_of-requires
+arg_of-requires c =
+    let b = c.args.b in
+    let p = parts b c.requires.positive c.requires.finite in
+    let r = log_range (normalized b) p.least p.most in
+    rw (log-is c) (r.0, r.1, c.requires.small)
 
 pub returns : goal.returns
 returns c =
     c.value_of.ensures
-    ∙ ap (of_bits binary32) (pow-from c.args.b c.args.c c.pattern_of-p.result
-    c.log2_of-l.result c.arg_of-z.result c.args.quick c.requires.1
-    c.pattern_of-p.ensures c.log2_of-l.ensures c.arg_of-z.ensures)
+    ∙ ap (of_bits binary32) (pow_near c.args.b c.args.c c.log2_of-l.result c.arg_of.result
+    (c.log2_of-l.ensures ∙ ap log2_of c.normalized.ensures) c.arg_of.ensures)

@@ -1,12 +1,14 @@
-use Rattle.std.proofs.Common.{arith}
+use Rattle.std.proofs.Common.{ℕ, ◌-◌, ◌*◌, ◌/◌, ◌^◌, ap, ◌∙◌, arith}
 use Rattle.elementary.proofs.power.Steps.{product_le, product_near, product-none}
 use Rattle.elementary.proofs.power.product_of.Goals as goal
 
 pub overflow_mul-result : goal.overflow_mul-result
-overflow_mul-result c = omega (arith, product_le c.args.g c.args.a c.requires.0)
+overflow_mul-result c = rw c.from.ensures (omega (arith, product_le c.args.g c.args.a c.requires.0))
 
 pub returns-then-a-ge671088640 : goal.returns-then-a-ge671088640
-returns-then-a-ge671088640 c = product_near c.args.g c.args.a (omega arith)
+returns-then-a-ge671088640 c =
+    ap (λ (m : ℕ). m * c.args.g / 2 ^ (143 - c.args.a / 2 ^ 23)) c.from.ensures
+    ∙ product_near c.args.g c.args.a (omega arith)
 
-pub returns : goal.returns
-returns c = product-none c.args.g c.args.a c.requires.0 c.if-a-ge671088640.false
+pub returns-else-a-ge671088640 : goal.returns-else-a-ge671088640
+returns-else-a-ge671088640 c = product-none c.args.g c.args.a c.requires.0 c.if-a-ge671088640.false

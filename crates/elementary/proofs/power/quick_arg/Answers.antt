@@ -3,10 +3,13 @@ use Rattle.elementary.proofs.power.Steps.{quick_size}
 use Rattle.elementary.proofs.power.quick_arg.Goals as goal
 
 pub overflow_mul-result : goal.overflow_mul-result
-overflow_mul-result c = let p = c.requires in omega (arith, quick_size c.args.m c.args.l c.args.s p.0 p.1 p.2)
+overflow_mul-result c =
+    let p = c.requires in rw c.from.ensures (omega (arith, quick_size c.args.m c.args.l c.args.s p.0 p.1 p.2))
 
 pub overflow_sub-result : goal.overflow_sub-result
-overflow_sub-result c = let p = c.requires in (quick_size c.args.m c.args.l c.args.s p.0 p.1 p.2).1
+overflow_sub-result c =
+    let p = c.requires in rw c.from.ensures ((quick_size c.args.m c.args.l c.args.s p.0 p.1 p.2).1)
 
 pub returns : goal.returns
-returns c = let p = c.requires in omega (arith, quick_size c.args.m c.args.l c.args.s p.0 p.1 p.2)
+returns c =
+    let p = c.requires in rw c.from.ensures (omega (arith, quick_size c.args.m c.args.l c.args.s p.0 p.1 p.2))

@@ -8,8 +8,8 @@ returns-then-is_negative c =
     ap (λ (b : Bool). cond b ((2 ^ 16 + 126) * 2 ^ 39 - c.args.u) ((2 ^ 16 + 126) * 2 ^ 39 + c.args.u))
     (sym c.if-is_negative.true ∙ c.is_negative.ensures)
 
-pub returns : goal.returns
+pub returns-else-is_negative : goal.returns-else-is_negative
 unfolding signed_arg
-returns c =
+returns-else-is_negative c =
     ap (λ (b : Bool). cond b ((2 ^ 16 + 126) * 2 ^ 39 - c.args.u) ((2 ^ 16 + 126) * 2 ^ 39 + c.args.u))
     (sym c.if-is_negative.false ∙ c.is_negative.ensures)

@@ -28,17 +28,3 @@ returns-then-b-ne1065353216 c =
     ∙ sym (at_regular c.args.b c.args.c p f c.if-c-lt2139095040.true
     ∙ ap (of_bits binary32) (is_large c.args.b c.args.c (above c.args.b c.args.c c.requires.2 p f)
     c.if-b-ne1065353216.true))
-
-pub special-requires : goal.special-requires
-special-requires c =
-    record {
-      x_number = c.requires.0;
-      y_number = c.requires.1;
-      infinite = elim c.if-b-gt0.branch [
-        | goal.then-b-gt0+then-b-lt2139095040+then-c-lt2139095040+else-b-ne1065353216 w ↦ λ p f o z. absurd
-            (o w.if-b-ne1065353216.false)
-        | goal.then-b-gt0+then-b-lt2139095040+else-c-lt2139095040 w ↦ λ p f o z. w.if-c-lt2139095040.false
-        | goal.then-b-gt0+else-b-lt2139095040 w ↦ λ p f o z. omega arith
-        | goal.else-b-gt0 w ↦ λ p f o z. omega arith
-      ];
-    }

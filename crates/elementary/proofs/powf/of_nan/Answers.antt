@@ -36,7 +36,7 @@ returns-then-zero c =
     sym (of_nan_x_zero c.args.x c.args.y (is_number c.args.y c.if-y.false)
     (c.requires (is_number c.args.y c.if-y.false)) c.if-zero.true)
 
-pub returns : goal.returns
-returns c =
+pub returns-else-zero : goal.returns-else-zero
+returns-else-zero c =
     let ex : c.args.x ≡ nan = c.requires (is_number c.args.y c.if-y.false) in
     ex ∙ sym (of_nan-x c.args.x c.args.y (is_number c.args.y c.if-y.false) ex c.if-zero.false)

@@ -7,6 +7,7 @@ use Rattle.elementary.proofs.Common.{equals_itself, unequal, bits_of_number}
 use Rattle.elementary.proofs.powf.Cases.{of_numbers}
 use Rattle.elementary.proofs.powf.Law.{pow_law}
 use Rattle.elementary.proofs.powf.powf_f32.Goals as goal
+use Rattle.elementary.proofs.powf.powf_f32.Goals.{else-x-via-then-x+else-y, else-x-via-else-x}
 
 no_number : (x : Float) → x ≡ nan → T (not (is_nan x)) → ⊥
 unfolding is_nan
@@ -42,14 +43,12 @@ returns-then-y c =
 
 pub of_nan-requires : goal.of_nan-requires
 of_nan-requires c =
-    elim c.if-x.branch [
-      | goal.then-x+else-y w ↦ λ n. absurd (no_number c.args.y (unequal c.args.y w.if-y.false) n)
-      | goal.else-x w ↦ λ n. unequal c.args.x w.if-x.false
+    elim c.else-x.branch [
+      | else-x-via-then-x+else-y w ↦ λ n. absurd (no_number c.args.y (unequal c.args.y w.if-y.false) n)
+      | else-x-via-else-x w ↦ λ n. unequal c.args.x w.if-x.false
     ]
 
-pub returns : goal.returns
-returns c = record {
-  value = c.of_nan.ensures;
-  bound = law c.args.x c.args.y c.of_nan.result (subst T (sym c.well_formed.0.1) tt)
-      (subst T (sym c.well_formed.1.0.1) tt) c.of_nan.ensures;
-}
+pub returns-else-x-clause-bound : goal.returns-else-x-clause-bound
+returns-else-x-clause-bound c =
+    law c.args.x c.args.y c.of_nan.result (subst T (sym c.well_formed.0.1) tt)
+    (subst T (sym c.well_formed.1.0.1) tt) c.of_nan.ensures

@@ -35,13 +35,13 @@ special_bits-requires c =
           c.if-c-eq0.false,
     )
 
-pub float_from_bits-result-2 : goal.float_from_bits-result-2
-float_from_bits-result-2 c =
+pub float_from_bits-result-else-b-gt2147483648 : goal.float_from_bits-result-else-b-gt2147483648
+float_from_bits-result-else-b-gt2147483648 c =
     no_nan_bits c.special_bits.result (subst (λ (i : ℕ). i % 2 ^ 31 ≤ 0x7F800000)
     (sym c.special_bits.ensures) (num-mod c.args.b c.args.c c.if-b-gt2147483648.false))
 
-pub returns : goal.returns
-returns c =
+pub returns-else-b-gt2147483648 : goal.returns-else-b-gt2147483648
+returns-else-b-gt2147483648 c =
     ap (of_bits binary32) c.special_bits.ensures
     ∙ sym (at-num c.args.b c.args.c c.if-c-eq0.false c.if-b-eq1065353216.false
     c.if-b-gt2147483648.false)

@@ -17,8 +17,8 @@ returns-then-b-eq2139095040 c =
     c.inf_bits.ensures ∙ sym (num_inf c.args.b c.args.c c.if-b-eq0.false
     c.if-b-eq2139095040.true)
 
-pub returns : goal.returns
-returns c =
+pub returns-else-b-eq2139095040 : goal.returns-else-b-eq2139095040
+returns-else-b-eq2139095040 c =
     let p = c.requires in
     let l = c.if-b-eq0.false in
     let m = c.if-b-eq2139095040.false in

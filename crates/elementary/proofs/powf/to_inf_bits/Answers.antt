@@ -7,7 +7,7 @@ returns-then-b-lt1065353216 c =
     c.zero_size.ensures ∙ sym (to_inf_low c.args.b c.args.c
     c.if-b-lt1065353216.true)
 
-pub returns : goal.returns
-returns c =
+pub returns-else-b-lt1065353216 : goal.returns-else-b-lt1065353216
+returns-else-b-lt1065353216 c =
     c.inf_bits.ensures ∙ sym (to_inf_high c.args.b c.args.c
     c.if-b-lt1065353216.false)

@@ -10,7 +10,7 @@ returns-then-is_odd c =
     ap (λ (z : ℕ). z + c.args.b) c.zero_size.ensures
     ∙ sym (zero_odd c.args.b c.args.c (sym c.is_odd.ensures ∙ c.if-is_odd.true))
 
-pub returns : goal.returns
-returns c =
-    c.zero_size-2.ensures ∙ sym (zero_even c.args.b c.args.c
+pub returns-else-is_odd : goal.returns-else-is_odd
+returns-else-is_odd c =
+    c.zero_size-else-is_odd.ensures ∙ sym (zero_even c.args.b c.args.c
     (sym c.is_odd.ensures ∙ c.if-is_odd.false))
