@@ -23,8 +23,8 @@ const MOST_LAPSES: u32 = 4000000000;
 
 const LONGEST_INTERVAL: f32 = 36500.0;
 
-// `SimulatorConfig` of the Rust without its callbacks. A limit of 4294967295 is none, and rows of four stand one after the
-// other: so the C interface hands it over.
+// `SimulatorConfig` of the Rust without its callbacks, as the C interface hands it over: a limit of 4294967295 is none;
+// rows of four stand one after the other.
 #[repr(C)]
 #[derive(Clone, Copy)]
 pub struct SimulatorConfig {

@@ -13,7 +13,7 @@ ghost use Rattle.days.specs.Due.{due_days, add_due, move_due, none_due};
 
 pub use memorized::add_forgetting_curve_range;
 
-// The columns of a day's row, which the caller lends as four numbers: a struct would be another layout of the C interface.
+// The columns of a day's row, which the C interface lends as four numbers.
 const LEARNED: usize = 0;
 
 const REVIEWED: usize = 1;
