@@ -58,7 +58,6 @@ pub fn is_bad(card: Card) -> bool
 }
 
 // The first n existing cards are those that are kept as they must be, or refusal 5 tells the first that is not.
-#[tactic(auto, unfolding(crate::specs::Entry::check_first))]
 fn check_cards(learner: Learner<'_>, n: u32) -> Result<(), Refusal>
     ensures { result ≡ check_first learner.entry.existing.now learner.entry.existing_counts.now n }
 {
