@@ -13,10 +13,13 @@ ghost use Rattle.days.specs.Due.{due_days, add_due, move_due, none_due};
 
 pub use memorized::add_forgetting_curve_range;
 
-// The columns of a day's row.
+// The columns of a day's row, which the C interface lends as four numbers.
 const LEARNED: usize = 0;
+
 const REVIEWED: usize = 1;
+
 const CORRECT: usize = 2;
+
 const INTRODUCED: usize = 3;
 
 pub fn learned_at(rows: &[[u32; 4]], d: u32) -> u32

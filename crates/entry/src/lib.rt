@@ -2,8 +2,7 @@
 // with the numbers by which that is told (refusals.rt); and what a call is given (lists.rt).
 #![tactic(auto)]
 
-ghost use Rattle.std.specs.Prelude.{◌≡◌, ◌==◌, ◌||◌, nat_lt, get_or};
-ghost use Rattle.std.specs.Float.{nan};
+ghost use Rattle.std.specs.Prelude.{◌≡◌, ◌==◌, ◌||◌, nat_lt};
 ghost use Rattle.float32.specs.Numbers.{0ᶠ};
 ghost use Rattle.entry.specs.Entry.{inputs, is_bad, passed};
 ghost use Rattle.entry.specs.Entry.{check_parameters, lengths_ok, short_list, check_first};
@@ -37,12 +36,6 @@ const MOST_CARDS: u32 = 65536;
 
 const MOST_DAYS: u32 = 36500;
 
-fn parameter(w: &[f32], i: u32) -> f32
-    ensures { result ≡ get_or w.now i nan }
-{
-    w.get(i as usize).copied().unwrap_or(f32::NAN)
-}
-
 // FSRS-7 has 34 parameters, all finite.
 #[tactic(auto, unfolding(crate::specs::Entry::check_parameters))]
 fn check_parameters(w: &[f32]) -> Result<(), Refusal>
@@ -51,8 +44,8 @@ fn check_parameters(w: &[f32]) -> Result<(), Refusal>
     if w.len() < 34 {
         return Err(Refusal::Parameters(34));
     }
-    match (0..34).find(|i| !float32::is_finite(parameter(w, *i))) {
-        Some(i) => Err(Refusal::Parameters(i)),
+    match w[..34].iter().position(|x| !float32::is_finite(*x)) {
+        Some(i) => Err(Refusal::Parameters(i as u32)),
         None => Ok(()),
     }
 }
@@ -64,8 +57,8 @@ pub fn is_bad(card: Card) -> bool
     cards::is_kept(card) && !cards::card_ok(card)
 }
 
-// The first n existing cards are those that are kept as they must be, or refusal 5 tells the first that is not.
-#[tactic(auto, unfolding(crate::specs::Entry::check_first))]
+// Refusal 5 tells the first of the first n existing cards that is kept and not as it must be.
+// A card lies in two lists, neither known to be as long as the other, so it is read by its number.
 fn check_cards(learner: Learner<'_>, n: u32) -> Result<(), Refusal>
     ensures { result ≡ check_first learner.entry.existing.now learner.entry.existing_counts.now n }
 {

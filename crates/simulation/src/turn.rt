@@ -84,8 +84,8 @@ fn slot_for(lists: &Lists<'_>, rules: Rules, stability: f32, retention: f32) -> 
     )
 }
 
-// ---- the queue, of the first `len` of its lent rows: the first card gets another key, or leaves. Over the rows alone:
-// a queue made of a list of `Lists` was tried, and what it leaves there proved by no answer that names what it did.
+// ---- the queue, of the first `len` of its lent rows: the first card gets another key, or leaves
+// Over the rows alone: what a queue made of a field of `Lists` leaves in that field, no answer could name (tried).
 
 fn change_front(rows: &mut [[u64; 2]], len: u32, key: u64)
     ensures { queue rows.new len ≡ front_changed (queue rows.old len) key }
@@ -171,7 +171,8 @@ fn put_off_step(
     at: Place,
 ) -> Result<Option<Place>, Refusal>
     ensures step { let before = state_at lists.old at in
-        TurnContract (act (rules_as rules) before first.place first.card first.day choice.PutOff) before result (lent_of lists.new) }
+        TurnContract (act (rules_as rules) before first.place first.card first.day choice.PutOff)
+        before result (lent_of lists.new) }
     ensures same { SameLists lists.old lists.new }
 {
     let First { place, card, day } = first;
@@ -194,7 +195,8 @@ fn retire_step(
     at: Place,
 ) -> Result<Option<Place>, Refusal>
     ensures step { let before = state_at lists.old at in
-        TurnContract (act (rules_as rules) before first.place first.card first.day choice.Retire) before result (lent_of lists.new) }
+        TurnContract (act (rules_as rules) before first.place first.card first.day choice.Retire)
+        before result (lent_of lists.new) }
     ensures same { SameLists lists.old lists.new }
 {
     let curve = rules.model.curve(first.card.stability);
@@ -225,8 +227,8 @@ fn event_step(
     at: Place,
 ) -> Result<Option<Place>, Refusal>
     ensures step { let before = state_at lists.old at in
-        TurnContract (event_on (rules_as rules) before first.place first.card (is_new first.card.last_date) first.day)
-        before result (lent_of lists.new) }
+        TurnContract (event_on (rules_as rules) before first.place first.card
+        (is_new first.card.last_date) first.day) before result (lent_of lists.new) }
     ensures same { SameLists lists.old lists.new }
 {
     let First { place, card, day } = first;
