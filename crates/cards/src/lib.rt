@@ -23,8 +23,8 @@ const MOST_LAPSES: u32 = 4000000000;
 
 const LONGEST_INTERVAL: f32 = 36500.0;
 
-// `SimulatorConfig` of the Rust without its callbacks. A limit of 4294967295 is none; rows of four stand one after the
-// other.
+// `SimulatorConfig` of the Rust without its callbacks, as the C interface hands it over: a limit of 4294967295 is none;
+// rows of four stand one after the other.
 #[repr(C)]
 #[derive(Clone, Copy)]
 pub struct SimulatorConfig {
@@ -91,13 +91,20 @@ pub fn is_new(last_date: f32) -> bool
     last_date == f32::NEG_INFINITY
 }
 
+// The C interface lends the cards as rows of two lists, of floats and of counts.
 #[tactic(auto, unfolding(crate::specs::Cards::card_at))]
 pub fn card_at(cards: &[[f32; 6]], counts: &[[u32; 2]], c: u32) -> Card
     ensures { result ≡ card_at cards.now counts.now c }
 {
     let i = c as usize;
-    let [difficulty, stability, last_date, due, interval, desired_retention] =
-        cards.get(i).copied().unwrap_or([f32::NAN; 6]);
+    let [
+        difficulty,
+        stability,
+        last_date,
+        due,
+        interval,
+        desired_retention,
+    ] = cards.get(i).copied().unwrap_or([f32::NAN; 6]);
     let [reps, lapses] = counts.get(i).copied().unwrap_or([0; 2]);
     Card {
         difficulty,

@@ -13,10 +13,13 @@ ghost use Rattle.days.specs.Due.{due_days, add_due, move_due, none_due};
 
 pub use memorized::add_forgetting_curve_range;
 
-// The columns of a day's row.
+// The columns of a day's row, which the C interface lends as four numbers.
 const LEARNED: usize = 0;
+
 const REVIEWED: usize = 1;
+
 const CORRECT: usize = 2;
+
 const INTRODUCED: usize = 3;
 
 pub fn learned_at(rows: &[[u32; 4]], d: u32) -> u32
@@ -32,6 +35,7 @@ pub fn reviewed_at(rows: &[[u32; 4]], d: u32) -> u32
 }
 
 // One more in a column of day d.
+#[tactic(auto, using(crate::proofs::Laws::saturated, std::proofs::lemmas::List::set_past), unfolding(crate::specs::Counts::add_one))]
 fn add_one(rows: &mut [[u32; 4]], column: usize, d: u32)
     requires { column < 4 }
     ensures { rows.new ≡ add_one rows.old column d }

@@ -46,6 +46,7 @@ fn add_block(memorized: &mut [f32], curve: Curve, d: u32, n: usize, last: f32)
 }
 
 // On each day from `from` up to `to`, block by block.
+// A `while`, since the length of a block, the last one's too, tells where the next begins.
 fn add_blocks(memorized: &mut [f32], curve: Curve, from: u32, to: u32, last: f32)
     requires { (to ≤ 2 ^ 24) × (to ≤ length memorized.old) }
     ensures { memorized.new ≡ add_forgetting_curve_range (λ t. retention curve t) memorized.old

@@ -8,22 +8,20 @@
 --   sink-turn, sink_rests                         the same of heapify's loop, at a place with two children
 --   only_moves, only_rests                        and at a place with at most one
 --   room-yes, front-yes                           a row finds room, and there is a first card
---   peek_none                                     the first card of an empty list is 0
---   push-full, push_most, push_is                 a push: with no room, with as many cards as a u32 counts, and else
---   pop-empty, pop-short, pop_is                  a pop: with no card, with a length past the list's end, and else
---   change-empty, change-short, change_is         a change of the first card's key, in the same cases
+--   push_is                                       a push that finds room
+--   pop-empty, pop_is                             a pop: with no card, and with one
+--   change-empty, change_is                       a change of the first card's key, in the same cases
 use mathlib.Core.Path.{◌≡◌, refl, sym, ap, ◌∙◌}
 use mathlib.Core.List.{List, [], ◌∷◌}
-use mathlib.Core.Bool.{Bool, true, false, ◌&&◌}
+use mathlib.Core.Bool.{true}
 use mathlib.Core.Logic.{◌≢◌}
 use Prim.Native.Nat.{ℕ, zero, suc, ◌+◌, ◌-◌, ◌*◌, ◌^◌, ◌≤◌, ◌<◌}
 use native.Mathlib.Decide.{ℕ_discrete, dec_lt}
 use native.Mathlib.Omega.{arith}
-use borrow.Author.Tests.{lt-ltb, le-ltb, le-leb, lt-leb, eq-eqb, ne_eqb}
-use lib.ListN.{get_or, set, length, get_or-eq_default}
+use borrow.Author.Tests.{lt-ltb, le-ltb, le-leb, eq-eqb, ne_eqb}
+use lib.ListN.{get_or, set, length}
 use lib.Seq.{get_or-set_same, get_or-set_other, set-set}
-use lib.Dec.{ltb}
-use Rattle.queue.specs.Queue.{key_at, card_index_at, parent, swap, rise, bubble_up, lesser, least, sink, heapify}
+use Rattle.queue.specs.Queue.{key_at, parent, swap, rise, bubble_up, lesser, least, sink, heapify}
 use Rattle.queue.specs.Queue.{queue, has_room, has_front, pushed, popped, rekeyed, front_changed}
 
 -- an exchange of the moving row with the one at q
@@ -320,10 +318,6 @@ module _ (rows : List (List ℕ)) (row : List ℕ) (len pos left : ℕ) (place :
       (λ l. one_stays rows row len pos l within (omega arith) (rw place at (stop (omega arith)))))
 
 -- ---- the operations, by the tests that the code makes
-and-false : (a : Bool) → (a && false) ≡ false
-and-false true = refl
-and-false false = refl
-
 module _ (rows : List (List ℕ)) (len : ℕ) where
   pub room-yes : len < length rows → len < 2 ^ 32 - 1 → has_room (queue rows len) ≡ true
   room-yes h l = rw (lt-ltb len (length rows) h, lt-ltb len (2 ^ 32 - 1) l)
@@ -331,21 +325,7 @@ module _ (rows : List (List ℕ)) (len : ℕ) where
   pub front-yes : 0 < len → len ≤ length rows → has_front (queue rows len) ≡ true
   front-yes h l = rw (lt-ltb 0 len h, le-leb len (length rows) l)
 
-  front-short : length rows < len → has_front (queue rows len) ≡ false
-  front-short h = rw (lt-leb len (length rows) h) (and-false (ltb 0 len))
-
-  pub peek_none : length rows ≡ 0 → 0 ≡ card_index_at rows 0
-  peek_none e = rw (get_or-eq_default rows [] {n = 0} (omega arith))
-
   module _ (card key : ℕ) where
-    pub push-full : length rows ≤ len → queue rows len ≡ pushed (queue rows len) card key
-    unfolding pushed
-    push-full h = rw (le-ltb len (length rows) h)
-
-    pub push_most : 2 ^ 32 - 1 ≤ len → queue rows len ≡ pushed (queue rows len) card key
-    unfolding pushed
-    push_most h = rw (le-ltb len (2 ^ 32 - 1) h, and-false (ltb len (length rows)))
-
     pub push_is : len < length rows → len < 2 ^ 32 - 1 → (rows' : List (List ℕ))
         → rows' ≡ bubble_up (set rows len (key ∷ card ∷ [])) len
         → queue rows' (len + 1) ≡ pushed (queue rows len) card key
@@ -355,10 +335,6 @@ module _ (rows : List (List ℕ)) (len : ℕ) where
   pub pop-empty : len ≡ 0 → queue rows len ≡ popped (queue rows len)
   unfolding popped
   pop-empty e = rw (le-ltb 0 len (omega arith))
-
-  pub pop-short : length rows < len → queue rows len ≡ popped (queue rows len)
-  unfolding popped
-  pop-short h = rw (front-short h)
 
   pub pop_is : 0 < len → len ≤ length rows → (rows' : List (List ℕ))
       → rows' ≡ heapify (set rows 0 (get_or rows (len - 1) [])) (len - 1)
@@ -370,10 +346,6 @@ module _ (rows : List (List ℕ)) (len : ℕ) where
     pub change-empty : len ≡ 0 → queue rows len ≡ front_changed (queue rows len) key
     unfolding front_changed
     change-empty e = rw (le-ltb 0 len (omega arith))
-
-    pub change-short : length rows < len → queue rows len ≡ front_changed (queue rows len) key
-    unfolding front_changed
-    change-short h = rw (front-short h)
 
     pub change_is : 0 < len → len ≤ length rows → (rows' : List (List ℕ)) → rows' ≡ heapify (rekeyed rows key) len
         → queue rows' len ≡ front_changed (queue rows len) key

@@ -96,7 +96,7 @@ pub fn first_card(rows: &[[u64; 2]]) -> u32
     rows.first().map_or(0, |row| (row[1] % 4294967296) as u32)
 }
 
-// The queued cards: their rows are the first `len` places of the lent list.
+// The queued cards: their rows are the first `len` places of the list, whose other places the caller has lent too.
 #[derive(Drop)]
 pub struct CardPriorityQueue<'a> {
     pub rows: &'a mut [[u64; 2]],
@@ -104,6 +104,7 @@ pub struct CardPriorityQueue<'a> {
 }
 
 impl CardPriorityQueue<'_> {
+    #[tactic(auto, unfolding(crate::specs::Queue::pushed))]
     pub fn push(&mut self, card: u32, key: u64)
         ensures same { self.new.rows.ghost_name ≡ self.old.rows.ghost_name }
         ensures pushed { queue self.new.rows.now self.new.len ≡ pushed (queue self.old.rows.now self.old.len) card key }
@@ -122,6 +123,7 @@ impl CardPriorityQueue<'_> {
         first_card(self.rows)
     }
 
+    #[tactic(auto, unfolding(crate::specs::Queue::popped))]
     pub fn pop(&mut self)
         ensures same { self.new.rows.ghost_name ≡ self.old.rows.ghost_name }
         ensures popped { queue self.new.rows.now self.new.len ≡ popped (queue self.old.rows.now self.old.len) }
@@ -135,6 +137,7 @@ impl CardPriorityQueue<'_> {
     }
 
     // The first card gets another key: what `change_priority` does to the card that was peeked at.
+    #[tactic(auto, unfolding(crate::specs::Queue::front_changed))]
     pub fn change_front(&mut self, key: u64)
         ensures same { self.new.rows.ghost_name ≡ self.old.rows.ghost_name }
         ensures length { self.new.len ≡ self.old.len }

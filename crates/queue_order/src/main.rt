@@ -79,7 +79,12 @@ impl Service<'_> {
             let kind = next(state);
             let card = next(kind);
             state = next(card);
-            self.operate(rt, kind / 65536 % 4, (card / 65536 % 64) as u32, state / 65536)?;
+            self.operate(
+                rt,
+                kind / 65536 % 4,
+                (card / 65536 % 64) as u32,
+                state / 65536,
+            )?;
         }
         Ok(())
     }

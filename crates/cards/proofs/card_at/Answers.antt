@@ -1,4 +1,4 @@
-use lib.Ieee.{of_bits, of_fields, div}
+use lib.Ieee.{of_bits, of_fields}
 use mathlib.Core.Path.{◌≡◌}
 use lib.ListN.{get_or}
 use Rattle.std.proofs.Common.{rules, arith}

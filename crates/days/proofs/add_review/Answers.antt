@@ -1,4 +1,3 @@
-use mathlib.Core.Path.{◌∙◌, ap}
 use Rattle.days.proofs.Laws.{wrong_is, correct_is}
 use Rattle.days.proofs.add_review.Goals as goal
 

@@ -22,7 +22,9 @@ returns-after-loop c = let e : 5 - c.loop.counter ≡ 0 = omega arith in sym
 
 pub returns-then-t-limit : goal.returns-then-t-limit
 returns-then-t-limit c =
-    sym (elim c.then-t-limit.branch [ then-t-limit-via-then-t-limit w ↦ steps-many split_mix (kept c.args.m)
-    c.args.transitions c.args.costs c.args.limit (5 - c.loop.counter) c.loop.t w.if-t-limit.true
-    | then-t-limit-via-else-t-limit+then-t-ge4 w ↦ steps_easy split_mix (kept c.args.m) c.args.transitions
-    c.args.costs c.args.limit (5 - c.loop.counter) c.loop.t w.if-t-ge4.true ]) ∙ c.loop.invariant
+    sym (elim c.then-t-limit.branch [
+      | then-t-limit-via-then-t-limit w ↦ steps-many split_mix (kept c.args.m)
+          c.args.transitions c.args.costs c.args.limit (5 - c.loop.counter) c.loop.t w.if-t-limit.true
+      | then-t-limit-via-else-t-limit+then-t-ge4 w ↦ steps_easy split_mix (kept c.args.m) c.args.transitions
+          c.args.costs c.args.limit (5 - c.loop.counter) c.loop.t w.if-t-ge4.true
+    ]) ∙ c.loop.invariant

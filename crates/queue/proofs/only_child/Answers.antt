@@ -10,5 +10,7 @@ returns-then-rows-left c = only_moves c.args.rows.now c.args.row c.args.n c.args
 pub returns-else-left-n : goal.returns-else-left-n
 returns-else-left-n c = only_rests c.args.rows.now c.args.row c.args.n c.args.pos c.args.left
     (omega arith) (omega arith) (omega arith)
-    (elim c.else-left-n.branch [ else-left-n-via-then-left-n+else-rows-left w ↦ (λ p. w.if-rows-left.false)
-    | else-left-n-via-else-left-n w ↦ (λ p. absurd (omega arith)) ])
+    (elim c.else-left-n.branch [
+      | else-left-n-via-then-left-n+else-rows-left w ↦ (λ p. w.if-rows-left.false)
+      | else-left-n-via-else-left-n w ↦ (λ p. absurd (omega arith))
+    ])

@@ -1,8 +1,8 @@
 -- `queue::shifted` meets its contract: an i32 and 2 ^ 31 make a sum of 64 bits that is not negative.
 use mathlib.Core.Path.{refl}
 use native.Mathlib.Omega.{arith}
-use mir.Syntax.{w32, w64}
-use mir.ValLaws.{to_z-of_z, to_z_pos}
+use mir.Syntax.{w64}
+use mir.ValLaws.{to_z_pos}
 use Rattle.queue.specs.Key.{shifted}
 use Rattle.queue.proofs.Keys.{widened, shifted_sum, shifted-lt}
 use Rattle.queue.proofs.shifted.Goals as goal

@@ -1,6 +1,6 @@
 -- The invariant: as many places are filled as there were turns.
 use mathlib.Core.Path.{◌≡◌}
-use Prim.Native.Nat.{◌+◌, ◌-◌, ◌≤◌}
+use Prim.Native.Nat.{◌+◌, ◌≤◌}
 use lib.IntN.{pos}
 use lib.Ieee.{binary32, sub, of_int}
 use Rattle.elementary.specs.Filled.{filled}
