@@ -21,7 +21,7 @@ const MIN_TOL: f32 = 1e-10;
 const CG: f32 = 0.381966;
 
 // The ends a and b, the best retention x, the two before it, w and v, their means, the last two moves, and the rounds
-// done.
+// done. The moves stand as two fields, not as a `Move`: C holds this struct.
 #[repr(C)]
 #[derive(Clone, Copy)]
 pub struct Brent {
@@ -333,10 +333,10 @@ pub fn start(rounds: u32) -> Stepper
 }
 
 #[tactic(auto, unfolding(crate::specs::Stepping::goes_on))]
-fn goes_on(rounds: u32, s: Brent) -> bool
-    ensures { result ≡ Stepping.goes_on rounds s }
+fn goes_on(t: Stepper) -> bool
+    ensures { result ≡ Stepping.goes_on t.rounds t.state }
 {
-    s.done < rounds && !converged(s)
+    t.state.done < t.rounds && !converged(t.state)
 }
 
 // The retention to try next, or None: the search has ended.
@@ -346,50 +346,39 @@ pub fn next_retention(t: Stepper) -> Option<f32>
 {
     if !t.begun {
         Some(R_MIN)
-    } else if goes_on(t.rounds, t.state) {
+    } else if goes_on(t) {
         Some(next_trial(t.state).u)
     } else {
         None
     }
 }
 
-#[tactic(auto, unfolding(crate::specs::Stepping::taken_in, crate::specs::Step::step_of))]
-fn taken_in(rounds: u32, s: Brent, mean: f32) -> Brent
-    ensures { result ≡ Stepping.taken_in rounds s mean }
-{
-    if goes_on(rounds, s) {
-        after_trial(s, next_trial(s), mean)
-    } else {
-        s
-    }
-}
-
-fn taken(t: Stepper, mean: f32) -> Brent
-    ensures { result ≡ cond t.begun (Stepping.taken_in t.rounds t.state mean) (Step.begun mean) }
-{
-    if t.begun {
-        taken_in(t.rounds, t.state, mean)
-    } else {
-        begun(mean)
-    }
-}
-
-#[tactic(auto, unfolding(crate::specs::Stepping::take_mean))]
+#[tactic(auto, unfolding(crate::specs::Stepping::take_mean, crate::specs::Stepping::taken_in, crate::specs::Step::step_of))]
 pub fn take_mean(t: Stepper, mean: f32) -> Stepper
     ensures { result ≡ Stepping.take_mean t mean }
 {
+    let state = if !t.begun {
+        begun(mean)
+    } else if goes_on(t) {
+        after_trial(t.state, next_trial(t.state), mean)
+    } else {
+        t.state
+    };
     Stepper {
         begun: true,
-        rounds: t.rounds,
-        state: taken(t, mean),
+        state,
+        ..t
     }
 }
 
-#[tactic(auto, unfolding(crate::specs::Stepping::judged))]
-fn judged(rounds: u32, s: Brent) -> Verdict
-    ensures { result ≡ Stepping.judged rounds s }
+#[tactic(auto, unfolding(crate::specs::Stepping::answer, crate::specs::Stepping::judged))]
+pub fn answer(t: Stepper) -> Verdict
+    ensures { result ≡ Stepping.answer t }
 {
-    if s.done >= rounds {
+    let s = t.state;
+    if !t.begun {
+        Verdict::Open
+    } else if s.done >= t.rounds {
         Verdict::NotFound
     } else if !converged(s) {
         Verdict::Open
@@ -397,16 +386,5 @@ fn judged(rounds: u32, s: Brent) -> Verdict
         Verdict::Found(s.x)
     } else {
         Verdict::NotFound
-    }
-}
-
-#[tactic(auto, unfolding(crate::specs::Stepping::answer))]
-pub fn answer(t: Stepper) -> Verdict
-    ensures { result ≡ Stepping.answer t }
-{
-    if t.begun {
-        judged(t.rounds, t.state)
-    } else {
-        Verdict::Open
     }
 }

@@ -1,7 +1,8 @@
 // The interval table: a map of fixed size from a key of two buckets to an interval, in two lists that the caller lends.
 // A place is free if its interval is below 1, as it is after `clear`. A key is looked for from the place that its hash
 // names, place by place and round the end, until the key or a free place is met. Keys and intervals are two lists, not
-// one of pairs: C lends them as two.
+// one of pairs: C lends them as two. A key goes as its two halves s and r: a struct would be made of a row of C's list
+// and taken apart again at each use.
 #![tactic(auto)]
 
 ghost use Rattle.std.specs.Prelude.{◌≡◌, ◌<◌, length, set, replicate, false};
@@ -184,7 +185,8 @@ pub fn certifies_rounded_interval(
     }
 }
 
-// The slot of a card for its next interval: the held one if it is certified, else a new one under the same key.
+// The slot of a card for its next interval: the held one if it is certified, else a new one under the same key. The
+// lookup's answer is taken apart by let .. else, a rule of the project.
 #[tactic(auto, unfolding(crate::specs::Schedule::slot_of, crate::specs::Schedule::slot_in))]
 pub fn scheduled_interval(
     model: Fsrs7Runtime,

@@ -21,27 +21,18 @@ either false x = refl
 module _ (f : Float → Float) where
   pub newton-on : (n : ℕ) (u : Float) → 0 < n → Float32.is_finite (f u) ≡ true → newton n f u ≡ newton (n - 1) f (f u)
   unfolding newton
-  newton-on zero u p h = absurd (no p)
-    where
-      no : 0 < 0 → ⊥
-      no p = omega arith
+  newton-on zero u p h = absurd (omega arith)
   newton-on (suc n) u p h = rw h (ap (λ (k : ℕ). newton k f (f u)) (less_one n))
 
   pub newton_off : (n : ℕ) (u : Float) → 0 < n → Float32.is_finite (f u) ≡ false → newton n f u ≡ f u
   unfolding newton
-  newton_off zero u p h = absurd (no p)
-    where
-      no : 0 < 0 → ⊥
-      no p = omega arith
+  newton_off zero u p h = absurd (omega arith)
   newton_off (suc n) u p h = rw h
 
   pub newton-end : (n : ℕ) (u : Float) → n ≤ 0 → newton n f u ≡ u
   unfolding newton
   newton-end zero u p = refl
-  newton-end (suc n) u p = absurd (no p)
-    where
-      no : suc n ≤ 0 → ⊥
-      no p = omega arith
+  newton-end (suc n) u p = absurd (omega arith)
 
   -- a step that changes nothing: nor does any further one
   pub newton_still : (n : ℕ) (u : Float) → f u ≡ u → newton n f u ≡ u
@@ -53,10 +44,7 @@ module _ (f : Float → Float) where
     pub doubled-on : (n : ℕ) (h : Float) → 0 < n → (lt r (f h) && lt h s_max) ≡ true
         → doubled n f r h ≡ doubled (n - 1) f r (Float32.min (h *ᶠ two) s_max)
     unfolding doubled
-    doubled-on zero h p e = absurd (no p)
-      where
-        no : 0 < 0 → ⊥
-        no p = omega arith
+    doubled-on zero h p e = absurd (omega arith)
     doubled-on (suc n) h p e = rw e (ap (λ (k : ℕ). doubled k f r (Float32.min (h *ᶠ two) s_max)) (less_one n))
 
     pub doubled_off : (n : ℕ) (h : Float) → (lt r (f h) && lt h s_max) ≡ false → doubled n f r h ≡ h
@@ -67,10 +55,7 @@ module _ (f : Float → Float) where
     pub doubled-end : (n : ℕ) (h : Float) → n ≤ 0 → doubled n f r h ≡ h
     unfolding doubled
     doubled-end zero h p = refl
-    doubled-end (suc n) h p = absurd (no p)
-      where
-        no : suc n ≤ 0 → ⊥
-        no p = omega arith
+    doubled-end (suc n) h p = absurd (omega arith)
 
     abbrev middle : Float → Float → Float
     middle x y = (x +ᶠ y) *ᶠ half
@@ -78,25 +63,16 @@ module _ (f : Float → Float) where
     pub halved_up : (n : ℕ) (x y : Float) → 0 < n → lt r (f (middle x y)) ≡ true
         → halved n f r x y ≡ halved (n - 1) f r (middle x y) y
     unfolding halved
-    halved_up zero x y p e = absurd (no p)
-      where
-        no : 0 < 0 → ⊥
-        no p = omega arith
+    halved_up zero x y p e = absurd (omega arith)
     halved_up (suc n) x y p e = rw e (ap (λ (k : ℕ). halved k f r (middle x y) y) (less_one n))
 
     pub halved_down : (n : ℕ) (x y : Float) → 0 < n → lt r (f (middle x y)) ≡ false
         → halved n f r x y ≡ halved (n - 1) f r x (middle x y)
     unfolding halved
-    halved_down zero x y p e = absurd (no p)
-      where
-        no : 0 < 0 → ⊥
-        no p = omega arith
+    halved_down zero x y p e = absurd (omega arith)
     halved_down (suc n) x y p e = rw e (ap (λ (k : ℕ). halved k f r x (middle x y)) (less_one n))
 
     pub halved-end : (n : ℕ) (x y : Float) → n ≤ 0 → halved n f r x y ≡ Float32.clamp (middle x y) 0ᶠ s_max
     unfolding halved
     halved-end zero x y p = refl
-    halved-end (suc n) x y p = absurd (no p)
-      where
-        no : suc n ≤ 0 → ⊥
-        no p = omega arith
+    halved-end (suc n) x y p = absurd (omega arith)

@@ -3,51 +3,55 @@ use crate::report::{compare, equal};
 use draws::SplitMix64;
 use std::io;
 
-fn output(rt: &impl Print, g: SplitMix64, want: u64) -> io::Result<SplitMix64> {
-    let d = g.next();
-    let generator = d.generator;
-    compare(rt, "SplitMix64", d.output, want)?;
-    Ok(generator)
-}
+const PUBLISHED: [u64; 5] = [
+    6457827717110365317,
+    3203168211198807973,
+    9817491932198370423,
+    4593380528125082431,
+    16408922859458223821,
+];
+
+// A chance, a word, and whether the card is recalled.
+const RECALLED: [(f32, u32, bool); 5] = [
+    (0.0, 0, false),
+    (1.0, 4294967295, true),
+    (0.5, 2147483647, true),
+    (0.5, 2147483648, false),
+    (f32::NAN, 0, false),
+];
 
 fn published(rt: &impl Print) -> io::Result<()> {
-    let a = output(rt, SplitMix64::new(1234567), 6457827717110365317)?;
-    let b = output(rt, a, 3203168211198807973)?;
-    let c = output(rt, b, 9817491932198370423)?;
-    let d = output(rt, c, 4593380528125082431)?;
-    let _e = output(rt, d, 16408922859458223821)?;
+    let mut generator = SplitMix64::new(1234567);
+    for want in PUBLISHED {
+        let draw = generator.next();
+        generator = draw.generator;
+        compare(rt, "SplitMix64", draw.output, want)?;
+    }
     Ok(())
 }
 
-fn rated(rt: &impl Print, weights: &[f32], word: u32, want: usize) -> io::Result<()> {
-    equal(rt, draws::rating(weights, word) == want, "rating")
-}
-
-fn ratings(rt: &impl Print) -> io::Result<()> {
-    let even = [1.0, 1.0, 1.0, 1.0];
-    let three = [0.5, 0.25, 0.25];
-    let tiny = [0.0, float32::from_bits(1), 0.0, 0.0];
-    rated(rt, &even, 0, 0)?;
-    rated(rt, &even, 1073741823, 0)?;
-    rated(rt, &even, 1073741824, 1)?;
-    rated(rt, &even, 4294967295, 3)?;
-    rated(rt, &three, 2147483647, 0)?;
-    rated(rt, &three, 2147483648, 1)?;
-    rated(rt, &three, 4294967295, 2)?;
-    // v * total is total: no running sum is greater
-    rated(rt, &tiny, 4294967295, 1)
-}
-
-fn recalls(rt: &impl Print) -> io::Result<()> {
-    equal(rt, draws::recalled(0.0, 0) == false, "recalled")?;
-    equal(rt, draws::recalled(1.0, 4294967295), "recalled")?;
-    equal(rt, draws::recalled(0.5, 2147483647), "recalled")?;
-    equal(rt, draws::recalled(0.5, 2147483648) == false, "recalled")?;
-    equal(rt, draws::recalled(0.0 / 0.0, 0) == false, "recalled")
+// Words with the ratings that they draw by the weights.
+fn ratings(rt: &impl Print, weights: &[f32], cases: &[(u32, usize)]) -> io::Result<()> {
+    for (word, want) in cases {
+        equal(rt, "rating", draws::rating(weights, *word) == *want)?;
+    }
+    Ok(())
 }
 
 pub fn run(rt: &impl Print) -> io::Result<()> {
     published(rt)?;
-    ratings(rt)?;
-    recalls(rt)
+    let even = [(0, 0), (1073741823, 0), (1073741824, 1), (4294967295, 3)];
+    ratings(rt, &[1.0, 1.0, 1.0, 1.0], &even)?;
+    let three = [(2147483647, 0), (2147483648, 1), (4294967295, 2)];
+    ratings(rt, &[0.5, 0.25, 0.25], &three)?;
+    // v * total is total: no running sum is greater
+    ratings(
+        rt,
+        &[0.0, float32::from_bits(1), 0.0, 0.0],
+        &[(4294967295, 1)],
+    )?;
+    for (chance, word, want) in RECALLED {
+        equal(rt, "recalled", draws::recalled(chance, word) == want)?;
+    }
+    Ok(())
 }

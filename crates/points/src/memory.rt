@@ -1,6 +1,5 @@
 // A sample of the model's functions: the bits that the Rust gives over the same exp, ln and powf.
-use crate::report::{end, float};
-use float32::from_bits;
+use crate::report::floats;
 use model::{Fsrs7Runtime, MemoryState};
 use std::io;
 
@@ -10,147 +9,104 @@ const W: [f32; 34] = [
     0.242, 0.6675, 0.9137, 0.4717, 0.4885, 0.8136, 0.698, 0.4621, 0.6547, 0.308,
 ];
 
-fn init_difficulty(rt: &impl Print, m: Fsrs7Runtime, rating: u32) -> io::Result<()> {
-    print!(rt; "init_difficulty")?;
-    float(rt, m.init_difficulty(rating))?;
-    end(rt)
-}
+const STABILITIES: [f32; 10] = [
+    0.0001,
+    0.01,
+    0.5,
+    1.0,
+    3.2,
+    27.5,
+    400.0,
+    36500.0,
+    f32::NAN,
+    -1.0,
+];
 
-fn next_difficulty(rt: &impl Print, m: Fsrs7Runtime, d: f32) -> io::Result<()> {
-    print!(rt; "next_difficulty")?;
-    float(rt, m.next_difficulty(d, 1, 1.0))?;
-    float(rt, m.next_difficulty(d, 2, 1.0))?;
-    float(rt, m.next_difficulty(d, 1, 0.7))?;
-    float(rt, m.next_difficulty(d, 4, 1.0))?;
-    end(rt)
-}
+const DIFFICULTIES: [f32; 5] = [1.0, 3.3, 5.0, 9.9, 10.0];
 
-fn stability(rt: &impl Print, m: Fsrs7Runtime, s: f32, d: f32) -> io::Result<()> {
-    print!(rt; "stability")?;
-    float(rt, m.stability_after_success(s, 0.9, d, 2))?;
-    float(rt, m.stability_after_success(s, 0.5, d, 3))?;
-    float(rt, m.stability_after_success(s, 0.9, d, 4))?;
-    float(rt, m.stability_after_failure(s, 0.3, d))?;
-    float(rt, m.stability_short_term(s, 1.0, d, 3))?;
-    end(rt)
+const RETENTIONS: [f32; 5] = [0.9, 0.9999, 0.7, 0.0001, 0.99];
+
+fn difficulties(rt: &impl Print, m: Fsrs7Runtime) -> io::Result<()> {
+    for rating in 1..=4 {
+        floats(rt, "init_difficulty", &[m.init_difficulty(rating)])?;
+    }
+    for d in DIFFICULTIES {
+        let next = [
+            m.next_difficulty(d, 1, 1.0),
+            m.next_difficulty(d, 2, 1.0),
+            m.next_difficulty(d, 1, 0.7),
+            m.next_difficulty(d, 4, 1.0),
+        ];
+        floats(rt, "next_difficulty", &next)?;
+    }
+    Ok(())
 }
 
 fn stabilities(rt: &impl Print, m: Fsrs7Runtime, s: f32) -> io::Result<()> {
-    stability(rt, m, s, from_bits(0x3f80_0000))?;
-    stability(rt, m, s, from_bits(0x4053_3333))?;
-    stability(rt, m, s, from_bits(0x40a0_0000))?;
-    stability(rt, m, s, from_bits(0x411e_6666))?;
-    stability(rt, m, s, from_bits(0x4120_0000))
+    for d in DIFFICULTIES {
+        let next = [
+            m.stability_after_success(s, 0.9, d, 2),
+            m.stability_after_success(s, 0.5, d, 3),
+            m.stability_after_success(s, 0.9, d, 4),
+            m.stability_after_failure(s, 0.3, d),
+            m.stability_short_term(s, 1.0, d, 3),
+        ];
+        floats(rt, "stability", &next)?;
+    }
+    Ok(())
 }
 
 fn curve(rt: &impl Print, m: Fsrs7Runtime, s: f32) -> io::Result<()> {
-    print!(rt; "curve")?;
     let c = m.curve(s);
-    float(rt, c.retention(-1.0))?;
-    float(rt, c.retention(0.0))?;
-    float(rt, m.forgetting_curve(1.0, s))?;
-    float(rt, m.forgetting_curve(365.0, s))?;
-    end(rt)?;
-    curve_for_state(
-        rt,
-        m,
-        MemoryState {
-            stability: s,
-            difficulty: 7.5,
-            stability_fast: s * 0.8,
-        },
-    )
-}
-
-fn curve_for_state(rt: &impl Print, m: Fsrs7Runtime, state: MemoryState) -> io::Result<()> {
-    print!(rt; "curve_for_state")?;
-    float(rt, m.forgetting_curve_for_state(1.0, state))?;
-    float(rt, m.forgetting_curve_for_state(36500.0, state))?;
-    end(rt)?;
-    print!(rt; "derivative")?;
+    let chances = [
+        c.retention(-1.0),
+        c.retention(0.0),
+        m.forgetting_curve(1.0, s),
+        m.forgetting_curve(365.0, s),
+    ];
+    floats(rt, "curve", &chances)?;
+    let state = MemoryState {
+        stability: s,
+        difficulty: 7.5,
+        stability_fast: s * 0.8,
+    };
+    let chances = [
+        m.forgetting_curve_for_state(1.0, state),
+        m.forgetting_curve_for_state(36500.0, state),
+    ];
+    floats(rt, "curve_for_state", &chances)?;
     let slope = m.curve_for_state(state).retention_and_derivative(3.0);
-    float(rt, slope.retention)?;
-    float(rt, slope.derivative)?;
-    end(rt)
-}
-
-fn interval(rt: &impl Print, m: Fsrs7Runtime, s: f32, r: f32) -> io::Result<()> {
-    print!(rt; "interval")?;
-    float(rt, m.next_interval(s, r))?;
-    float(
-        rt,
-        m.next_interval_bisection(
-            MemoryState {
-                stability: s,
-                difficulty: 5.0,
-                stability_fast: s,
-            },
-            r,
-        ),
-    )?;
-    float(rt, m.scheduled(s, r, 36500.0))?;
-    end(rt)
+    floats(rt, "derivative", &[slope.retention, slope.derivative])
 }
 
 fn intervals(rt: &impl Print, m: Fsrs7Runtime, s: f32) -> io::Result<()> {
-    interval(rt, m, s, from_bits(0x3f66_6666))?;
-    interval(rt, m, s, from_bits(0x3f7f_f972))?;
-    interval(rt, m, s, from_bits(0x3f33_3333))?;
-    interval(rt, m, s, from_bits(0x38d1_b717))?;
-    interval(rt, m, s, from_bits(0x3f7d_70a4))
+    let state = MemoryState {
+        stability: s,
+        difficulty: 5.0,
+        stability_fast: s,
+    };
+    for r in RETENTIONS {
+        let days = [
+            m.next_interval(s, r),
+            m.next_interval_bisection(state, r),
+            m.scheduled(s, r, 36500.0),
+        ];
+        floats(rt, "interval", &days)?;
+    }
+    Ok(())
 }
 
 pub fn run(rt: &impl Print) -> io::Result<()> {
     let m = Fsrs7Runtime::new(&W);
-    init_difficulty(rt, m, 1)?;
-    init_difficulty(rt, m, 2)?;
-    init_difficulty(rt, m, 3)?;
-    init_difficulty(rt, m, 4)?;
-    next_difficulty(rt, m, from_bits(0x3f80_0000))?;
-    next_difficulty(rt, m, from_bits(0x4053_3333))?;
-    next_difficulty(rt, m, from_bits(0x40a0_0000))?;
-    next_difficulty(rt, m, from_bits(0x411e_6666))?;
-    next_difficulty(rt, m, from_bits(0x4120_0000))?;
-    all_stabilities(rt, m)?;
-    all_curves(rt, m)?;
-    all_intervals(rt, m)
-}
-
-fn all_stabilities(rt: &impl Print, m: Fsrs7Runtime) -> io::Result<()> {
-    stabilities(rt, m, from_bits(0x38d1_b717))?;
-    stabilities(rt, m, from_bits(0x3c23_d70a))?;
-    stabilities(rt, m, from_bits(0x3f00_0000))?;
-    stabilities(rt, m, from_bits(0x3f80_0000))?;
-    stabilities(rt, m, from_bits(0x404c_cccd))?;
-    stabilities(rt, m, from_bits(0x41dc_0000))?;
-    stabilities(rt, m, from_bits(0x43c8_0000))?;
-    stabilities(rt, m, from_bits(0x470e_9400))?;
-    stabilities(rt, m, from_bits(0x7fc0_0000))?;
-    stabilities(rt, m, from_bits(0xbf80_0000))
-}
-
-fn all_curves(rt: &impl Print, m: Fsrs7Runtime) -> io::Result<()> {
-    curve(rt, m, from_bits(0x38d1_b717))?;
-    curve(rt, m, from_bits(0x3c23_d70a))?;
-    curve(rt, m, from_bits(0x3f00_0000))?;
-    curve(rt, m, from_bits(0x3f80_0000))?;
-    curve(rt, m, from_bits(0x404c_cccd))?;
-    curve(rt, m, from_bits(0x41dc_0000))?;
-    curve(rt, m, from_bits(0x43c8_0000))?;
-    curve(rt, m, from_bits(0x470e_9400))?;
-    curve(rt, m, from_bits(0x7fc0_0000))?;
-    curve(rt, m, from_bits(0xbf80_0000))
-}
-
-fn all_intervals(rt: &impl Print, m: Fsrs7Runtime) -> io::Result<()> {
-    intervals(rt, m, from_bits(0x38d1_b717))?;
-    intervals(rt, m, from_bits(0x3c23_d70a))?;
-    intervals(rt, m, from_bits(0x3f00_0000))?;
-    intervals(rt, m, from_bits(0x3f80_0000))?;
-    intervals(rt, m, from_bits(0x404c_cccd))?;
-    intervals(rt, m, from_bits(0x41dc_0000))?;
-    intervals(rt, m, from_bits(0x43c8_0000))?;
-    intervals(rt, m, from_bits(0x470e_9400))?;
-    intervals(rt, m, from_bits(0x7fc0_0000))?;
-    intervals(rt, m, from_bits(0xbf80_0000))
+    difficulties(rt, m)?;
+    for s in STABILITIES {
+        stabilities(rt, m, s)?;
+    }
+    for s in STABILITIES {
+        curve(rt, m, s)?;
+    }
+    for s in STABILITIES {
+        intervals(rt, m, s)?;
+    }
+    Ok(())
 }

@@ -1,9 +1,5 @@
-// What the points print: whether a value is what it must be, or the value itself.
+// What the points print: whether a value is what it must be, or the values themselves.
 use std::io;
-
-pub fn wide(x: u32) -> u64 {
-    x as u64
-}
 
 pub fn compare(rt: &impl Print, name: &str, got: u64, want: u64) -> io::Result<()> {
     if got == want {
@@ -13,7 +9,12 @@ pub fn compare(rt: &impl Print, name: &str, got: u64, want: u64) -> io::Result<(
     }
 }
 
-pub fn equal(rt: &impl Print, same: bool, name: &str) -> io::Result<()> {
+// The same of a float and the bits that it must have.
+pub fn compare_bits(rt: &impl Print, name: &str, got: f32, want: u32) -> io::Result<()> {
+    compare(rt, name, u64::from(float32::to_bits(got)), u64::from(want))
+}
+
+pub fn equal(rt: &impl Print, name: &str, same: bool) -> io::Result<()> {
     if same {
         println!(rt; "{name} ok")
     } else {
@@ -21,11 +22,11 @@ pub fn equal(rt: &impl Print, same: bool, name: &str) -> io::Result<()> {
     }
 }
 
-// A float's bits, after a blank.
-pub fn float(rt: &impl Print, x: f32) -> io::Result<()> {
-    print!(rt; " {:08x}", wide(float32::to_bits(x)))
-}
-
-pub fn end(rt: &impl Print) -> io::Result<()> {
+// A line of floats: their bits, each after a blank.
+pub fn floats(rt: &impl Print, name: &str, values: &[f32]) -> io::Result<()> {
+    print!(rt; "{name}")?;
+    for value in values {
+        print!(rt; " {:08x}", float32::to_bits(*value))?;
+    }
     println!(rt; "")
 }

@@ -1,6 +1,6 @@
--- `all` ends: its turns are counted.
-use Rattle.std.proofs.Common.{◌-◌}
+-- No more lines lie outside than were read.
+use Rattle.std.proofs.Common.{◌≤◌}
 use Rattle.elementary_points.proofs.all.Given as goal
 
-abbrev pub decreases-loop-turns : goal.decreases-loop-turns
-decreases-loop-turns g l = 10000 - l.turns
+abbrev pub invariant-loop-rows : goal.invariant-loop-rows
+invariant-loop-rows g l = l.outside ≤ l.rows
