@@ -6,21 +6,25 @@
 --   passes            one test that passes
 --   SettingsOk, settings_passed   what tests that pass say
 --   lists-told        refusal 6 is about no list exactly where the lists pass
-use mathlib.Core.Path.{◌≡◌, refl, sym, ap, ◌∙◌}
+use mathlib.Core.Path.{◌≡◌, refl, sym, ap, ◌∙◌, subst}
 use mathlib.Core.Bool.{Bool, true, false, not, cond, ◌||◌, ◌&&◌}
 use mathlib.Core.List.{List}
 use Prim.Native.Nat.{ℕ, suc, ◌≤◌, ◌<◌}
 use native.Mathlib.Omega.{arith}
 use borrow.Author.Tests.{eqb-false, ltb-false, ne_eqb, lt-ltb, le-ltb}
 use lib.Dec.{eqb, leb, ltb}
-use lib.ListN.{length}
+use lib.ListN.{length, take}
 use lib.Ieee.{Float}
 use Rattle.cards.specs.declared.SimulatorConfig.{SimulatorConfig}
 use Rattle.cards.specs.Config.{config_ok}
 use Rattle.days.specs.Due.{due_days}
 use Rattle.entry.specs.declared.Refusal.{Refusal}
 use Rattle.entry.specs.declared.Refusal.TheVariants as refusal
-use Rattle.std.specs.Prelude.{Ok, Err, IsErrAnd, Some, None}
+use Rattle.std.specs.Prelude.{Ok, Err, IsErrAnd, Option, Some, None, MatchOption}
+use Rattle.std.specs.List.{AllWithin, HoldsAt}
+use Rattle.std.specs.Float.{nan}
+use Rattle.std.proofs.lemmas.List.{get_or-take, length-take}
+use Rattle.float32.specs.Float32.{is_finite}
 use Rattle.entry.proofs.FirstWhere.{first_found, first_none, Found}
 use Rattle.entry.specs.declared.lists.Lengths.{Lengths}
 use Rattle.entry.specs.Entry.{Check, passed, first_where, not_finite, fail_if, check_parameters, lengths_ok, check_first, not_ok}
@@ -160,6 +164,25 @@ unfolding check_parameters
 parameters_ok w l f =
     let e = first_none (not_finite w) 34 (λ k h. f k (omega arith) h) in
     rw (le-ltb (length w) 34 l, e)
+
+-- a search of the first n parameters themselves
+pub finite_in : (w : List Float) (n : ℕ) (r : Option ℕ) → n ≤ length w
+    → MatchOption r (AllWithin (λ x. not (is_finite x) ≡ false) (take n w) 0 (length (take n w)))
+    (λ i. (i < length (take n w)) × HoldsAt (λ x. not (is_finite x) ≡ true) (take n w) i
+    × AllWithin (λ x. not (is_finite x) ≡ false) (take n w) 0 i)
+    → Found (not_finite w) n r
+finite_in w n None l h = λ k _ u.
+    let e : length (take n w) ≡ n = omega (arith, length-take n w) in
+    subst (λ (x : Float). not (is_finite x) ≡ false) (get_or-take n w k nan u) (h k nan (omega arith) (omega arith))
+finite_in w n (Some i) l h =
+    let e : length (take n w) ≡ n = omega (arith, length-take n w) in
+    let u : i < n = omega (arith, h.0) in (
+      omega arith,
+      u,
+      subst (λ (x : Float). not (is_finite x) ≡ true) (get_or-take n w i nan u) (h.1 nan),
+      λ k _ v. subst (λ (x : Float). not (is_finite x) ≡ false) (get_or-take n w k nan (omega arith))
+          (h.2 k nan (omega arith) v),
+    )
 
 pub cards_bad : (es : List (List Float)) (ns : List (List ℕ)) (n i : ℕ) → Found (not_ok es ns) n (Some i)
     → check_first es ns n ≡ Err (refusal.ExistingCard i)

@@ -2,8 +2,7 @@
 // with the numbers by which that is told (refusals.rt); and what a call is given (lists.rt).
 #![tactic(auto)]
 
-ghost use Rattle.std.specs.Prelude.{◌≡◌, ◌==◌, ◌||◌, nat_lt, get_or};
-ghost use Rattle.std.specs.Float.{nan};
+ghost use Rattle.std.specs.Prelude.{◌≡◌, ◌==◌, ◌||◌, nat_lt};
 ghost use Rattle.float32.specs.Numbers.{0ᶠ};
 ghost use Rattle.entry.specs.Entry.{inputs, is_bad, passed};
 ghost use Rattle.entry.specs.Entry.{check_parameters, lengths_ok, short_list, check_first};
@@ -37,12 +36,6 @@ const MOST_CARDS: u32 = 65536;
 
 const MOST_DAYS: u32 = 36500;
 
-fn parameter(w: &[f32], i: u32) -> f32
-    ensures { result ≡ get_or w.now i nan }
-{
-    w.get(i as usize).copied().unwrap_or(f32::NAN)
-}
-
 // FSRS-7 has 34 parameters, all finite.
 #[tactic(auto, unfolding(crate::specs::Entry::check_parameters))]
 fn check_parameters(w: &[f32]) -> Result<(), Refusal>
@@ -51,8 +44,8 @@ fn check_parameters(w: &[f32]) -> Result<(), Refusal>
     if w.len() < 34 {
         return Err(Refusal::Parameters(34));
     }
-    match (0..34).find(|i| !float32::is_finite(parameter(w, *i))) {
-        Some(i) => Err(Refusal::Parameters(i)),
+    match w[..34].iter().position(|x| !float32::is_finite(*x)) {
+        Some(i) => Err(Refusal::Parameters(i as u32)),
         None => Ok(()),
     }
 }

@@ -9,11 +9,10 @@ pub fn number_of(refusal: Refusal) -> u32
 {
     match refusal {
         Refusal::Parameters(_) => 1,
-        Refusal::DeckSize => 2,
+        Refusal::DeckSize | Refusal::TooManyCards => 2,
         Refusal::LearnSpan => 3,
         Refusal::Config => 4,
         Refusal::Lists => 6,
-        Refusal::TooManyCards => 2,
         Refusal::ExistingCard(_) => 5,
         Refusal::ChanceOutOfRange(_) => 7,
         Refusal::TableFull(_) => 8,
@@ -26,16 +25,13 @@ pub fn second_of(refusal: Refusal) -> u32
     ensures { result ≡ second_of refusal }
 {
     match refusal {
-        Refusal::Parameters(i) => i,
-        Refusal::DeckSize => 0,
-        Refusal::LearnSpan => 0,
-        Refusal::Config => 0,
-        Refusal::Lists => 0,
+        Refusal::Parameters(n)
+        | Refusal::ExistingCard(n)
+        | Refusal::ChanceOutOfRange(n)
+        | Refusal::TableFull(n)
+        | Refusal::DueCount(n)
+        | Refusal::NotFound(n) => n,
         Refusal::TooManyCards => 1,
-        Refusal::ExistingCard(i) => i,
-        Refusal::ChanceOutOfRange(c) => c,
-        Refusal::TableFull(c) => c,
-        Refusal::DueCount(c) => c,
-        Refusal::NotFound(done) => done,
+        Refusal::DeckSize | Refusal::LearnSpan | Refusal::Config | Refusal::Lists => 0,
     }
 }

@@ -15,9 +15,9 @@ use Rattle.entry.specs.declared.Refusal.{Refusal}
 use Rattle.entry.specs.declared.Refusal.TheVariants as refusal
 use Rattle.entry.specs.Entry.{passed}
 use Rattle.simulation.specs.declared.Progress.{Progress}
-use Rattle.simulation.specs.Simulate.{finished, refused}
+use Rattle.simulation.specs.Simulate.{refused}
 use Rattle.simulation.specs.Turn.{Stop}
-use Rattle.std.specs.Prelude.{Ok, Err}
+use Rattle.std.specs.Prelude.{Err}
 use Rattle.simulation.specs.State.{State}
 use Rattle.simulation.specs.Rules.{Rules, rules_with}
 use Rattle.entry.specs.Entry.{Inputs}

@@ -144,7 +144,11 @@ pub(crate) fn set_up(lists: &mut Lists<'_>, learner: Learner<'_>, settings: Sett
     let kept = add_existing_cards(lists, learner, span, n);
     let more = new_card_count(settings.config, kept);
     let len = add_new_cards(lists, settings, more, kept);
-    fill_first(lists.days, span as usize, [0, 0, 0, introduced_before(learner, n)]);
+    fill_first(
+        lists.days,
+        span as usize,
+        [0, 0, 0, introduced_before(learner, n)],
+    );
     fill_first(lists.costs, span as usize, 0.0);
     fill_first(lists.memorized, span as usize, 0.0);
     intervals::clear(lists.intervals);

@@ -4,7 +4,7 @@ ghost use Rattle.draws.specs.Draws.{split_mix};
 ghost use Rattle.cards.specs.declared.Choice.TheVariants as choice;
 ghost use Rattle.cards.specs.Cards.{card_at};
 ghost use Rattle.cards.specs.Choices.{limits, choice_of};
-ghost use Rattle.cards.specs.Day.{is_new};
+ghost use Rattle.cards.specs.Day.{day_of, is_new};
 ghost use Rattle.days.specs.Counts.{saturating_suc, learned_at, reviewed_at};
 ghost use Rattle.days.specs.Sums.{cost_at};
 ghost use Rattle.days.specs.Due.{none_due};
@@ -28,31 +28,37 @@ use intervals::Slot;
 use model::Curve;
 use queue::CardPriorityQueue;
 
-// ---- what a turn reads of the lists
+// ---- what a turn reads of the lists: over `&Lists`, since one call can't borrow two lists of a `&mut Lists` to read
 
-// The place of the queue's first card.
-fn first_in(lists: &Lists<'_>) -> u32
-    ensures { result ≡ card_index_at lists.now.rows.now 0 }
-{
-    queue::first_card(lists.rows)
+// The queue's first card, which has the turn: its place in the lists, its row, and its day.
+#[derive(Clone, Copy)]
+struct First {
+    place: u32,
+    card: Card,
+    day: u32,
 }
 
-fn card_in(lists: &Lists<'_>, c: u32) -> Card
-    ensures { result ≡ card_at lists.now.cards.now lists.now.counts.now c }
+fn first_of(lists: &Lists<'_>) -> First
+    ensures place { result.place ≡ card_index_at lists.now.rows.now 0 }
+    ensures card { result.card ≡ card_at lists.now.cards.now lists.now.counts.now result.place }
+    ensures day { result.day ≡ day_of result.card.due }
 {
-    cards::card_at(lists.cards, lists.counts, c)
+    let place = queue::first_card(lists.rows);
+    let card = cards::card_at(lists.cards, lists.counts, place);
+    let day = cards::day_of(card.due);
+    First { place, card, day }
 }
 
-// What a day's counts and cost let a card do.
-fn choice_in(lists: &Lists<'_>, rules: Rules, card: Card, d: u32) -> Choice
+// What the counts and the cost of its day let the first card do.
+fn choice_in(lists: &Lists<'_>, rules: Rules, first: First) -> Choice
     ensures { result ≡ choice_of rules.config.learn_span rules.config.suspend_after_lapses
-        (limits rules.config) d card (learned_at lists.now.days.now d)
-        (reviewed_at lists.now.days.now d) (cost_at 0ᶠ lists.now.costs.now d) }
+        (limits rules.config) first.day first.card (learned_at lists.now.days.now first.day)
+        (reviewed_at lists.now.days.now first.day) (cost_at 0ᶠ lists.now.costs.now first.day) }
 {
-    let learned = days::learned_at(lists.days, d);
-    let reviewed = days::reviewed_at(lists.days, d);
-    let cost = days::cost_at(lists.costs, d);
-    cards::decide(rules.config, card, learned, reviewed, cost)
+    let learned = days::learned_at(lists.days, first.day);
+    let reviewed = days::reviewed_at(lists.days, first.day);
+    let cost = days::cost_at(lists.costs, first.day);
+    cards::decide(rules.config, first.card, learned, reviewed, cost)
 }
 
 fn none_due_in(lists: &Lists<'_>, new: bool, d: u32) -> bool
@@ -68,10 +74,18 @@ fn slot_for(lists: &Lists<'_>, rules: Rules, stability: f32, retention: f32) -> 
 {
     let most = rules.config.max_ivl;
     let model = rules.model;
-    intervals::scheduled_interval(model, stability, retention, most, lists.keys, lists.intervals)
+    intervals::scheduled_interval(
+        model,
+        stability,
+        retention,
+        most,
+        lists.keys,
+        lists.intervals,
+    )
 }
 
-// ---- the queue, of the first `len` of its lent rows: the first card gets another key, or leaves
+// ---- the queue, of the first `len` of its lent rows: the first card gets another key, or leaves. Over the rows alone:
+// a queue made of a list of `Lists` was tried, and what it leaves there proved by no answer that names what it did.
 
 fn change_front(rows: &mut [[u64; 2]], len: u32, key: u64)
     ensures { queue rows.new len ≡ front_changed (queue rows.old len) key }
@@ -153,41 +167,46 @@ fn add_forgetting_curve(memorized: &mut [f32], rules: Rules, curve: Curve, card:
 fn put_off_step(
     lists: &mut Lists<'_>,
     rules: Rules,
-    c: u32,
-    card: Card,
-    d: u32,
+    first: First,
     at: Place,
 ) -> Result<Option<Place>, Refusal>
     ensures step { let before = state_at lists.old at in
-        TurnContract (act (rules_as rules) before c card d choice.PutOff) before result (lent_of lists.new) }
+        TurnContract (act (rules_as rules) before first.place first.card first.day choice.PutOff)
+        before result (lent_of lists.new) }
     ensures same { SameLists lists.old lists.new }
 {
+    let First { place, card, day } = first;
     let new = cards::is_new(card.last_date);
-    if none_due_in(lists, new, d) {
-        return Err(Refusal::DueCount(c));
+    if none_due_in(lists, new, day) {
+        return Err(Refusal::DueCount(place));
     }
-    let later = put_off_card(card, d);
-    let key = queue::card_priority(cards::day_after(d), new, card.difficulty);
-    cards::write_floats(lists.cards, c, later);
+    let later = put_off_card(card, day);
+    let key = queue::card_priority(cards::day_after(day), new, card.difficulty);
+    cards::write_floats(lists.cards, place, later);
     change_front(lists.rows, at.queued, key);
-    days::move_due(lists.due, rules.config.learn_span, new, d);
+    days::move_due(lists.due, rules.config.learn_span, new, day);
     Ok(Some(at))
 }
 
 fn retire_step(
     lists: &mut Lists<'_>,
     rules: Rules,
-    c: u32,
-    card: Card,
-    d: u32,
+    first: First,
     at: Place,
 ) -> Result<Option<Place>, Refusal>
     ensures step { let before = state_at lists.old at in
-        TurnContract (act (rules_as rules) before c card d choice.Retire) before result (lent_of lists.new) }
+        TurnContract (act (rules_as rules) before first.place first.card first.day choice.Retire)
+        before result (lent_of lists.new) }
     ensures same { SameLists lists.old lists.new }
 {
-    let curve = rules.model.curve(card.stability);
-    add_forgetting_curve(lists.memorized, rules, curve, card, rules.config.learn_span);
+    let curve = rules.model.curve(first.card.stability);
+    add_forgetting_curve(
+        lists.memorized,
+        rules,
+        curve,
+        first.card,
+        rules.config.learn_span,
+    );
     let queued = pop(lists.rows, at.queued);
     Ok(Some(Place { queued, ..at }))
 }
@@ -204,35 +223,34 @@ fn event_of(rules: Rules, curve: Curve, card: Card, new: bool, d: u32, draws: u6
 fn event_step(
     lists: &mut Lists<'_>,
     rules: Rules,
-    c: u32,
-    card: Card,
-    d: u32,
+    first: First,
     at: Place,
 ) -> Result<Option<Place>, Refusal>
     ensures step { let before = state_at lists.old at in
-        TurnContract (event_on (rules_as rules) before c card (is_new card.last_date) d)
-        before result (lent_of lists.new) }
+        TurnContract (event_on (rules_as rules) before first.place first.card
+        (is_new first.card.last_date) first.day) before result (lent_of lists.new) }
     ensures same { SameLists lists.old lists.new }
 {
+    let First { place, card, day } = first;
     let new = cards::is_new(card.last_date);
     let span = rules.config.learn_span;
     let curve = rules.model.curve(card.stability);
-    let Some(x) = event_of(rules, curve, card, new, d, at.draws) else {
-        return Err(Refusal::ChanceOutOfRange(c));
+    let Some(x) = event_of(rules, curve, card, new, day, at.draws) else {
+        return Err(Refusal::ChanceOutOfRange(place));
     };
     let slot = slot_for(lists, rules, x.stability, card.desired_retention);
     if intervals::is_full(slot) {
-        return Err(Refusal::TableFull(c));
+        return Err(Refusal::TableFull(place));
     }
-    let later = event_card(card, new, x, d, intervals::interval_in(slot));
+    let later = event_card(card, new, x, day, intervals::interval_in(slot));
     let key = key_of(later);
     // ---- from here on it writes
-    cards::write_floats(lists.cards, c, later);
-    cards::write_counts(lists.counts, c, later);
+    cards::write_floats(lists.cards, place, later);
+    cards::write_counts(lists.counts, place, later);
     change_front(lists.rows, at.queued, key);
-    days::add_event(lists.days, span, new, d, x.recalled);
-    days::add_cost(lists.costs, d, x.cost);
-    add_forgetting_curve(lists.memorized, rules, curve, card, d);
+    days::add_event(lists.days, span, new, day, x.recalled);
+    days::add_cost(lists.costs, day, x.cost);
+    add_forgetting_curve(lists.memorized, rules, curve, card, day);
     days::add_due(lists.due, span, cards::day_of(later.due));
     intervals::enter_slot(lists.keys, lists.intervals, slot);
     Ok(Some(Place {
@@ -250,13 +268,11 @@ pub(crate) fn turn(lists: &mut Lists<'_>, rules: Rules, at: Place) -> Result<Opt
     if at.queued == 0 {
         return Ok(None);
     }
-    let c = first_in(lists);
-    let card = card_in(lists, c);
-    let d = cards::day_of(card.due);
-    match choice_in(lists, rules, card, d) {
-        Choice::Retire => retire_step(lists, rules, c, card, d, at),
-        Choice::PutOff => put_off_step(lists, rules, c, card, d, at),
+    let first = first_of(lists);
+    match choice_in(lists, rules, first) {
+        Choice::Retire => retire_step(lists, rules, first, at),
+        Choice::PutOff => put_off_step(lists, rules, first, at),
         // by whether the card is new
-        Choice::Learn | Choice::Review => event_step(lists, rules, c, card, d, at),
+        Choice::Learn | Choice::Review => event_step(lists, rules, first, at),
     }
 }

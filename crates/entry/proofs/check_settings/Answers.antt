@@ -28,4 +28,3 @@ returns-then-not-lists_ok c =
 pub returns-then-deck-n : goal.returns-then-deck-n
 returns-then-deck-n c =
     rw (parameters_pass _ _ _ _ _ (sym c.check_parameters.ensures ∙ c.in_ok-check_parameters.was)) (search rules)
-

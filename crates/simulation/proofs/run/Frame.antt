@@ -25,7 +25,7 @@ use Rattle.intervals.proofs.Longer.{same-clear}
 use Rattle.events.specs.Drawn.{Drawn}
 use Rattle.entry.specs.Entry.{passed}
 use Rattle.simulation.specs.Turn.{Stop}
-use Rattle.std.specs.Prelude.{Ok, Err}
+use Rattle.std.specs.Prelude.{Ok}
 use Rattle.simulation.specs.State.{State, Lent, lists_of, with_table}
 use Rattle.simulation.specs.Rules.{Rules}
 use Rattle.simulation.specs.Turn.{next}

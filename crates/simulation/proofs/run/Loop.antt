@@ -14,7 +14,7 @@ use Rattle.turns.specs.Turns.{Turn}
 use Rattle.turns.specs.Run.{Next, takes, stops, RunState, run, stop_of}
 use Rattle.turns.proofs.Loop.{run_one_more, run_enough, stop_takes, stop_stops}
 use Rattle.events.specs.Drawn.{Drawn}
-use Rattle.std.specs.Prelude.{Result, Ok, Err, Option, Some, None}
+use Rattle.std.specs.Prelude.{Result, Ok, Err, Option, Some}
 use Rattle.entry.specs.declared.Refusal.{Refusal}
 use Rattle.simulation.specs.declared.Place.{Place}
 use Rattle.simulation.specs.State.{State, Lent, lists_of, state}

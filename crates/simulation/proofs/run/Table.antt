@@ -32,7 +32,7 @@ use Rattle.intervals.specs.Table.{Table, Sound}
 use Rattle.events.specs.Drawn.{Drawn}
 use Rattle.entry.specs.declared.Refusal.TheVariants as refusal
 use Rattle.simulation.specs.Turn.{Stop}
-use Rattle.std.specs.Prelude.{Ok, Err}
+use Rattle.std.specs.Prelude.{Ok}
 use Rattle.simulation.specs.State.{State, card_in}
 use Rattle.simulation.specs.Rules.{Rules}
 use Rattle.entry.specs.Entry.{Inputs}

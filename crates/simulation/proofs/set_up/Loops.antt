@@ -1,6 +1,6 @@
 -- The loops of set-up follow its definitions, turn by turn, over plain lists.
 --   filled_is, filled_all      a list whose first places are filled
---   filled_next, filled-length   one place more, and the length stays
+--   filled_next                one place more
 --   joined_none, joined_then   nothing joins, and what joins after others have
 --   deck_is                    a deck is that of its four lists
 --   dropped_is, kept_joins     an existing card that is not kept, and one that is
@@ -14,7 +14,7 @@ use Rattle.std.specs.Prelude.{Option, Some, None, SomeIff, unwrap_or}
 use native.Mathlib.Numerals.{add-one}
 use native.Mathlib.Omega.{arith}
 use native.Mathlib.Nat.{div-zero}
-use lib.ListN.{length, set, replicate, drop, length-set}
+use lib.ListN.{length, set, replicate, drop}
 use lib.Ieee.{Float}
 use mir.Val.{bool_byte}
 use Rattle.turns.specs.Sums.{bit}
@@ -67,11 +67,6 @@ filled_all x n m l e =
 
 pub filled_next : {A : Type 0} (x : A) (i : ℕ) (l₀ : List A) → set (filled x i l₀) i x ≡ filled x (i + 1) l₀
 filled_next x i l₀ = rw (add-one i) (unfold filled in refl)
-
-pub filled-length : {A : Type 0} (x : A) (n : ℕ) (l : List A) → length (filled x n l) ≡ length l
-unfolding filled
-filled-length x zero l = refl
-filled-length x (suc n) l = length-set (filled x n l) n x ∙ filled-length x n l
 
 -- ---- the lists of cards
 pub joined_none : (x : Lists) (len : ℕ) → Joined (deck_of x len) x len x

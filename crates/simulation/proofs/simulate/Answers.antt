@@ -1,7 +1,5 @@
 -- A call that an entry test fails is turned away as it came; any other is set up and run.
-use mathlib.Core.Path.{sym, ap, ◌∙◌}
-use Rattle.entry.specs.declared.lists.Lengths.{Lengths}
-use Rattle.entry.specs.Entry.{inputs, check_entry}
+use mathlib.Core.Path.{sym, ◌∙◌}
 use Rattle.entry.specs.Lists.{inputs_of}
 use Rattle.simulation.specs.State.{lent_of, state}
 use Rattle.simulation.proofs.Contract.{same_check, refused_is, accepted_is}

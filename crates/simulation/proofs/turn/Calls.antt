@@ -25,7 +25,7 @@ use Rattle.days.specs.Counts.{learned_at, reviewed_at, add_event}
 use Rattle.days.specs.Sums.{cost_at, add_cost}
 use Rattle.days.specs.Due.{add_due, move_due, none_due}
 use Rattle.events.specs.declared.Memory.{Memory}
-use Rattle.queue.specs.Queue.{Queue, queue, front, front_changed, popped}
+use Rattle.queue.specs.Queue.{queue, front, front_changed, popped}
 use Rattle.intervals.specs.declared.Slot.{Slot}
 use Rattle.intervals.specs.declared.Slot.TheVariants as slot
 use Rattle.intervals.specs.Table.{Table, table}

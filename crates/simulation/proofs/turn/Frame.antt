@@ -37,7 +37,7 @@ use Rattle.intervals.specs.declared.Slot.TheVariants as slot
 use Rattle.intervals.specs.Schedule.{interval_of}
 use Rattle.entry.specs.declared.Refusal.TheVariants as refusal
 use Rattle.simulation.specs.Turn.{Stop}
-use Rattle.std.specs.Prelude.{Ok, Err}
+use Rattle.std.specs.Prelude.{Ok}
 use Rattle.simulation.specs.State.{State, Lent, card_in, key_of}
 use Rattle.simulation.specs.Model.{Model}
 use Rattle.simulation.specs.Rules.{Rules}

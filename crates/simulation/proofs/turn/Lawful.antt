@@ -36,7 +36,7 @@ use Rattle.intervals.specs.Schedule.{is_full, interval_of}
 use Rattle.events.specs.Drawn.{Drawn}
 use Rattle.entry.specs.declared.Refusal.TheVariants as refusal
 use Rattle.simulation.specs.Turn.{Stop}
-use Rattle.std.specs.Prelude.{Ok, Err}
+use Rattle.std.specs.Prelude.{Ok}
 use Rattle.simulation.specs.State.{State, card_in}
 use Rattle.simulation.specs.Turn.{refuses, turn_as, event_turn, after_put_off, after_event, event_with_slot}
 use Rattle.simulation.specs.Turn.{event_with_draw, event_on, or_else, act, turn_of_card, next}

@@ -1,5 +1,5 @@
-use mathlib.Core.Path.{◌≡◌, ap, ◌∙◌}
-use Prim.Native.Nat.{ℕ, ◌/◌}
+use mathlib.Core.Path.{◌≡◌, ◌∙◌}
+use Prim.Native.Nat.{◌/◌}
 use lib.Ieee.{of_bits, of_fields}
 use Rattle.simulation.specs.SetUp.{new_card}
 use Rattle.simulation.proofs.set_up.Loops.{quotient_is}

@@ -13,19 +13,19 @@ pub returns-in-Retire-clause-turn : goal.returns-in-Retire-clause-turn
 returns-in-Retire-clause-turn c =
     let a = c.args in
     acted_is (rules_as a.rules) (lent_of a.lists.now) a.at.queued a.at.draws c.if-at-eq0.false _ _ _ _
-    c.first_in-c.ensures c.card_in-card.ensures c.day_of-d.ensures c.choice_in.ensures
+    c.first_of-first.ensures.place c.first_of-first.ensures.card c.first_of-first.ensures.day c.choice_in.ensures
     choice.Retire c.in-Retire.is c.retire_step.ensures.step
 
 pub returns-in-PutOff-clause-turn : goal.returns-in-PutOff-clause-turn
 returns-in-PutOff-clause-turn c =
     let a = c.args in
     acted_is (rules_as a.rules) (lent_of a.lists.now) a.at.queued a.at.draws c.if-at-eq0.false _ _ _ _
-    c.first_in-c.ensures c.card_in-card.ensures c.day_of-d.ensures c.choice_in.ensures
+    c.first_of-first.ensures.place c.first_of-first.ensures.card c.first_of-first.ensures.day c.choice_in.ensures
     choice.PutOff c.in-PutOff.is c.put_off_step.ensures.step
 
 pub returns-in-Learn-clause-turn : goal.returns-in-Learn-clause-turn
 returns-in-Learn-clause-turn c =
     let a = c.args in
     event_is (rules_as a.rules) (lent_of a.lists.now) a.at.queued a.at.draws c.if-at-eq0.false _ _ _ _
-    c.first_in-c.ensures c.card_in-card.ensures c.day_of-d.ensures c.choice_in.ensures
+    c.first_of-first.ensures.place c.first_of-first.ensures.card c.first_of-first.ensures.day c.choice_in.ensures
     c.in-Learn.is c.event_step.ensures.step

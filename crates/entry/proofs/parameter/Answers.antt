@@ -1,7 +1,0 @@
-use lib.Ieee.{of_bits, of_fields, nan}
-use Rattle.std.proofs.Common.{rules}
-use Rattle.entry.proofs.parameter.Goals as goal
-
-pub returns : goal.returns
-unfolding of_bits of_fields
-returns c = search rules
