@@ -53,6 +53,8 @@ pub extern "C" fn drill_stability_short_term(w: &[f32], s: f32, r: f32, d: f32, 
     Fsrs7Runtime::new(w).stability_short_term(s, r, d, rating)
 }
 
+// C hands the state over as three numbers.
+#[tactic(auto, unfolding(crate::specs::State::state_of))]
 fn state_of(stability: f32, difficulty: f32, fast: f32) -> MemoryState
     ensures { result ≡ state_of stability difficulty fast }
 {

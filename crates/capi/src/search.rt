@@ -142,6 +142,7 @@ pub extern "C" fn drill_search_take(s: Stepper, mean: f32) -> Stepper
     brent::take_mean(s, mean)
 }
 
+#[tactic(auto, unfolding(crate::specs::Search::verdict_number))]
 fn verdict_number(verdict: Verdict) -> u32
     ensures { result ≡ verdict_number verdict }
 {

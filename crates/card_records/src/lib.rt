@@ -62,7 +62,8 @@ fn check_records(
     Ok(())
 }
 
-// A run over records; `existing` and `existing_counts` are room for the records' rows.
+// A run over records; `existing` and `existing_counts` are room for the records' rows, two lists as the core and C have
+// them.
 pub fn simulate(
     lists: &mut Lists<'_>,
     existing: &mut [[f32; 6]],

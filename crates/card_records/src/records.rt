@@ -36,7 +36,8 @@ pub(crate) fn copy(
     }
 }
 
-// The first n cards of a run as records, as many as there is room for; `n` is the answer's number of cards.
+// The first n cards of a run as records, as many as there is room for; `n` is the answer's number of cards. By place,
+// not by a zip of the range with the records: the proof knows no list that such a zip has written in part.
 pub fn read_back(cards: &[[f32; 6]], counts: &[[u32; 2]], records: &mut [Card], n: u32)
     ensures { records.new ≡ filled (card_at cards.now counts.now) n records.old }
 {

@@ -9,9 +9,9 @@ use Rattle.float32.specs.Numbers.{0ᶠ}
 use Rattle.cards.specs.declared.SimulatorConfig.{SimulatorConfig}
 use Rattle.listing.specs.declared.Settings.{Settings}
 use Rattle.listing.specs.declared.Reading.{Reading}
-use Rattle.listing.specs.declared.Verdict.{Verdict}
-use Rattle.listing.specs.declared.Verdict.TheVariants.{Read, Refused}
-use Rattle.listing.specs.Forms.{reading}
+use Rattle.std.specs.Prelude.{Result, Ok, Err}
+use Rattle.listing.specs.declared.ReadError.{ReadError}
+use Rattle.listing.specs.Forms.{reading, told}
 use Rattle.report.specs.Lines.{refused_line}
 use Rattle.report.proofs.WriteLaws.{refused-short, cheapest-short}
 use Rattle.entry.specs.Refusals.{number_of, second_of}
@@ -34,11 +34,11 @@ unfolding cheapest_search
 searched_is s g w r l eg ew k = rw (sym eg, sym ew) k.result.answer
 
 module _ (text : List ℕ) (base : Settings) (x : Reading) (b : base ≡ default_settings) (e : x ≡ reading text base) where
-  pub line_text : (line : ℕ) → x.verdict ≡ Refused line → cheapest_text text ≡ refused_line 11 line
+  pub line_text : (r : ReadError) → x.verdict ≡ Err r → cheapest_text text ≡ refused_line 11 (told r)
   unfolding cheapest_text verdict_text
-  line_text line v = rw (sym b, sym e, v)
+  line_text r v = rw (sym b, sym e, v)
 
-  pub read_text : x.verdict ≡ Read → cheapest_text text ≡ answer_text (answer_of (cheapest_search x.settings).answer)
+  pub read_text : x.verdict ≡ Ok tt → cheapest_text text ≡ answer_text (answer_of (cheapest_search x.settings).answer)
   unfolding cheapest_text verdict_text
   read_text v = rw (sym b, sym e, v)
 
@@ -48,10 +48,10 @@ unfolding answer_text
 answer_fits (said.Found x) = cheapest-short x.retention x.rounds x.mean
 answer_fits (said.Refused r) = omega (arith, refused-short (number_of r) (second_of r))
 
-verdict_fits : (v : Verdict) (s : Settings) → length (verdict_text v s) ≤ 90
+verdict_fits : (v : Result Unit ReadError) (s : Settings) → length (verdict_text v s) ≤ 90
 unfolding verdict_text
-verdict_fits (Refused line) s = omega (arith, refused-short 11 line)
-verdict_fits Read s = answer_fits (answer_of (cheapest_search s).answer)
+verdict_fits (Err e) s = omega (arith, refused-short 11 (told e))
+verdict_fits (Ok u) s = answer_fits (answer_of (cheapest_search s).answer)
 
 pub text_fits : (text : List ℕ) → length (cheapest_text text) ≤ 90
 unfolding cheapest_text

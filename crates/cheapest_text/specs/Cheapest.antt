@@ -4,9 +4,9 @@
 use Rattle.std.specs.Prelude.{ℕ, List, [], replicate, Float}
 use Rattle.float32.specs.Numbers.{0ᶠ}
 use Rattle.listing.specs.declared.Settings.{Settings}
-use Rattle.listing.specs.declared.Verdict.{Verdict}
-use Rattle.listing.specs.declared.Verdict.TheVariants.{Read, Refused}
-use Rattle.listing.specs.Forms.{reading}
+use Rattle.std.specs.Prelude.{Result, Ok, Err}
+use Rattle.listing.specs.declared.ReadError.{ReadError}
+use Rattle.listing.specs.Forms.{reading, told}
 use Rattle.report.specs.Lines.{refused_line, cheapest_line}
 use Rattle.entry.specs.declared.Refusal.{Refusal}
 use Rattle.entry.specs.Refusals.{number_of, second_of}
@@ -29,9 +29,9 @@ unfoldable pub answer_text : SearchAnswer → List ℕ
 answer_text (said.Found x) = cheapest_line x.retention x.rounds x.mean
 answer_text (said.Refused r) = refused_line (number_of r) (second_of r)
 
-unfoldable pub verdict_text : Verdict → Settings → List ℕ
-verdict_text (Refused line) s = refused_line 11 line
-verdict_text Read s = answer_text (answer_of (cheapest_search s).answer)
+unfoldable pub verdict_text : Result Unit ReadError → Settings → List ℕ
+verdict_text (Err e) s = refused_line 11 (told e)
+verdict_text (Ok u) s = answer_text (answer_of (cheapest_search s).answer)
 
 unfoldable pub cheapest_text : List ℕ → List ℕ
 cheapest_text text =

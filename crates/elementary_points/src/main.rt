@@ -3,6 +3,7 @@
 // 38 bytes: k is e, l or p, the others are bit patterns in hex.
 #![tactic(auto)]
 
+use float32::{from_bits, to_bits};
 use std::io;
 use std::io::Read;
 
@@ -17,23 +18,6 @@ fn word(hex: &[u8]) -> Option<u32> {
     u32::from_str_radix(str::from_utf8(hex).ok()?, 16).ok()
 }
 
-// The float with the pattern b, and its pattern again; every NaN is 7FC00000.
-fn float(b: u32) -> f32 {
-    if b % 0x8000_0000 <= 0x7F80_0000 {
-        f32::from_bits(b)
-    } else {
-        f32::NAN
-    }
-}
-
-fn pattern(x: f32) -> u32 {
-    if x.is_nan() {
-        0x7FC0_0000
-    } else {
-        f32::to_bits(x)
-    }
-}
-
 fn result(k: u8, x: f32, y: f32) -> f32 {
     match k {
         b'e' => elementary::exp_f32(x),
@@ -44,11 +28,11 @@ fn result(k: u8, x: f32, y: f32) -> f32 {
 
 // Whether the result lies within what the line accepts; None where the line can't be read.
 fn is_within(line: &[u8; 38]) -> Option<bool> {
-    let x = float(word(&line[2..10])?);
-    let y = float(word(&line[11..19])?);
+    let x = from_bits(word(&line[2..10])?);
+    let y = from_bits(word(&line[11..19])?);
     let least = word(&line[20..28])?;
     let most = word(&line[29..37])?;
-    let bits = pattern(result(line[0], x, y));
+    let bits = to_bits(result(line[0], x, y));
     Some(least <= bits && bits <= most)
 }
 

@@ -11,7 +11,7 @@ use lib.Ieee.{Float, binary32, of_bits}
 use borrow.Author.Tests.{ltb-false}
 use Rattle.cards.specs.declared.SimulatorConfig.{SimulatorConfig}
 use Rattle.listing.specs.declared.Settings.{Settings}
-use Rattle.simulation.specs.declared.Answer.{Answer}
+use Rattle.simulation.specs.Simulate.{Answer}
 use Rattle.simulation.specs.State.{Lent, state}
 use Rattle.entry.specs.Entry.{inputs}
 use Rattle.simulation.specs.Demands.{RunContract}

@@ -18,13 +18,10 @@ use Rattle.report.specs.Rows.{day_lines}
 use Rattle.report.proofs.WriteLaws.{forecast-short, refused-short}
 use Rattle.report.proofs.RowLaws.{days_short}
 use Rattle.entry.specs.declared.Refusal.{Refusal}
-use Rattle.entry.specs.declared.Check.TheVariants as check
-use Rattle.simulation.specs.declared.Answer.{Answer}
-use Rattle.simulation.specs.declared.Answer.TheVariants as answer
 use Rattle.entry.specs.Refusals.{number_of, second_of}
 use Rattle.entry.specs.Entry.{most_cards, most_days, first_where, lengths_ok, check_first, check_settings}
 use Rattle.simulation.specs.Checked.{lists_ok, checked}
-use Rattle.simulation.specs.Simulate.{simulated_by}
+use Rattle.simulation.specs.Simulate.{Answer, simulated_by}
 use Rattle.forecast_text.specs.Settings.{most_deck, most_span, within, config_of, inputs_of, default_settings}
 use Rattle.forecast_text.specs.Forecast.{lists, lent_lists, run_with, forecast_run, room, answer_text, run_text}
 use Rattle.forecast_text.specs.Forecast.{verdict_text, forecast_text}
@@ -69,7 +66,7 @@ entry_is s =
       le-ltb (within most_deck s.deck) 0 (omega arith),
     )
 
-entry-refused : (s : Settings) (r : Refusal) → entry_of s ≡ check.Failed r
+entry-refused : (s : Settings) (r : Refusal) → entry_of s ≡ Err r
     → run_text s ≡ refused_line (number_of r) (second_of r)
 unfolding run_text forecast_run run_with simulated_by answer_text
 entry-refused s r e = rw (entry_is s, e)
@@ -80,15 +77,15 @@ answer_fits : (span : ℕ) (a : Option Answer) (days : List (List ℕ)) (costs m
     → length (answer_text span a days costs memorized) ≤ room
 unfolding answer_text
 answer_fits span none days costs memorized h = omega arith
-answer_fits span (some (answer.Finished p)) days costs memorized h =
+answer_fits span (some (Ok p)) days costs memorized h =
     omega (
       arith,
       length-append (forecast_line span p.turns p.cards) (day_lines days costs memorized 0 span),
       forecast-short span p.turns p.cards,
       days_short days costs memorized span 0,
     )
-answer_fits span (some (answer.Refused r p)) days costs memorized h =
-    omega (arith, refused-short (number_of r) (second_of r))
+answer_fits span (some (Err x)) days costs memorized h =
+    omega (arith, refused-short (number_of x.refusal) (second_of x.refusal))
 
 verdict_fits : (v : Result Unit ReadError) (s : Settings) → length (verdict_text v s) ≤ room
 unfolding verdict_text run_text config_of

@@ -23,10 +23,9 @@ use Rattle.listing.specs.declared.Settings.{Settings}
 use Rattle.listing.specs.declared.Reading.{Reading}
 use Rattle.listing.specs.declared.ReadError.{ReadError}
 use Rattle.listing.specs.Forms.{reading, told}
-use Rattle.simulation.specs.declared.Answer.{Answer}
-use Rattle.simulation.specs.declared.Answer.TheVariants as answer
+use Rattle.simulation.specs.Simulate.{Answer}
+use Rattle.simulation.specs.declared.Refused.{Refused}
 use Rattle.simulation.specs.declared.Progress.{Progress}
-use Rattle.entry.specs.declared.Refusal.{Refusal}
 use Rattle.entry.specs.Refusals.{number_of, second_of}
 use Rattle.forecast_text.specs.Settings.{most_span, within, default_settings, config_of}
 use Rattle.forecast_text.specs.Forecast.{room, Printed, RunDays, forecast_run, answer_text, run_text, verdict_text}
@@ -104,16 +103,16 @@ module _ (out : List ℕ) (days : List (List ℕ)) (costs memorized : List Float
 
 module _ (s : Settings) (a : Answer) (days : List (List ℕ)) (costs memorized : List Float)
     (run : RunDays (forecast_run s) a days costs memorized) where
-  pub finished_text : (p : Progress) (span : ℕ) → a ≡ answer.Finished p → span ≡ within most_span s.span
+  pub finished_text : (p : Progress) (span : ℕ) → a ≡ Ok p → span ≡ within most_span s.span
       → run_text s ≡ forecast_line span p.turns p.cards ++ day_lines days costs memorized 0 span
   unfolding run_text answer_text config_of
   finished_text p span e f =
       rw (run.answer_is, e, sym run.days_are, sym run.costs_are, sym run.memorized_are, sym f)
 
-  pub refused_text : (r : Refusal) (p : Progress) → a ≡ answer.Refused r p
-      → run_text s ≡ refused_line (number_of r) (second_of r)
+  pub refused_text : (x : Refused) → a ≡ Err x
+      → run_text s ≡ refused_line (number_of x.refusal) (second_of x.refusal)
   unfolding run_text answer_text
-  refused_text r p e = rw (run.answer_is, e)
+  refused_text x e = rw (run.answer_is, e)
 
 -- ---- what is printed of a text
 

@@ -14,11 +14,9 @@ use Rattle.listing.specs.declared.ReadError.{ReadError}
 use Rattle.listing.specs.Forms.{reading, told}
 use Rattle.report.specs.Lines.{forecast_line, refused_line}
 use Rattle.report.specs.Rows.{day_lines}
-use Rattle.simulation.specs.declared.Answer.{Answer}
-use Rattle.simulation.specs.declared.Answer.TheVariants as answer
 use Rattle.entry.specs.Refusals.{number_of, second_of}
 use Rattle.simulation.specs.State.{State, Lent, lent, state}
-use Rattle.simulation.specs.Simulate.{Result, simulated}
+use Rattle.simulation.specs.Simulate.{Answer, Outcome, simulated}
 use Rattle.forecast_text.specs.Settings.{most_deck, most_span, default_settings, config_of, inputs_of}
 
 -- the length of the interval table
@@ -32,7 +30,7 @@ lists days costs memorized =
     days costs memorized (replicate 1095 0) (replicate places (replicate 2 0)) (replicate places 0ᶠ)
 
 -- the run of settings, with these lists of days
-unfoldable pub run_with : List (List ℕ) → List Float → List Float → Settings → Result Float
+unfoldable pub run_with : List (List ℕ) → List Float → List Float → Settings → Outcome Float
 run_with days costs memorized s = simulated (inputs_of s) (state (lists days costs memorized) 0 s.seed)
 
 -- the program's own lists of days
@@ -40,19 +38,19 @@ abbrev pub lent_lists : Settings → State Float
 lent_lists s =
     state (lists (replicate most_span (replicate 4 0)) (replicate most_span 0ᶠ) (replicate most_span 0ᶠ)) 0 s.seed
 
-unfoldable pub forecast_run : Settings → Result Float
+unfoldable pub forecast_run : Settings → Outcome Float
 forecast_run = run_with (replicate most_span (replicate 4 0)) (replicate most_span 0ᶠ) (replicate most_span 0ᶠ)
 
 -- P11: a run that ended by its first line and a line a day, or its refusal; every run has an answer
 unfoldable pub answer_text : ℕ → Option Answer → List (List ℕ) → List Float → List Float → List ℕ
 answer_text span none days costs memorized = []
-answer_text span (some (answer.Finished p)) days costs memorized =
+answer_text span (some (Ok p)) days costs memorized =
     forecast_line span p.turns p.cards ++ day_lines days costs memorized 0 span
-answer_text span (some (answer.Refused r p)) days costs memorized = refused_line (number_of r) (second_of r)
+answer_text span (some (Err x)) days costs memorized = refused_line (number_of x.refusal) (second_of x.refusal)
 
 unfoldable pub run_text : Settings → List ℕ
 run_text s =
-    let r : Result Float = forecast_run s in
+    let r : Outcome Float = forecast_run s in
     answer_text (config_of s).learn_span r.answer r.state.days r.state.costs r.state.memorized
 
 -- 11 first, with its line; then the refusals of the run, in their order, and what it gives
@@ -66,7 +64,7 @@ forecast_text text =
     verdict_text r.verdict r.settings
 
 -- what the code has of a run: its answer and its days
-pub record RunDays (x : Result Float) (r : Answer) (days : List (List ℕ)) (costs memorized : List Float) : Type 0 where
+pub record RunDays (x : Outcome Float) (r : Answer) (days : List (List ℕ)) (costs memorized : List Float) : Type 0 where
   pub answer_is : x.answer ≡ some r
   pub days_are : days ≡ x.state.days
   pub costs_are : costs ≡ x.state.costs

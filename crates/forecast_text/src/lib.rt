@@ -8,44 +8,45 @@ ghost use Rattle.forecast_text.specs.Settings.{most_span};
 ghost use Rattle.forecast_text.specs.Forecast.{RunDays, Printed, run_with, room, run_text};
 ghost use Rattle.forecast_text.specs.Forecast.{forecast_text, printed, left};
 
-use entry::refusals;
+use entry::{Learner, Lists, refusals};
 use listing::Settings;
-use simulation::Answer;
+use simulation::{Progress, Refused};
 
 pub mod settings;
 
 // The run of settings, its days in the lent lists.
-fn run(days: &mut [[u32; 4]], costs: &mut [f32], memorized: &mut [f32], set: Settings) -> Answer
+fn run(
+    days: &mut [[u32; 4]],
+    costs: &mut [f32],
+    memorized: &mut [f32],
+    set: Settings,
+) -> Result<Progress, Refused>
     ensures { RunDays (run_with days.old costs.old memorized.old set) result
         days.new costs.new memorized.new }
 {
-    let mut cards = [[0.0; 6]; 512];
-    let mut counts = [[0; 2]; 512];
-    let mut rows = [[0; 2]; 512];
-    let mut due = [0; 1095];
-    let mut keys = [[0; 2]; 4096];
-    let mut intervals = [0.0; 4096];
-    let parameters = settings::floats_of(&set.parameters);
-    let n = settings::parameter_count(set);
-    let config = settings::config_of(set);
-    let retention = float32::from_bits(set.retention);
-    simulation::simulate(
-        &mut cards,
-        &mut counts,
-        &mut rows,
+    let mut lists = Lists {
+        cards: &mut [[0.0; 6]; 512],
+        counts: &mut [[0; 2]; 512],
+        rows: &mut [[0; 2]; 512],
         days,
         costs,
         memorized,
-        &mut due,
-        &mut keys,
-        &mut intervals,
-        &parameters[..n],
-        &[],
-        &[],
-        config,
-        retention,
-        set.seed,
-    )
+        due: &mut [0; 1095],
+        keys: &mut [[0; 2]; 4096],
+        intervals: &mut [0.0; 4096],
+    };
+    let parameters = settings::floats_of(&set.parameters);
+    let learner = Learner {
+        parameters: &parameters[..settings::parameter_count(set)],
+        existing: &[],
+        existing_counts: &[],
+    };
+    let settings = entry::Settings {
+        config: settings::config_of(set),
+        retention: float32::from_bits(set.retention),
+        seed: set.seed,
+    };
+    simulation::simulate(&mut lists, learner, settings)
 }
 
 // A run that ended Ok: its first line, and a line a day.
@@ -81,9 +82,11 @@ fn forecast_settings(out: &mut [u8], set: Settings) -> Option<usize>
     let answer = run(&mut days, &mut costs, &mut memorized, set);
     let span = settings::span_of(set);
     match answer {
-        Answer::Finished(p) => write_run(out, &days, &costs, &memorized, span, p.turns, p.cards),
-        Answer::Refused(r, _) => {
-            report::write_refused(out, 0, refusals::number_of(r), refusals::second_of(r))
+        Ok(p) => write_run(out, &days, &costs, &memorized, span, p.turns, p.cards),
+        Err(refused) => {
+            let number = refusals::number_of(refused.refusal);
+            let second = refusals::second_of(refused.refusal);
+            report::write_refused(out, 0, number, second)
         }
     }
 }

@@ -51,6 +51,7 @@ fn card(stability: f32, last_date: f32, due: f32, lapses: u32) -> Card {
 }
 
 // The lists of a run.
+#[derive(Drop)]
 struct Memory {
     cards: [[f32; 6]; 8],
     counts: [[u32; 2]; 8],

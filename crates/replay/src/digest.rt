@@ -6,6 +6,7 @@ use crate::answers::{drawn, join};
 use entry::Lists;
 use float32::to_bits;
 
+#[derive(Clone, Copy)]
 pub struct Digests {
     pub cards: u32,
     pub days: u32,

@@ -16,6 +16,7 @@ use cards::SimulatorConfig;
 use entry::{Learner, Settings};
 use float32::from_bits;
 
+#[derive(Drop)]
 pub struct Inputs {
     pub numbers: [u32; 8],
     pub settings: [f32; 46],

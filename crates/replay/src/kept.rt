@@ -5,6 +5,7 @@ use float32::from_bits;
 use model::Fsrs7Runtime;
 use queue::CardPriorityQueue;
 
+#[derive(Drop)]
 pub struct Kept {
     pub parameters: [f32; 40],
     pub rows: [[u64; 2]; 16],

@@ -44,7 +44,7 @@ fn day(rt: &impl Print, counts: [u32; 4], cost: f32, memorized: f32) -> io::Resu
 // The first `span` days.
 pub fn rows(rt: &impl Print, lists: &Lists<'_>, span: u32) -> io::Result<()> {
     let days = first(lists.days, span);
-    for ((counts, cost), memorized) in days.iter().zip(lists.costs).zip(lists.memorized) {
+    for ((counts, cost), memorized) in days.iter().zip(&*lists.costs).zip(&*lists.memorized) {
         day(rt, *counts, *cost, *memorized)?;
     }
     Ok(())

@@ -10,7 +10,7 @@ fn hex_byte(d: u8) -> u8
     if d < 10 { b'0' + d } else { b'A' + (d - 10) }
 }
 
-// W.
+// W. Not `write!` with {:08X}: std does not say when it succeeds, and a line cannot fail.
 pub(crate) fn hex_of(n: u32) -> [u8; 8]
     ensures { result ≡ hex n }
 {

@@ -82,7 +82,7 @@ fn search(
     ensures same { SameLists lists.old lists.new }
 {
     let mut stepper = brent::start(rounds);
-    for made in 0..rounds + 1 {
+    for _ in 0..rounds + 1 {
         let Some(retention) = brent::next_retention(stepper) else {
             return ended(stepper);
         };

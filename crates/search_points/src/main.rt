@@ -46,13 +46,15 @@ fn config(deck_size: u32, learn_span: u32, learn_limit: u32) -> SimulatorConfig 
 // The retention, its mean, the rounds, and of the last run made the cost of its first day and what it memorized then;
 // or the refusal's numbers.
 fn search(rt: &impl Print, config: SimulatorConfig, rounds: u32) -> io::Result<()> {
+    let mut costs = [0.0; 40];
+    let mut memorized = [0.0; 40];
     let mut lists = Lists {
         cards: &mut [[0.0; 6]; 20],
         counts: &mut [[0; 2]; 20],
         rows: &mut [[0; 2]; 20],
         days: &mut [[0; 4]; 40],
-        costs: &mut [0.0; 40],
-        memorized: &mut [0.0; 40],
+        costs: &mut costs,
+        memorized: &mut memorized,
         due: &mut [0; 60],
         keys: &mut [[0; 2]; 4096],
         intervals: &mut [0.0; 4096],
@@ -66,7 +68,7 @@ fn search(rt: &impl Print, config: SimulatorConfig, rounds: u32) -> io::Result<(
     match answer {
         Ok(x) => {
             print!(rt; "found {:08x} {:08x} {}", to_bits(x.retention), to_bits(x.mean), x.rounds)?;
-            println!(rt; " {:08x} {:08x}", to_bits(lists.costs[0]), to_bits(lists.memorized[0]))
+            println!(rt; " {:08x} {:08x}", to_bits(costs[0]), to_bits(memorized[0]))
         }
         Err(_) => {
             let number = retention::number_of(answer);

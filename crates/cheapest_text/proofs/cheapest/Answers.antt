@@ -2,14 +2,14 @@ use mathlib.Core.Path.{sym}
 use Rattle.cheapest_text.proofs.Texts.{line_text, read_text}
 use Rattle.cheapest_text.proofs.cheapest.Goals as goal
 
-pub returns-in-Refused : goal.returns-in-Refused
-returns-in-Refused c =
+pub returns-in-Err : goal.returns-in-Err
+returns-in-Err c =
     let text = line_text c.args.text.now _ _ c.default_settings.ensures
-    c.read-reading.ensures c.in-Refused.line c.in-Refused.is in
-    rw text c.write_refused.ensures
+    c.read-reading.ensures c.in-Err.e c.in-Err.is in
+    rw (text, sym c.told.ensures) c.write_refused.ensures
 
-pub returns-in-Read : goal.returns-in-Read
-returns-in-Read c =
+pub returns-in-Ok : goal.returns-in-Ok
+returns-in-Ok c =
     let text = read_text c.args.text.now _ _ c.default_settings.ensures
-    c.read-reading.ensures c.in-Read.is in
+    c.read-reading.ensures c.in-Ok.is in
     rw (text, sym c.search.ensures) c.write_answer.ensures

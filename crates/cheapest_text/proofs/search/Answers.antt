@@ -17,26 +17,26 @@ slice_bounds-parameters-end c =
       arith,
       few_parameters (get_or c.args.set.seen 0 false) c.parameter_count-n.result
           c.parameter_count-n.ensures,
-      c.floats_of_34-parameters.ensures.0,
+      c.floats_of-parameters.ensures.0,
     )
 
 pub slice_bounds-optimal_retention-end-10 : goal.slice_bounds-optimal_retention-end-10
 slice_bounds-optimal_retention-end-10 c =
-    sym (length-take-le c.parameter_count-n.result c.floats_of_34-parameters.result
+    sym (length-take-le c.parameter_count-n.result c.floats_of-parameters.result
     (omega (
       arith,
       few_parameters (get_or c.args.set.seen 0 false) c.parameter_count-n.result
           c.parameter_count-n.ensures,
-      c.floats_of_34-parameters.ensures.0,
+      c.floats_of-parameters.ensures.0,
     )))
 
 pub returns : goal.returns
 unfolding lists parameters_of
 returns c =
     let a = c.args in
-    let w = c.floats_of_34-parameters.ensures in
+    let w = c.floats_of-parameters.ensures in
     let e = first_parameters (get_or a.set.seen 0 false) c.parameter_count-n.result
-    c.floats_of_34-parameters.result
+    c.floats_of-parameters.result
     c.parameter_count-n.ensures w.0
     ∙ ap (λ (ws : List Float). cond (get_or a.set.seen 0 false) ws []) w.1 in
     searched_is a.set _ _ _ _ c.config_of-config.ensures e c.optimal_retention.ensures

@@ -19,25 +19,25 @@ write_run-requires c =
       ),
     )
 
-pub returns-in-Finished : goal.returns-in-Finished
+pub returns-in-Ok : goal.returns-in-Ok
 unfolding forecast_run
-returns-in-Finished c =
+returns-in-Ok c =
     let text = finished_text c.args.set c.run-answer.result c.run-answer.new.days c.run-answer.new.costs
     c.run-answer.new.memorized c.run-answer.ensures
-    c.in-Finished.p c.span_of-span.result c.in-Finished.is
+    c.in-Ok.p c.span_of-span.result c.in-Ok.is
     c.span_of-span.ensures in
     rw text c.write_run.ensures
 
-pub returns-in-Refused : goal.returns-in-Refused
+pub returns-in-Err : goal.returns-in-Err
 unfolding forecast_run
-returns-in-Refused c =
+returns-in-Err c =
     let a = c.args in
     let text = refused_text a.set c.run-answer.result c.run-answer.new.days c.run-answer.new.costs
     c.run-answer.new.memorized c.run-answer.ensures
-    c.in-Refused.r c.in-Refused.field-1 c.in-Refused.is in
+    c.in-Err.refused c.in-Err.is in
     rw text (refused-printed a.out.now _ _ c.write_refused.result
     c.write_refused.new.out c.requires
-    (rw (c.number_of.ensures, c.second_of.ensures) at
+    (rw (c.number_of-number.ensures, c.second_of-second.ensures) at
     c.write_refused.ensures.0)
-    (rw (c.number_of.ensures, c.second_of.ensures) at
+    (rw (c.number_of-number.ensures, c.second_of-second.ensures) at
     c.write_refused.ensures.1))

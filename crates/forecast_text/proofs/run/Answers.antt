@@ -10,31 +10,6 @@ use Rattle.forecast_text.specs.Forecast.{lists}
 use Rattle.forecast_text.proofs.Call.{run_days, first_parameters, few_parameters}
 use Rattle.forecast_text.proofs.run.Goals as goal
 
-pub slice_bounds-parameters-end : goal.slice_bounds-parameters-end
-slice_bounds-parameters-end c =
-    omega (
-      arith,
-      few_parameters (get_or c.args.set.seen 0 false) c.parameter_count-n.result c.parameter_count-n.ensures,
-      c.floats_of-parameters.ensures.0,
-    )
-
-pub slice_bounds-simulate-end-7 : goal.slice_bounds-simulate-end-7
-slice_bounds-simulate-end-7 c =
-    sym (length-take-le c.parameter_count-n.result c.floats_of-parameters.result
-    (omega (
-      arith,
-      few_parameters (get_or c.args.set.seen 0 false) c.parameter_count-n.result
-          c.parameter_count-n.ensures,
-      c.floats_of-parameters.ensures.0,
-    )))
-
 pub returns : goal.returns
 unfolding lists parameters_of
-returns c =
-    let a = c.args in
-    let w = c.floats_of-parameters.ensures in
-    let e = first_parameters (get_or a.set.seen 0 false) c.parameter_count-n.result
-    c.floats_of-parameters.result c.parameter_count-n.ensures w.0
-    ∙ ap (λ (ws : List Float). cond (get_or a.set.seen 0 false) ws []) w.1 in
-    run_days a.set a.days.now a.costs.now a.memorized.now _ _ _ _ _
-    c.config_of-config.ensures e c.from_bits-retention.ensures c.simulate.ensures
+returns c = ?

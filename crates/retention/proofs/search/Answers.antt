@@ -6,8 +6,8 @@ use Rattle.retention.specs.Trials.{search_of}
 use Rattle.retention.proofs.Rounds.{trying_start, trying_on, trying_ends, trying_stops, trying_spent}
 use Rattle.retention.proofs.search.Goals as goal
 
-pub loop-made-init : goal.loop-made-init
-loop-made-init c =
+pub loop-init : goal.loop-init
+loop-init c =
     let a = c.args in
     record {
       trying = trying_start (search_of a.learner a.config) a.rounds (lent_of a.lists.now) c.start-stepper.result
@@ -18,23 +18,23 @@ loop-made-init c =
 pub returns-in_default-clause-searched : goal.returns-in_default-clause-searched
 returns-in_default-clause-searched c =
     let a = c.args in
-    trying_ends (search_of a.learner a.config) a.rounds (lent_of a.lists.now) c.loop-made.invariant.trying
-    (omega (arith, c.loop-made-test.true)) c.next_retention.ensures c.in_default.is c.ended.ensures
+    trying_ends (search_of a.learner a.config) a.rounds (lent_of a.lists.now) c.loop.invariant.trying
+    (omega (arith, c.loop-test.true)) c.next_retention.ensures c.in_default.is c.ended.ensures
 
 pub returns-in_err-mean-clause-searched : goal.returns-in_err-mean-clause-searched
 returns-in_err-mean-clause-searched c =
     let a = c.args in
     let p = err_from_is_err_and c.from_residual.result c.from_residual.ensures.1 in
     rw (p.1, p.2) (trying_stops (search_of a.learner a.config) a.rounds (lent_of a.lists.now)
-    c.loop-made.invariant.trying (omega (arith, c.loop-made-test.true)) c.next_retention.ensures c.in-Some.is
+    c.loop.invariant.trying (omega (arith, c.loop-test.true)) c.next_retention.ensures c.in-Some.is
     c.sample.ensures.trial _ c.in_err-mean.was)
 
-pub loop-made-preserved : goal.loop-made-preserved
-loop-made-preserved c =
+pub loop-preserved : goal.loop-preserved
+loop-preserved c =
     let a = c.args in
     record {
-      trying = trying_on (search_of a.learner a.config) a.rounds (lent_of a.lists.now) c.loop-made.invariant.trying
-          (omega (arith, c.loop-made-test.true)) c.next_retention.ensures c.in-Some.is c.sample.ensures.trial _
+      trying = trying_on (search_of a.learner a.config) a.rounds (lent_of a.lists.now) c.loop.invariant.trying
+          (omega (arith, c.loop-test.true)) c.next_retention.ensures c.in-Some.is c.sample.ensures.trial _
           c.in_ok-mean.was c.take_mean-stepper.ensures;
       same = search rules;
     }
@@ -42,5 +42,5 @@ loop-made-preserved c =
 pub returns-clause-searched : goal.returns-clause-searched
 returns-clause-searched c =
     let a = c.args in
-    trying_spent (search_of a.learner a.config) a.rounds (lent_of a.lists.now) c.loop-made.invariant.trying
-    (omega (arith, c.loop-made-test.false)) c.ended-2.ensures
+    trying_spent (search_of a.learner a.config) a.rounds (lent_of a.lists.now) c.loop.invariant.trying
+    (omega (arith, c.loop-test.false)) c.ended-2.ensures

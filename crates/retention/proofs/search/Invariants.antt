@@ -6,8 +6,8 @@ use Rattle.retention.specs.Trials.{search_of}
 use Rattle.retention.proofs.Rounds.{Trying}
 use Rattle.retention.proofs.search.Given as goal
 
-abbrev pub invariant-loop-made : goal.invariant-loop-made
-invariant-loop-made l = record {
-  trying : Trying (search_of l.learner l.config) l.rounds (lent_of l.initial.lists) (lent_of l.lists) l.stepper l.made;
+abbrev pub invariant-loop : goal.invariant-loop
+invariant-loop l = record {
+  trying : Trying (search_of l.learner l.config) l.rounds (lent_of l.initial.lists) (lent_of l.lists) l.stepper l.counter;
   same : SameLists l.initial.lists l.lists;
 }

@@ -1,7 +1,0 @@
--- `float`: a pattern up to the infinity's is no NaN's.
-use Rattle.std.proofs.Common.{rules}
-use Rattle.std.proofs.lemmas.Float.{not_nan_f32_bits}
-use Rattle.elementary_points.proofs.float.Goals as goal
-
-pub float_from_bits-result : goal.float_from_bits-result
-float_from_bits-result c = not_nan_f32_bits _ (search rules)
