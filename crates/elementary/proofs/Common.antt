@@ -6,7 +6,7 @@
 --   infinity_is, minus_infinity_is, zero_is   the patterns of the infinities and of 0
 --   sign_is, fraction_is                      the sign and the fraction of a float that is ± u / c
 use mathlib.Core.Path.{◌≡◌, refl, sym, ap, subst, ◌∙◌}
-use mathlib.Core.Bool.{Bool, true, false, not}
+use mathlib.Core.Bool.{Bool, true, false, not, true≢false}
 use Prim.Native.Nat.{ℕ, ◌*◌, ◌%◌, ◌^◌, ◌≤◌, ◌<◌}
 use native.Mathlib.Omega.{arith}
 use lib.Dec.{T, ltb, ltb→lt, nltb→le, not_T}
@@ -89,3 +89,13 @@ pub fraction_is : (x : Float) (s : Bool) (u c : ℕ) → HasValue x s u c → nu
 fraction_is nan s u c h = absurd h
 fraction_is (inf t) s u c h = absurd h
 fraction_is (fin t m e) s u c h = h.1
+
+-- by the library's test
+pub nan_is : (x : Float) (b : Bool) → b ≡ is_nan x → b ≡ true → x ≡ nan
+unfolding is_nan
+nan_is nan b e h = refl
+nan_is (inf s) b e h = absurd (true≢false (sym h ∙ e))
+nan_is (fin s m k) b e h = absurd (true≢false (sym h ∙ e))
+
+pub number_is : (x : Float) (b : Bool) → b ≡ is_nan x → b ≡ false → T (not (is_nan x))
+number_is x b e h = rw (sym e ∙ h) tt

@@ -122,12 +122,8 @@ fn large_arg(x: u64, c: u32) -> u64
     ensures { result ≡ large_arg x c }
 {
     if x < QUARTER {
-        if c < 0x80000000 {
-            return ARG_LEAST;
-        }
-        return ARG_MOST;
-    }
-    if x < FOUR {
+        if c < 0x80000000 { ARG_LEAST } else { ARG_MOST }
+    } else if x < FOUR {
         fine_arg(fine_log2(x), c)
     } else if c < 0x80000000 {
         ARG_MOST
