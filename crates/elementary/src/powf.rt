@@ -124,7 +124,11 @@ fn of_nan(x: f32, y: f32) -> f32
     ensures { result ≡ pow_of x y }
 {
     if y.is_nan() {
-        return if !x.is_nan() && x.to_bits() == 0x3F800000 { 1.0 } else { y };
+        return if !x.is_nan() && x.to_bits() == 0x3F800000 {
+            1.0
+        } else {
+            y
+        };
     }
     let zero = y.to_bits() % 0x80000000 == 0;
     if zero { 1.0 } else { x }

@@ -1,4 +1,4 @@
-use Rattle.std.proofs.Common.{◌≤◌, ◌^◌, ap, ◌∙◌, le_trans, le_of_eq, arith}
+use Rattle.std.proofs.Common.{ap, ◌∙◌, le_trans, le_of_eq, arith}
 use lib.Ieee.{binary32, of_bits}
 use Rattle.elementary.proofs.power.Steps.{log_most, arg_quick, pow_quick}
 use Rattle.elementary.proofs.power.quick_pow.Goals as goal
