@@ -2,7 +2,7 @@
 ghost use Rattle.std.specs.Prelude.{◌≡◌, ◌+◌, ◌*◌, ◌/◌, ◌%◌, ◌^◌, ◌<◌, ◌≤◌, from_bits};
 ghost use Rattle.std.specs.Float.{binary32};
 ghost use Rattle.power_tables.specs.Tables.{line_word, curvature};
-ghost use Rattle.elementary.specs.Power.{exp2_bits, fine_log2_at, fine_log2, fine_arg, large_arg, large_bits};
+ghost use Rattle.elementary.specs.Power.{fine_log2_at, fine_log2, fine_arg, large_arg, large_bits};
 ghost use Rattle.elementary.specs.Power as Power;
 
 use power_tables::Interval;

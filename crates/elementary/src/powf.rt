@@ -3,7 +3,7 @@ ghost use Rattle.std.specs.Prelude.{◌≡◌, ◌%◌, ◌^◌, ◌<◌, ◌≤
 ghost use Rattle.std.specs.Float.{nan};
 ghost use Rattle.elementary.specs.Pow.{is_odd, zero_size, zero_bits, inf_bits, to_inf_bits, num_bits, pow_at, pow_of};
 ghost use Rattle.elementary.specs.Accuracy.{IsPow};
-ghost use Rattle.elementary.specs.Quick.{Near, Quick, Special};
+ghost use Rattle.elementary.specs.Quick.{Near, Special};
 
 // Whether |y| with the bit pattern a is an odd whole number.
 fn is_odd(a: u32) -> bool
