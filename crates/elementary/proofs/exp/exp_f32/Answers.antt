@@ -17,9 +17,6 @@ returns-then-is_nan c =
     let v : x ≡ exp_of x = e ∙ sym (ap exp_of e ∙ of_nan nan (unfold is_nan in tt)) in
     record { value = v; bound = law x x (subst T (sym c.well_formed.0.1) tt) v }
 
-pub float_to_bits-x : goal.float_to_bits-x
-float_to_bits-x c = number_is c.args.x _ c.is_nan.ensures.value c.if-is_nan.false
-
 pub returns-else-is_nan : goal.returns-else-is_nan
 returns-else-is_nan c =
     let x = c.args.x in

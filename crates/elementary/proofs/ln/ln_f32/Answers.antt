@@ -54,9 +54,6 @@ returns-then-is_nan c =
     let v : x ≡ ln_of x = e ∙ sym (ap ln_of e ∙ of_nan nan (unfold is_nan in tt)) in
     record { value = v; bound = law x x (subst T (sym c.well_formed.0.1) tt) v }
 
-pub float_to_bits-b : goal.float_to_bits-b
-float_to_bits-b c = number_is c.args.x _ c.is_nan.ensures.value c.if-is_nan.false
-
 pub float_from_bits-result : goal.float_from_bits-result
 float_from_bits-result c = no_nan_bits 4286578688 (lit≤ tt)
 
@@ -67,12 +64,6 @@ returns-then-b-eq0 c =
     let v : r ≡ ln_of x = at_pattern x r (number_is x _ c.is_nan.ensures.value c.if-is_nan.false)
     (minus_infinity ∙ sym (at_zero (to_bits binary32 x) (ap (λ (n : ℕ). n % 2 ^ 31) c.if-b-eq0.true))) in
     record { value = v; bound = law x r (subst T (sym c.well_formed.0.1) tt) v }
-
-pub exponent_of-requires : goal.exponent_of-requires
-exponent_of-requires c = (pos_of_ne-zero c.if-b-eq0.false, c.if-b-lt2139095040.true)
-
-pub significand_of-requires : goal.significand_of-requires
-significand_of-requires c = (pos_of_ne-zero c.if-b-eq0.false, c.if-b-lt2139095040.true)
 
 pub ln_wide-requires : goal.ln_wide-requires
 ln_wide-requires c = range_of (pos_of_ne-zero c.if-b-eq0.false) c.if-b-lt2139095040.true

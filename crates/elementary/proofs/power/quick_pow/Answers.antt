@@ -12,9 +12,6 @@ quick_arg-z-requires c =
       omega (arith, q.y_low, q.y_high),
     )
 
-pub normal_of-requires : goal.normal_of-requires
-normal_of-requires c = omega (arith, c.quick_arg-z.ensures)
-
 pub returns : goal.returns
 returns c =
     let q = c.requires in

@@ -19,16 +19,6 @@ returns-then-b-gt2147483648 c =
     zero_by_zero ∙ sym (at-below c.args.b c.args.c c.if-c-eq0.false c.if-b-eq1065353216.false
     c.if-b-gt2147483648.true)
 
-pub special_bits-requires : goal.special_bits-requires
-special_bits-requires c =
-    let p = c.requires in (
-      c.if-b-gt2147483648.false,
-      p.x_number,
-      p.y_number,
-      λ l h. p.infinite l h c.if-b-eq1065353216.false
-          c.if-c-eq0.false,
-    )
-
 pub float_from_bits-result : goal.float_from_bits-result
 float_from_bits-result c =
     no_nan_bits c.special_bits.result (subst (λ (i : ℕ). i % 2 ^ 31 ≤ 0x7F800000)
