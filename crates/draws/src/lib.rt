@@ -1,8 +1,7 @@
 // The draws of a run: SplitMix64, a rating by weights, and a recall.
 #![tactic(auto, unfolding(crate::specs::Draws::advance, crate::specs::Draws::mix, crate::specs::Draws::xor_shift, crate::specs::Draws::word, crate::specs::Draws::recalled))]
 
-ghost use Rattle.std.specs.Prelude.{◌≡◌, ◌*◌, ◌%◌, ◌^◌, ◌<◌, if◌then◌else◌};
-ghost use Rattle.std.specs.Float.Ieee.{lt};
+ghost use Rattle.std.specs.Prelude.{◌≡◌, ◌<◌};
 ghost use Rattle.float32.specs.Numbers.{0ᶠ};
 ghost use Rattle.draws.specs.Draws as Draws;
 

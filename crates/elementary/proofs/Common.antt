@@ -1,41 +1,29 @@
 -- What the proofs of more than one function use: NaN and its patterns, and the fraction of a float.
---   is_nan_lem, is_number                         what passes the test x != x is NaN, and what fails it is a number
---   equals_itself, unequal                    what passes the test x == x is a number, and what fails it is NaN
+--   nan_is, number_is                         by the library's test: a NaN is NaN, and the rest are numbers
 --   number_of-bits, bits_of_number            numbers are the patterns up to the infinity's, but for the sign
 --   no_nan_bits, below_nan                    such a pattern is no NaN's
 --   infinity_is, minus_infinity_is, zero_is   the patterns of the infinities and of 0
 --   sign_is, fraction_is                      the sign and the fraction of a float that is ± u / c
 use mathlib.Core.Path.{◌≡◌, refl, sym, ap, subst, ◌∙◌}
-use mathlib.Core.Bool.{Bool, true, false, not}
+use mathlib.Core.Bool.{Bool, true, false, not, true≢false}
 use Prim.Native.Nat.{ℕ, ◌*◌, ◌%◌, ◌^◌, ◌≤◌, ◌<◌}
 use native.Mathlib.Omega.{arith}
 use lib.Dec.{T, ltb, ltb→lt, nltb→le, not_T}
 use lib.IntN.{pos}
-use lib.Ieee.{Float, nan, inf, fin, binary32, eq, ne, is_nan, nan_bits, of_bits, to_bits, fits}
+use lib.Ieee.{Float, nan, inf, fin, binary32, is_nan, nan_bits, of_bits, to_bits, fits}
 use lib.Ieee.Bits.{nan_bits_above, nan_bits_is, of_bits-to_bits}
-use lib.Ieee.Compare.{differs_from_itself, nan_differs}
 use lib.Ieee.Exact.{HasValue}
 use lib.Ieee.Positive.{num, den}
 use Rattle.elementary.specs.Accuracy.{sign_of}
 
--- the test x != x
-pub is_nan_lem : (x : Float) → ne x x ≡ true → x ≡ nan
-is_nan_lem x t = differs_from_itself x (subst T (sym t) tt)
-
-pub is_number : (x : Float) → ne x x ≡ false → T (not (is_nan x))
+pub nan_is : (x : Float) (b : Bool) → b ≡ is_nan x → b ≡ true → x ≡ nan
 unfolding is_nan
-is_number nan h = subst T (sym nan_differs ∙ h) tt
-is_number (inf s) h = tt
-is_number (fin s m e) h = tt
+nan_is nan b e h = refl
+nan_is (inf s) b e h = absurd (true≢false (sym h ∙ e))
+nan_is (fin s m k) b e h = absurd (true≢false (sym h ∙ e))
 
-pub equals_itself : (x : Float) → eq x x ≡ true → T (not (is_nan x))
-unfolding ne
-equals_itself x h = is_number x (ap not h)
-
--- what differs from itself
-pub unequal : (x : Float) → eq x x ≡ false → x ≡ nan
-unfolding ne
-unequal x h = is_nan_lem x (ap not h)
+pub number_is : (x : Float) (b : Bool) → b ≡ is_nan x → b ≡ false → T (not (is_nan x))
+number_is x b e h = rw (sym e ∙ h) tt
 
 -- NaN's own pattern is above the infinity's
 pub number_of-bits : (x : Float) → to_bits binary32 x % 2 ^ 31 ≤ 0x7F800000 → T (not (is_nan x))

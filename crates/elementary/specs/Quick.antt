@@ -4,7 +4,7 @@
 --   Special b c            neither is a NaN, and x^y is a special case
 --   IsBase x, IsDecay c    the x and the y of a block of powers, in the range of Quick
 --   quick_arg b c           y log2 x + 126 in units of 2^-39, for these
-use Rattle.std.specs.Prelude.{◌≡◌, ℕ, ◌+◌, ◌-◌, ◌*◌, ◌/◌, ◌%◌, ◌^◌, ◌<◌, ◌≤◌, not, T, ◌≢◌, is_nan, to_bits, Float}
+use Rattle.std.specs.Prelude.{ℕ, ◌+◌, ◌-◌, ◌*◌, ◌/◌, ◌%◌, ◌^◌, ◌<◌, ◌≤◌, not, T, ◌≢◌, is_nan, to_bits, Float}
 use Rattle.std.specs.Float.{binary32}
 use Rattle.std.specs.Float.Ieee.{fits}
 use Rattle.elementary.specs.Power.{log2_of}

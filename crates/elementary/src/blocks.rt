@@ -14,10 +14,10 @@ ghost use Rattle.elementary.specs.Quick.{IsBase, IsDecay, quick_arg};
 fn outside_one(x: f32) -> u32
     ensures { (result ≡ 0 → IsBase x) × (result ≤ 15) }
 {
-    if x == x {
-        x.to_bits().wrapping_sub(0x3F800000) / 0x10000000
-    } else {
+    if x.is_nan() {
         1
+    } else {
+        x.to_bits().wrapping_sub(0x3F800000) / 0x10000000
     }
 }
 
@@ -91,7 +91,7 @@ fn values(x: &mut [f32; 64], e: &[u64; 64], f: &[u64; 64], n: usize)
 fn is_decay(y: f32) -> bool
     ensures { result ≡ true → IsDecay (to_bits binary32 y) }
 {
-    y == y && y.to_bits().wrapping_sub(0xB0000000) < 0x10000000
+    !y.is_nan() && y.to_bits().wrapping_sub(0xB0000000) < 0x10000000
 }
 
 // The powers where y is from -2 to -2^-31 and each x from 1 to 2^32.

@@ -90,13 +90,11 @@ fn exp_at(b: u32) -> f32
 {
     let a = b % 0x80000000;
     if a < PATTERN_ONE {
-        return 1.0;
-    }
-    if a < limit_of(b) {
+        1.0
+    } else if a < limit_of(b) {
         let z = shift(b, to_fixed(a));
-        return pack(z / LN2, z % LN2);
-    }
-    if b < 0x80000000 {
+        pack(z / LN2, z % LN2)
+    } else if b < 0x80000000 {
         f32::from_bits(0x7F800000)
     } else {
         0.0
@@ -107,5 +105,5 @@ pub fn exp_f32(x: f32) -> f32
     ensures value { result ≡ exp_of x }
     ensures bound { IsExp x result }
 {
-    if x != x { x } else { exp_at(f32::to_bits(x)) }
+    if x.is_nan() { x } else { exp_at(x.to_bits()) }
 }

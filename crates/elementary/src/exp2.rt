@@ -1,5 +1,5 @@
 // 2^z, the last step of powf: a power of the table times 2^r for the last r below 2^-7.
-ghost use Rattle.std.specs.Prelude.{◌≡◌, ◌+◌, ◌-◌, ◌*◌, ◌/◌, ◌%◌, ◌^◌, ◌<◌, if◌then◌else◌, from_bits};
+ghost use Rattle.std.specs.Prelude.{◌≡◌, ◌+◌, ◌*◌, ◌/◌, ◌%◌, ◌^◌, ◌<◌, from_bits};
 ghost use Rattle.std.specs.Float.{binary32};
 ghost use Rattle.power_tables.specs.Tables.{power_word};
 ghost use Rattle.elementary.specs.Power.{exp2_of, exp2_bits};

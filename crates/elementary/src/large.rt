@@ -2,7 +2,7 @@
 ghost use Rattle.std.specs.Prelude.{◌≡◌, ◌+◌, ◌*◌, ◌/◌, ◌%◌, ◌^◌, ◌<◌, ◌≤◌, from_bits};
 ghost use Rattle.std.specs.Float.{binary32};
 ghost use Rattle.power_tables.specs.Tables.{line_word, curvature};
-ghost use Rattle.elementary.specs.Power.{exp2_bits, fine_log2_at, fine_log2, fine_arg, large_arg, large_bits};
+ghost use Rattle.elementary.specs.Power.{fine_log2_at, fine_log2, fine_arg, large_arg, large_bits};
 ghost use Rattle.elementary.specs.Power as Power;
 
 use power_tables::Interval;
@@ -122,12 +122,8 @@ fn large_arg(x: u64, c: u32) -> u64
     ensures { result ≡ large_arg x c }
 {
     if x < QUARTER {
-        if c < 0x80000000 {
-            return ARG_LEAST;
-        }
-        return ARG_MOST;
-    }
-    if x < FOUR {
+        if c < 0x80000000 { ARG_LEAST } else { ARG_MOST }
+    } else if x < FOUR {
         fine_arg(fine_log2(x), c)
     } else if c < 0x80000000 {
         ARG_MOST

@@ -120,10 +120,10 @@ pub fn ln_f32(x: f32) -> f32
     ensures value { result ≡ ln_of x }
     ensures bound { IsLn x result }
 {
-    if x != x {
+    if x.is_nan() {
         return x;
     }
-    let b = f32::to_bits(x);
+    let b = x.to_bits();
     if b < 0x7F800000 {
         if b == 0 {
             return f32::from_bits(0xFF800000);

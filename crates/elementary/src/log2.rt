@@ -1,5 +1,5 @@
 // log2 x by 512 intervals: a height, a slope and a curvature for each.
-ghost use Rattle.std.specs.Prelude.{◌≡◌, ◌+◌, ◌*◌, ◌/◌, ◌%◌, ◌^◌};
+ghost use Rattle.std.specs.Prelude.{◌≡◌, ◌/◌, ◌%◌, ◌^◌};
 ghost use Rattle.power_tables.specs.Tables.{line_word, curvature};
 ghost use Rattle.elementary.specs.Power.{log2_of};
 

@@ -1,5 +1,5 @@
 // x^y = 2^(y log2 x) for a finite x above 0 and |y| up to 128.
-ghost use Rattle.std.specs.Prelude.{◌≡◌, ◌+◌, ◌-◌, ◌*◌, ◌/◌, ◌%◌, ◌^◌, ◌<◌, ◌≤◌, true, not, if◌then◌else◌, from_bits, nat_lt};
+ghost use Rattle.std.specs.Prelude.{◌≡◌, ◌+◌, ◌*◌, ◌/◌, ◌%◌, ◌^◌, ◌<◌, ◌≤◌, true, not, from_bits, nat_lt};
 ghost use Rattle.std.specs.Float.{binary32};
 ghost use Rattle.std.specs.Float.Ieee.{unlike};
 ghost use Rattle.elementary.specs.Power.{product, signed_arg, near_bits};

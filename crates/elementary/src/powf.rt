@@ -3,20 +3,18 @@ ghost use Rattle.std.specs.Prelude.{◌≡◌, ◌%◌, ◌^◌, ◌<◌, ◌≤
 ghost use Rattle.std.specs.Float.{nan};
 ghost use Rattle.elementary.specs.Pow.{is_odd, zero_size, zero_bits, inf_bits, to_inf_bits, num_bits, pow_at, pow_of};
 ghost use Rattle.elementary.specs.Accuracy.{IsPow};
-ghost use Rattle.elementary.specs.Quick.{Near, Quick, Special};
+ghost use Rattle.elementary.specs.Quick.{Near, Special};
 
 // Whether |y| with the bit pattern a is an odd whole number.
 fn is_odd(a: u32) -> bool
     ensures { result ≡ is_odd a }
 {
-    if a < 0x3F800000 {
-        return false;
-    }
-    if a < 0x4B800000 {
+    if 0x3F800000 <= a && a < 0x4B800000 {
         let p = 1u32 << (150 - a / 8388608);
-        return (a % 8388608 + 8388608) % (p * 2) == p;
+        (a % 8388608 + 8388608) % (p * 2) == p
+    } else {
+        false
     }
-    false
 }
 
 // A zero to the y, without a sign.
@@ -77,9 +75,9 @@ fn special(b: u32, c: u32) -> f32
     ensures { result ≡ pow_at b c }
 {
     if c % 0x80000000 == 0 {
-        f32::from_bits(0x3F800000)
+        1.0
     } else if b == 0x3F800000 {
-        f32::from_bits(0x3F800000)
+        1.0
     } else if 0x80000000 < b {
         0.0 / 0.0
     } else {
@@ -125,24 +123,22 @@ fn of_nan(x: f32, y: f32) -> f32
     requires { T (not (is_nan y)) → x ≡ nan }
     ensures { result ≡ pow_of x y }
 {
-    if y != y {
-        if x != x {
-            return y;
-        }
-        if f32::to_bits(x) == 0x3F800000 {
-            return f32::from_bits(0x3F800000);
-        }
-        return y;
+    if y.is_nan() {
+        return if !x.is_nan() && x.to_bits() == 0x3F800000 {
+            1.0
+        } else {
+            y
+        };
     }
-    let zero = f32::to_bits(y) % 0x80000000 == 0;
-    if zero { f32::from_bits(0x3F800000) } else { x }
+    let zero = y.to_bits() % 0x80000000 == 0;
+    if zero { 1.0 } else { x }
 }
 
 pub fn powf_f32(x: f32, y: f32) -> f32
     ensures value { result ≡ pow_of x y }
     ensures bound { IsPow x y result }
 {
-    if x == x && y == y {
+    if !x.is_nan() && !y.is_nan() {
         of_numbers(x.to_bits(), y.to_bits())
     } else {
         of_nan(x, y)

@@ -9,6 +9,7 @@ ghost use Rattle.power_tables.specs.Tables.{line_word, curvature, power_word};
 #[derive(Clone, Copy)]
 pub struct Interval(pub u64, pub u64);
 
+// Two arrays: of one with 512 pairs the check came to no end in ten minutes.
 const LINES: [u64; 512] = [
     30161588628,
     127192630479188059,

@@ -4,7 +4,7 @@
 --   arg_small    the exponent of 2 is that of a normal number
 --   arg_from     from the logarithm
 --   quick_is     by the steps of a block, powf
-use Rattle.std.proofs.Common.{◌≡◌, ℕ, ◌+◌, ◌-◌, ◌*◌, ◌/◌, ◌%◌, ◌^◌, ◌<◌, ◌≤◌, true, sym, refl, ap, ◌∙◌, subst, arith}
+use Rattle.std.proofs.Common.{◌≡◌, ℕ, ◌+◌, ◌-◌, ◌*◌, ◌/◌, ◌%◌, ◌^◌, ◌<◌, ◌≤◌, sym, refl, ap, ◌∙◌, subst, arith}
 use native.Mathlib.Decide.{dec_lt}
 use lib.Ieee.{Float, binary32, to_bits, of_bits}
 use Rattle.elementary.specs.Power.{log2_of, exp2_bits, near_bits}

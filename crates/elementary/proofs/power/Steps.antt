@@ -7,14 +7,12 @@
 --   log_most                     log2 x counted from 1
 --   near_is                      near_bits
 --   pow_near, pow_quick          from the code's steps
---   quick_from                   the quick arm's test
 --   near_to_zero, near_one       x^0 and 1^y
-use Rattle.std.proofs.Common.{◌≡◌, ℕ, ◌+◌, ◌-◌, ◌*◌, ◌/◌, ◌%◌, ◌^◌, ◌<◌, ◌≤◌, Bool, true, false, cond, not, T, eqb, ltb, sym, refl, ap, ◌∙◌, subst, ap₂, true≢false, le_trans, le_of_eq, lt_of_le_of_lt, mul-le-mul, mul-le-mul_left, mul-zero, zero-mul, div-mul-le_self, mul-div_cancel, arith, lit<, lit≤, eqb→eq, pow_pos, pow_mono, pow-add, le-ltb}
+use Rattle.std.proofs.Common.{◌≡◌, ℕ, ◌+◌, ◌-◌, ◌*◌, ◌/◌, ◌%◌, ◌^◌, ◌<◌, ◌≤◌, Bool, true, false, cond, not, ltb, sym, refl, ap, ◌∙◌, ap₂, le_trans, le_of_eq, lt_of_le_of_lt, mul-le-mul, mul-le-mul_left, mul-zero, zero-mul, div-mul-le_self, mul-div_cancel, arith, lit<, lit≤, pow_pos, pow_mono, pow-add, le-ltb}
 use native.Mathlib.Nat.{div-div-eq-div-mul, div-eq_of_lt, zero-div}
 use lib.Ieee.{unlike}
 use Rattle.elementary.specs.Power.{normalized, log2_at, log2_of, abs_diff, signed_arg, product, arg_of, exp2_of}
 use Rattle.elementary.specs.Power.{exp2_bits, near_bits}
-use Rattle.elementary.specs.Quick.{Quick}
 use Rattle.elementary.proofs.power.Parts.{normalized-normal, is, w_le, parts, log_range}
 use Rattle.elementary.proofs.power.Order.{diff_le}
 use Rattle.elementary.proofs.power.Arg.{product_is}
@@ -123,13 +121,6 @@ pub pow_quick : (b c l z : ℕ) → 0x3F800000 ≤ b → l ≡ log2_of (b - 0x3F
     → exp2_bits (z + 2 ^ 55) ≡ near_bits b c
 pow_quick b c l z h el ez =
     pow_near b c (l + 159 * 2 ^ 32) (z + 2 ^ 55) (ap (λ (x : ℕ). x + 159 * 2 ^ 32) el ∙ quick_log b h) ez
-
--- the test of the usual arm
-pub quick_from : (b c u v : ℕ) → u < 2 ^ 32 → v < 2 ^ 32 → (u + 0x3F800000) % 2 ^ 32 ≡ b
-    → (v + 2952790016) % 2 ^ 32 ≡ c → eqb (u / 2 ^ 28 + v / 2 ^ 28) 0 ≡ true → Quick b c
-quick_from b c u v U W eu ev t =
-    let e : u / 2 ^ 28 + v / 2 ^ 28 ≡ 0 = eqb→eq (u / 2 ^ 28 + v / 2 ^ 28) 0 (subst T (sym t) tt) in
-    record { x_low = omega arith; x_high = omega arith; y_low = omega arith; y_high = omega arith }
 
 -- ---- x^±0 and 1^y
 unsigned : (n l c : ℕ) → signed_arg n l c 0 ≡ (2 ^ 16 + 126) * 2 ^ 39

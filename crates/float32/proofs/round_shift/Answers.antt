@@ -1,29 +1,10 @@
-use Rattle.std.proofs.Common.{◌≡◌, ℕ, ◌-◌, ◌*◌, ◌/◌, ◌^◌, ◌<◌, sym, ap, ◌∙◌, subst, arith, pow_pos}
-use lib.Pow.{shr_le}
+use Rattle.std.proofs.Common.{◌≡◌, ℕ, ◌-◌, ◌*◌, ◌/◌, ◌^◌, ◌<◌, sym, ap, ◌∙◌, arith, pow_pos}
 use lib.Ieee.Nearest.{closest}
-use Rattle.float32.proofs.Shift.{two-pow, shift-even, shift_tie, shift_up, back_up, shift_out, shift_none}
+use Rattle.float32.proofs.Shift.{two-pow, shift-even, shift_tie, shift_up, back_up, shift_out}
 use Rattle.float32.proofs.round_shift.Goals as goal
 
 whole : (m sh : ℕ) {r : ℕ} → 0 < sh → r ≡ closest m (2 * 2 ^ (sh - 1)) → r ≡ closest m (2 ^ sh)
 whole m sh h e = e ∙ ap (λ (z : ℕ). closest m z) (sym (two-pow sh h))
-
-pub overflow_add-result : goal.overflow_add-result
-overflow_add-result c = omega (
-  arith,
-  shr_le c.args.m
-      (c.args.sh - 1),
-)
-
-pub overflow_add-result-else-h-sh : goal.overflow_add-result-else-h-sh
-overflow_add-result-else-h-sh c = omega (
-  arith,
-  shr_le c.args.m
-      (c.args.sh - 1),
-)
-
-pub returns-then-sh-eq0 : goal.returns-then-sh-eq0
-returns-then-sh-eq0 c = subst (λ (k : ℕ). c.args.m ≡ closest c.args.m (2 ^ k)) (sym c.if-sh-eq0.true)
-    (shift_none c.args.m)
 
 pub returns-then-sh-gt64 : goal.returns-then-sh-gt64
 returns-then-sh-gt64 c = shift_out c.args.m c.args.sh c.ranges.m.fits

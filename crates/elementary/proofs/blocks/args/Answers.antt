@@ -2,23 +2,14 @@ use Rattle.std.proofs.Common.{ℕ, List, get_or, refl, ap, ◌∙◌, le_trans, 
 use lib.Ieee.{nan, binary32, to_bits}
 use Rattle.power_tables.specs.Tables.{line_word, curvature}
 use Rattle.elementary.specs.Filled.{filled}
-use Rattle.elementary.proofs.Filled.{fill_turn, fill_end, fill_after}
+use Rattle.elementary.proofs.Filled.{fill_turn, fill_after}
 use Rattle.elementary.proofs.blocks.Laws.{same-interval, arg_from}
 use Rattle.elementary.proofs.power.Steps.{log_most}
 use Rattle.elementary.proofs.blocks.args.Goals as goal
 
-pub overflow_sub-s : goal.overflow_sub-s
-overflow_sub-s c = omega (arith, c.requires.1.high)
-
 pub loop-i-init : goal.loop-i-init
 unfolding filled
 loop-i-init c = refl
-
-pub float_to_bits-x : goal.float_to_bits-x
-float_to_bits-x c = (c.requires.2 c.loop-i.i (omega arith)).0.number
-
-pub overflow_sub-x : goal.overflow_sub-x
-overflow_sub-x c = (c.requires.2 c.loop-i.i (omega arith)).0.low
 
 pub log2_by-l-requires : goal.log2_by-l-requires
 log2_by-l-requires c =
@@ -47,6 +38,3 @@ loop-i-preserved c =
     b.high
     c.requires.1 c.log2_by-l.result c.quick_arg.result c.log2_by-l.ensures
     c.quick_arg.ensures)
-
-pub returns : goal.returns
-returns c = fill_end _ _ _ _ _ c.loop-i.invariant (omega arith) (omega arith)

@@ -1,5 +1,5 @@
 -- The invariant: as many places are filled as there were turns.
-use Rattle.std.proofs.Common.{◌≡◌, ◌-◌, ◌/◌, ◌%◌, ◌^◌, ◌≤◌, get_or}
+use Rattle.std.proofs.Common.{◌≡◌, ◌/◌, ◌%◌, ◌^◌, get_or}
 use lib.Ieee.{nan, binary32, to_bits}
 use Rattle.power_tables.specs.Tables.{line_word, curvature}
 use Rattle.elementary.specs.Filled.{filled}

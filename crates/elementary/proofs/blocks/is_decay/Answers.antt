@@ -3,7 +3,7 @@ use lib.Ieee.{binary32, to_bits}
 use lib.Ieee.Bits.{to_bits-lt}
 use Rattle.elementary.proofs.blocks.is_decay.Goals as goal
 
-pub returns-then-y : goal.returns-then-y
-returns-then-y c =
+pub returns-then-not-is_nan : goal.returns-then-not-is_nan
+returns-then-not-is_nan c =
     let w : to_bits binary32 c.args.y < 2 ^ 32 = to_bits-lt binary32 c.args.y (subst T (sym c.well_formed.0.1) tt) in
     λ e. let k = ltb→lt _ 268435456 (subst T (sym e) tt) in record { low = omega (arith, k, w); high = omega (arith, k, w) }

@@ -3,7 +3,7 @@ use lib.Ieee.{Float, nan}
 use Rattle.elementary.specs.Pow.{pow_of}
 use Rattle.elementary.specs.Accuracy.{IsPow}
 use Rattle.elementary.specs.Filled.{filled}
-use Rattle.elementary.proofs.Filled.{fill_turn, fill_end, fill_after}
+use Rattle.elementary.proofs.Filled.{fill_turn, fill_after}
 use Rattle.elementary.proofs.blocks.Laws.{all-turn}
 use Rattle.elementary.proofs.blocks.one_by_one.Goals as goal
 
@@ -24,8 +24,3 @@ loop-i-preserved c =
           (subst (IsPow (get_or x i nan) y) power (subst (λ (v : Float). IsPow v y c.powf_f32.result) same
           c.powf_f32.ensures.bound)),
     )
-
-pub returns : goal.returns
-returns c =
-    let inv = c.loop-i.invariant in
-    record { value = fill_end _ _ _ _ _ inv.0 (omega arith) (omega arith); bound = λ i h. inv.1 i (omega arith) }

@@ -1,5 +1,5 @@
 -- The invariant: as many places are filled as there were turns, each within powf's bound.
-use Rattle.std.proofs.Common.{◌≡◌, ℕ, ◌-◌, ◌<◌, ◌≤◌, get_or}
+use Rattle.std.proofs.Common.{◌≡◌, ℕ, ◌<◌, get_or}
 use lib.Ieee.{nan}
 use Rattle.elementary.specs.Pow.{pow_of}
 use Rattle.elementary.specs.Accuracy.{IsPow}

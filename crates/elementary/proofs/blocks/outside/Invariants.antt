@@ -1,5 +1,5 @@
 -- The invariant: a sum of 0 so far means that no place so far was outside.
-use Rattle.std.proofs.Common.{◌≡◌, ℕ, ◌-◌, ◌*◌, ◌<◌, ◌≤◌, get_or}
+use Rattle.std.proofs.Common.{◌≡◌, ℕ, ◌*◌, ◌<◌, ◌≤◌, get_or}
 use lib.Ieee.{nan}
 use Rattle.elementary.specs.Quick.{IsBase}
 use Rattle.elementary.proofs.blocks.outside.Given as goal

@@ -1,5 +1,5 @@
 -- The invariant: as many places are filled as there were turns.
-use Rattle.std.proofs.Common.{◌≡◌, ◌-◌, ◌/◌, ◌%◌, ◌^◌, ◌≤◌, get_or}
+use Rattle.std.proofs.Common.{◌≡◌, ◌/◌, ◌%◌, ◌^◌, get_or}
 use Rattle.power_tables.specs.Tables.{power_word}
 use Rattle.elementary.specs.Filled.{filled}
 use Rattle.elementary.proofs.blocks.powers.Given as goal

@@ -1,5 +1,5 @@
 -- The invariant: as many places are filled as there were turns.
-use Rattle.std.proofs.Common.{◌≡◌, ◌+◌, ◌-◌, ◌^◌, ◌≤◌, get_or}
+use Rattle.std.proofs.Common.{◌≡◌, ◌+◌, ◌^◌, get_or}
 use lib.Ieee.{binary32, of_bits}
 use Rattle.elementary.specs.Power.{exp2_bits}
 use Rattle.elementary.specs.Filled.{filled}

@@ -1,4 +1,4 @@
-use Rattle.std.proofs.Common.{◌^◌, Bool, sym, ap, arith, le-ltb, lt-ltb}
+use Rattle.std.proofs.Common.{◌^◌, Bool, sym, ap, le-ltb, lt-ltb}
 use Rattle.elementary.specs.Exp.{shifted}
 use Rattle.elementary.proofs.exp.shift.Goals as goal
 
@@ -6,9 +6,6 @@ pub returns-then-b-lt2147483648 : goal.returns-then-b-lt2147483648
 unfolding shifted
 returns-then-b-lt2147483648 c = sym (ap (λ (s : Bool). shifted s c.args.x)
     (lt-ltb c.args.b (2 ^ 31) c.if-b-lt2147483648.true))
-
-pub overflow_sub-result : goal.overflow_sub-result
-overflow_sub-result c = omega (arith, c.requires.1 c.if-b-lt2147483648.false)
 
 pub returns-else-b-lt2147483648 : goal.returns-else-b-lt2147483648
 unfolding shifted

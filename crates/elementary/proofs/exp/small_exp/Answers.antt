@@ -6,12 +6,6 @@ use Rattle.elementary.proofs.exp.small_exp.Goals as goal
 fits : (s : ℕ) → s < 2 ^ 31 → s * (2 ^ 31 + s / 1024) ≤ 2 ^ 63
 fits s h = mul-le-mul {n₁ = s} {m₁ = 2 ^ 31 + s / 1024} {n₂ = (2 ^ 31)} {m₂ = (2 ^ 32)} (omega arith) (omega arith)
 
-pub overflow_mul-result : goal.overflow_mul-result
-overflow_mul-result c = omega (arith, fits (c.args.p / 256) (omega arith))
-
-pub overflow_add-result-2 : goal.overflow_add-result-2
-overflow_add-result-2 c = omega (arith, fits (c.args.p / 256) (omega arith))
-
 pub returns : goal.returns
 unfolding small
 returns c = refl

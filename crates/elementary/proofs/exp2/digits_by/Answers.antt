@@ -6,9 +6,6 @@ fit : (c : goal.After-exp2m1) → DigitsFit c.args.w c.args.z c.exp2m1.result
 fit c =
     digits-fit c.args.w c.args.z c.exp2m1.result c.requires c.exp2m1.ensures.0
 
-pub overflow_mul-result : goal.overflow_mul-result
-overflow_mul-result c = omega (arith, (fit c).product)
-
 pub overflow_add-result : goal.overflow_add-result
 overflow_add-result c = omega (arith, (fit c).sum)
 

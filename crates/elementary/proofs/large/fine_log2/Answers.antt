@@ -11,17 +11,8 @@ shifted : (c : goal.Start) → c.args.x * 2 ^ count_leading_zeros 64
     c.args.x % 2 ^ 64 ≡ c.args.x * 2 ^ count_leading_zeros 64 c.args.x
 shifted c = mod-eq_of_lt (tp c).high
 
-pub overflow_cast-y : goal.overflow_cast-y
-overflow_cast-y c = omega (arith, (tp c).most)
-
-pub overflow_shl-y : goal.overflow_shl-y
-overflow_shl-y c = omega (arith, (tp c).most)
-
 pub overflow_sub-i : goal.overflow_sub-i
 overflow_sub-i c = omega (arith, shifted c, (tp c).low)
-
-pub overflow_sub-result : goal.overflow_sub-result
-overflow_sub-result c = omega (arith, (tp c.before).most)
 
 pub returns : goal.returns
 returns c =

@@ -6,17 +6,8 @@ fit : (c : goal.Start) → FineFits c.args.line c.args.bend c.args.i c.args.t
 fit c =
     fine_fits c.args.line c.args.bend c.args.i c.args.t c.requires.0 c.requires.1 c.requires.2 c.requires.3
 
-pub overflow_mul-result-2 : goal.overflow_mul-result-2
-overflow_mul-result-2 c = omega (arith, (fit c).product)
-
 pub overflow_add-result : goal.overflow_add-result
 overflow_add-result c = omega (arith, (fit c).sum)
-
-pub overflow_mul-result-3 : goal.overflow_mul-result-3
-overflow_mul-result-3 c = omega (arith, (fit c).square)
-
-pub overflow_mul-result-4 : goal.overflow_mul-result-4
-overflow_mul-result-4 c = omega (arith, (fit c).bent)
 
 pub overflow_sub-result : goal.overflow_sub-result
 overflow_sub-result c = (fit c).less

@@ -9,8 +9,8 @@ returns-then-c-lt2147483648 c =
     sym (arg_low c.args.x c.args.c c.if-x-lt-QUARTER.true
     ∙ plus c.args.c 0 (2 ^ 56) c.if-c-lt2147483648.true)
 
-pub returns-then-x-lt-QUARTER : goal.returns-then-x-lt-QUARTER
-returns-then-x-lt-QUARTER c =
+pub returns-else-c-lt2147483648 : goal.returns-else-c-lt2147483648
+returns-else-c-lt2147483648 c =
     sym (arg_low c.args.x c.args.c c.if-x-lt-QUARTER.true
     ∙ minus c.args.c 0 (2 ^ 56) c.if-c-lt2147483648.false)
 

@@ -1,11 +1,7 @@
 use Rattle.std.proofs.Common.{◌≡◌, ℕ, suc, ◌+◌, ◌-◌, sym, ap, ◌∙◌, arith}
-use native.Mathlib.Nat.{sub-zero}
 use Rattle.elementary.specs.Power.{squares}
 use Rattle.elementary.proofs.large.Squaring.{squares_zero, one_more}
 use Rattle.elementary.proofs.large.squares.Goals as goal
-
-pub loop-init : goal.loop-init
-loop-init c = ap (λ (n : ℕ). squares n c.args.x) (sub-zero c.args.k)
 
 pub loop-preserved : goal.loop-preserved
 loop-preserved c =

@@ -3,7 +3,7 @@ use lib.Ieee.{Float, nan, inf, binary32, div, is_nan, of_bits, to_bits, fits}
 use lib.Ieee.Bits.{of_bits-to_bits, to_bits-lt}
 use Rattle.elementary.specs.Ln.{ln_fixed, ln_rounded, ln_at, ln_of}
 use Rattle.elementary.specs.Accuracy.{IsLn}
-use Rattle.elementary.proofs.Common.{is_nan_lem, is_number, no_nan_bits, infinity_is}
+use Rattle.elementary.proofs.Common.{nan_is, number_is, no_nan_bits, infinity_is}
 use Rattle.elementary.proofs.ln.Law.{of_x, of_nan, range_of, fixed_of, fixed-lt, fixed_gap, rounded-mod, ln_law}
 use Rattle.elementary.proofs.ln.Law.{at_near, at_zero, at_infinity, at_rest}
 use Rattle.elementary.proofs.ln.ln_f32.Goals as goal
@@ -47,15 +47,12 @@ bits_are : (c : goal.After-ln_rounded)
     ≡ ln_rounded (ln_fixed (to_bits binary32 c.args.x))
 bits_are c = c.ln_rounded.ensures ∙ ap ln_rounded (w-is c.before)
 
-pub returns-then-x : goal.returns-then-x
-returns-then-x c =
+pub returns-then-is_nan : goal.returns-then-is_nan
+returns-then-is_nan c =
     let x = c.args.x in
-    let e : x ≡ nan = is_nan_lem x c.if-x.true in
+    let e : x ≡ nan = nan_is x _ c.is_nan.ensures.value c.if-is_nan.true in
     let v : x ≡ ln_of x = e ∙ sym (ap ln_of e ∙ of_nan nan (unfold is_nan in tt)) in
     record { value = v; bound = law x x (subst T (sym c.well_formed.0.1) tt) v }
-
-pub float_to_bits-b : goal.float_to_bits-b
-float_to_bits-b c = is_number c.args.x c.if-x.false
 
 pub float_from_bits-result : goal.float_from_bits-result
 float_from_bits-result c = no_nan_bits 4286578688 (lit≤ tt)
@@ -64,15 +61,9 @@ pub returns-then-b-eq0 : goal.returns-then-b-eq0
 returns-then-b-eq0 c =
     let x = c.args.x in
     let r : Float = of_bits binary32 4286578688 in
-    let v : r ≡ ln_of x = at_pattern x r (is_number x c.if-x.false)
+    let v : r ≡ ln_of x = at_pattern x r (number_is x _ c.is_nan.ensures.value c.if-is_nan.false)
     (minus_infinity ∙ sym (at_zero (to_bits binary32 x) (ap (λ (n : ℕ). n % 2 ^ 31) c.if-b-eq0.true))) in
     record { value = v; bound = law x r (subst T (sym c.well_formed.0.1) tt) v }
-
-pub exponent_of-requires : goal.exponent_of-requires
-exponent_of-requires c = (pos_of_ne-zero c.if-b-eq0.false, c.if-b-lt2139095040.true)
-
-pub significand_of-requires : goal.significand_of-requires
-significand_of-requires c = (pos_of_ne-zero c.if-b-eq0.false, c.if-b-lt2139095040.true)
 
 pub ln_wide-requires : goal.ln_wide-requires
 ln_wide-requires c = range_of (pos_of_ne-zero c.if-b-eq0.false) c.if-b-lt2139095040.true
@@ -99,7 +90,7 @@ returns-then-b-lt2139095040 c =
     let l = c.if-b-lt2139095040.true in
     let x = c.args.x in
     let r : Float = of_bits binary32 c.ln_rounded.result in
-    let v : r ≡ ln_of x = at_pattern x r (is_number x c.if-x.false)
+    let v : r ≡ ln_of x = at_pattern x r (number_is x _ c.is_nan.ensures.value c.if-is_nan.false)
     (ap (of_bits binary32) (bits_are c) ∙ sym (at_near b (above b n l) l)) in
     record { value = v; bound = law x r (subst T (sym c.well_formed.0.1) tt) v }
 
@@ -107,7 +98,7 @@ pub returns-then-b-eq2139095040 : goal.returns-then-b-eq2139095040
 returns-then-b-eq2139095040 c =
     let x = c.args.x in
     let r : Float = c.args.x in
-    let v : r ≡ ln_of x = at_pattern x r (is_number x c.if-x.false)
+    let v : r ≡ ln_of x = at_pattern x r (number_is x _ c.is_nan.ensures.value c.if-is_nan.false)
     (sym (of_bits-to_bits binary32 c.args.x (subst T (sym c.well_formed.0.1) tt)) ∙ ap (of_bits binary32) c.if-b-eq2139095040.true ∙ infinity_is
     ∙ sym (ap ln_at c.if-b-eq2139095040.true ∙ at_infinity)) in
     record { value = v; bound = law x r (subst T (sym c.well_formed.0.1) tt) v }
@@ -119,7 +110,7 @@ pub returns-then-b : goal.returns-then-b
 returns-then-b c =
     let x = c.args.x in
     let r : Float = of_bits binary32 4286578688 in
-    let v : r ≡ ln_of x = at_pattern x r (is_number x c.if-x.false)
+    let v : r ≡ ln_of x = at_pattern x r (number_is x _ c.is_nan.ensures.value c.if-is_nan.false)
     (minus_infinity ∙ sym (at_zero (to_bits binary32 x) (ap (λ (n : ℕ). n % 2 ^ 31) c.if-b.true))) in
     record { value = v; bound = law x r (subst T (sym c.well_formed.0.1) tt) v }
 
@@ -127,7 +118,7 @@ pub returns-else-b : goal.returns-else-b
 returns-else-b c =
     let x = c.args.x in
     let r : Float = div binary32 (of_bits binary32 0) (of_bits binary32 0) in
-    let v : r ≡ ln_of x = at_pattern x r (is_number x c.if-x.false)
+    let v : r ≡ ln_of x = at_pattern x r (number_is x _ c.is_nan.ensures.value c.if-is_nan.false)
     (zero_by_zero ∙ sym (at_rest (to_bits binary32 c.args.x) (not_zero x (subst T (sym c.well_formed.0.1) tt) c.if-b-lt2139095040.false
     c.if-b.false) c.if-b-lt2139095040.false c.if-b-eq2139095040.false)) in
     record { value = v; bound = law x r (subst T (sym c.well_formed.0.1) tt) v }

@@ -1,4 +1,4 @@
-use Rattle.std.proofs.Common.{◌≡◌, ℕ, ◌+◌, ◌^◌, ◌≤◌, Bool, true, false, cond, ltb, sym, ap, ◌∙◌, ap₂, pos_of_ne-zero, zero-add, arith, lit≤}
+use Rattle.std.proofs.Common.{◌≡◌, ℕ, ◌+◌, ◌^◌, ◌≤◌, Bool, true, false, cond, ltb, sym, ap, ◌∙◌, ap₂, zero-add, arith, lit≤}
 use Rattle.elementary.specs.Ln.{ln_size, ln_sign, rounded, ln_rounded}
 use Rattle.elementary.proofs.ln.Rounding.{rounded_zero, rounded-lt, size-lt}
 use Rattle.elementary.proofs.ln.ln_rounded.Goals as goal
@@ -15,18 +15,12 @@ size_is : (c : goal.After-sign_of-else-s-eq0) → c.round_fixed.result
     ≡ rounded (ln_size c.args.w)
 size_is c = c.round_fixed.ensures ∙ ap rounded c.size_of-s.ensures
 
-pub size_of-s-requires : goal.size_of-s-requires
-size_of-s-requires c = c.requires
-
 pub returns-then-s-eq0 : goal.returns-then-s-eq0
 unfolding ln_rounded
 returns-then-s-eq0 c =
     c.sign_of.ensures ∙ sym (ap (λ (i : ℕ). i + ln_sign c.args.w)
     (ap rounded (sym c.size_of-s.ensures ∙ c.if-s-eq0.true) ∙ rounded_zero)
     ∙ zero-add (ln_sign c.args.w))
-
-pub round_fixed-requires : goal.round_fixed-requires
-round_fixed-requires c = pos_of_ne-zero c.if-s-eq0.false
 
 pub overflow_add-result : goal.overflow_add-result
 overflow_add-result c =

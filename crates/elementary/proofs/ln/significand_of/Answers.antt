@@ -9,9 +9,6 @@ sub c = sub32 c.args.b c.requires.0 c.if-b-lt8388608.true
 pub overflow_sub-result : goal.overflow_sub-result
 overflow_sub-result c = omega (arith, (sub c).least)
 
-pub overflow_shl-result : goal.overflow_shl-result
-overflow_shl-result c = omega (arith, (sub c).most)
-
 pub returns-then-b-lt8388608 : goal.returns-then-b-lt8388608
 returns-then-b-lt8388608 c = mod-eq_of_lt (lt_of_lt_of_le (sub c).high (lit≤ tt))
     ∙ sym (significand-sub c.args.b c.if-b-lt8388608.true)

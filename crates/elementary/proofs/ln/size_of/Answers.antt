@@ -2,9 +2,6 @@ use Rattle.std.proofs.Common.{◌-◌, Bool, cond, sym, ap, le-ltb, lt-ltb}
 use Rattle.elementary.specs.Ln.{ln_size}
 use Rattle.elementary.proofs.ln.size_of.Goals as goal
 
-pub overflow_sub-result : goal.overflow_sub-result
-overflow_sub-result c = c.requires c.if-w-lt-LN2_159.true
-
 pub returns-then-w-lt-LN2_159 : goal.returns-then-w-lt-LN2_159
 unfolding ln_size
 returns-then-w-lt-LN2_159 c = let w = c.args.w in sym

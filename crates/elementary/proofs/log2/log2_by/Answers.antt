@@ -5,20 +5,8 @@ use Rattle.elementary.proofs.log2.log2_by.Goals as goal
 fit : (c : goal.Start) → LogFits c.args.line c.args.bend c.args.p
 fit c = log_fits c.args.line c.args.bend c.args.p c.requires.0 c.requires.1
 
-pub overflow_mul-result-2 : goal.overflow_mul-result-2
-overflow_mul-result-2 c = omega (arith, (fit c).product)
-
 pub overflow_add-result : goal.overflow_add-result
 overflow_add-result c = omega (arith, (fit c).sum)
-
-pub overflow_mul-result-3 : goal.overflow_mul-result-3
-overflow_mul-result-3 c = omega (arith, (fit c).square)
-
-pub overflow_cast-result-2 : goal.overflow_cast-result-2
-overflow_cast-result-2 c = omega (arith, (fit c).square)
-
-pub overflow_mul-result-4 : goal.overflow_mul-result-4
-overflow_mul-result-4 c = omega (arith, (fit c).bent)
 
 pub overflow_sub-result : goal.overflow_sub-result
 overflow_sub-result c = (fit c).less

@@ -1,4 +1,4 @@
-use Rattle.std.proofs.Common.{◌≡◌, ◌*◌, ◌%◌, ◌^◌, ◌≤◌, ◌∙◌, le_trans, le_of_eq, arith}
+use Rattle.std.proofs.Common.{◌*◌, ◌%◌, ◌^◌, ◌≤◌, ◌∙◌, le_trans, le_of_eq, arith}
 use Rattle.elementary.proofs.power.Order.{diff_le, diff_is}
 use Rattle.elementary.proofs.power.Steps.{arg_other, product_small}
 use Rattle.elementary.proofs.power.arg_of.Goals as goal

@@ -11,14 +11,8 @@ small : (c : goal.Then-b-lt8388608) → c.args.b * 2 ^ (count_leading_zeros 32
     c.args.b - 8) % 2 ^ 32 ≡ c.args.b * 2 ^ (count_leading_zeros 32 c.args.b - 8)
 small c = mod-eq_of_lt (lt_of_lt_of_le (sub c).high (lit≤ tt))
 
-pub overflow_sub-result : goal.overflow_sub-result
-overflow_sub-result c = omega (arith, (sub c).most)
-
 pub overflow_sub-result-then-b-lt8388608 : goal.overflow_sub-result-then-b-lt8388608
 overflow_sub-result-then-b-lt8388608 c = omega (arith, (sub c).least)
-
-pub overflow_shl-result : goal.overflow_shl-result
-overflow_shl-result c = omega (arith, (sub c).most)
 
 pub overflow_add-result : goal.overflow_add-result
 overflow_add-result c = omega (arith, (sub c).least, small c, (sub c).high)

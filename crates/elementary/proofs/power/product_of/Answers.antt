@@ -1,9 +1,6 @@
 use Rattle.std.proofs.Common.{ℕ, ◌-◌, ◌*◌, ◌/◌, ◌^◌, ap, ◌∙◌, arith}
-use Rattle.elementary.proofs.power.Steps.{product_le, product_near, product-none}
+use Rattle.elementary.proofs.power.Steps.{product_near, product-none}
 use Rattle.elementary.proofs.power.product_of.Goals as goal
-
-pub overflow_mul-result : goal.overflow_mul-result
-overflow_mul-result c = rw c.from.ensures (omega (arith, product_le c.args.g c.args.a c.requires.0))
 
 pub returns-then-a-ge671088640 : goal.returns-then-a-ge671088640
 returns-then-a-ge671088640 c =

@@ -1,4 +1,4 @@
-use Rattle.std.proofs.Common.{◌≤◌, ◌^◌, ap, ◌∙◌, le_trans, le_of_eq, arith}
+use Rattle.std.proofs.Common.{ap, ◌∙◌, le_trans, le_of_eq, arith}
 use lib.Ieee.{binary32, of_bits}
 use Rattle.elementary.proofs.power.Steps.{log_most, arg_quick, pow_quick}
 use Rattle.elementary.proofs.power.quick_pow.Goals as goal
@@ -11,9 +11,6 @@ quick_arg-z-requires c =
       omega (arith, q.y_low, q.y_high),
       omega (arith, q.y_low, q.y_high),
     )
-
-pub normal_of-requires : goal.normal_of-requires
-normal_of-requires c = omega (arith, c.quick_arg-z.ensures)
 
 pub returns : goal.returns
 returns c =

@@ -14,12 +14,6 @@ above b c n p f = go (lt_or_ge (c % 2 ^ 31) 0x43000001)
     go (inl i) = absurd (n record { positive = p; finite = f; small = omega arith })
     go (inr i) = i
 
-pub large_pow-requires : goal.large_pow-requires
-large_pow-requires c =
-    let p = c.if-b-gt0.true in
-    let f = c.if-b-lt2139095040.true in
-    (p, f, above c.args.b c.args.c c.requires.2 p f)
-
 pub returns-then-b-ne1065353216 : goal.returns-then-b-ne1065353216
 returns-then-b-ne1065353216 c =
     let p = c.if-b-gt0.true in

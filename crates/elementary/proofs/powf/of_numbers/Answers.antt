@@ -12,9 +12,6 @@ near b c n =
     sym (at_regular b c n.positive n.finite (omega (arith, n.small))
     ∙ ap (of_bits binary32) (is_near b c (omega (arith, n.small))))
 
-pub quick_pow-requires : goal.quick_pow-requires
-quick_pow-requires c = c.is_quick.ensures c.if-is_quick.true
-
 pub returns-then-is_quick : goal.returns-then-is_quick
 returns-then-is_quick c =
     let q = c.is_quick.ensures c.if-is_quick.true in
@@ -24,12 +21,5 @@ returns-then-is_quick c =
       small = omega (arith, q.y_low, q.y_high);
     }
 
-pub near_pow-requires : goal.near_pow-requires
-near_pow-requires c = c.is_near.ensures.0 c.if-is_near.true
-
 pub returns-then-is_near : goal.returns-then-is_near
 returns-then-is_near c = c.near_pow.ensures ∙ near c.args.b c.args.c (c.is_near.ensures.0 c.if-is_near.true)
-
-pub not_near-requires : goal.not_near-requires
-not_near-requires c =
-    (c.requires.0, c.requires.1, c.is_near.ensures.1 c.if-is_near.false)

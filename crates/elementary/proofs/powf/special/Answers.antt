@@ -1,4 +1,4 @@
-use Rattle.std.proofs.Common.{◌≡◌, ℕ, ◌%◌, ◌^◌, ◌≤◌, sym, refl, ap, ◌∙◌, subst, lit≤}
+use Rattle.std.proofs.Common.{◌≡◌, ℕ, ◌%◌, ◌^◌, ◌≤◌, sym, refl, ap, ◌∙◌, subst}
 use lib.Ieee.{nan, binary32, div, of_bits}
 use Rattle.elementary.proofs.Common.{no_nan_bits}
 use Rattle.elementary.proofs.powf.Cases.{at_zero, at_one, at-below, at-num, num-mod}
@@ -8,14 +8,8 @@ zero_by_zero : div binary32 (of_bits binary32 0) (of_bits binary32 0) ≡ nan
 unfolding div of_bits
 zero_by_zero = refl
 
-pub float_from_bits-result : goal.float_from_bits-result
-float_from_bits-result c = no_nan_bits 0x3F800000 (lit≤ tt)
-
 pub returns-then-c-eq0 : goal.returns-then-c-eq0
 returns-then-c-eq0 c = sym (at_zero c.args.b c.args.c c.if-c-eq0.true)
-
-pub float_from_bits-result-then-b-eq1065353216 : goal.float_from_bits-result-then-b-eq1065353216
-float_from_bits-result-then-b-eq1065353216 c = no_nan_bits 0x3F800000 (lit≤ tt)
 
 pub returns-then-b-eq1065353216 : goal.returns-then-b-eq1065353216
 returns-then-b-eq1065353216 c = sym (at_one c.args.b c.args.c c.if-b-eq1065353216.true)
@@ -25,18 +19,8 @@ returns-then-b-gt2147483648 c =
     zero_by_zero ∙ sym (at-below c.args.b c.args.c c.if-c-eq0.false c.if-b-eq1065353216.false
     c.if-b-gt2147483648.true)
 
-pub special_bits-requires : goal.special_bits-requires
-special_bits-requires c =
-    let p = c.requires in (
-      c.if-b-gt2147483648.false,
-      p.x_number,
-      p.y_number,
-      λ l h. p.infinite l h c.if-b-eq1065353216.false
-          c.if-c-eq0.false,
-    )
-
-pub float_from_bits-result-else-b-gt2147483648 : goal.float_from_bits-result-else-b-gt2147483648
-float_from_bits-result-else-b-gt2147483648 c =
+pub float_from_bits-result : goal.float_from_bits-result
+float_from_bits-result c =
     no_nan_bits c.special_bits.result (subst (λ (i : ℕ). i % 2 ^ 31 ≤ 0x7F800000)
     (sym c.special_bits.ensures) (num-mod c.args.b c.args.c c.if-b-gt2147483648.false))
 
