@@ -3,6 +3,8 @@
 // 38 bytes: k is e, l or p, the others are bit patterns in hex.
 #![tactic(auto)]
 
+ghost use Rattle.std.specs.Prelude.{◌<◌};
+
 use float32::{from_bits, to_bits};
 use std::io;
 use std::io::Read;
@@ -14,8 +16,15 @@ struct Tally {
     outside: u64,
 }
 
-fn word(hex: &[u8]) -> Option<u32> {
-    u32::from_str_radix(str::from_utf8(hex).ok()?, 16).ok()
+// A hex digit; of a byte that is none, some number below 16.
+fn digit(byte: u8) -> u32
+    ensures { result < 16 }
+{
+    u32::from(if byte < 58 { byte } else { byte % 16 + 9 }) % 16
+}
+
+fn word(hex: &[u8]) -> u32 {
+    hex.iter().fold(0, |word: u32, byte| word % 268435456 * 16 + digit(*byte))
 }
 
 fn result(k: u8, x: f32, y: f32) -> f32 {
@@ -26,14 +35,12 @@ fn result(k: u8, x: f32, y: f32) -> f32 {
     }
 }
 
-// Whether the result lies within what the line accepts; None where the line can't be read.
-fn is_within(line: &[u8; 38]) -> Option<bool> {
-    let x = from_bits(word(&line[2..10])?);
-    let y = from_bits(word(&line[11..19])?);
-    let least = word(&line[20..28])?;
-    let most = word(&line[29..37])?;
+// Whether the result lies within what the line accepts.
+fn is_within(line: &[u8; 38]) -> bool {
+    let x = from_bits(word(&line[2..10]));
+    let y = from_bits(word(&line[11..19]));
     let bits = to_bits(result(line[0], x, y));
-    Some(least <= bits && bits <= most)
+    word(&line[20..28]) <= bits && bits <= word(&line[29..37])
 }
 
 // At most 10000 lines, of which those that lie outside are printed.
@@ -44,7 +51,7 @@ fn all(rt: &impl Print, input: &mut impl Read) -> io::Result<Tally> {
         if reading::read_full(input, &mut line) < 38 {
             return Ok(Tally { rows, outside });
         }
-        if is_within(&line) != Some(true) {
+        if !is_within(&line) {
             rt.write_all(&line)?;
             outside += 1;
         }
