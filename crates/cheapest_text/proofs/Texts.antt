@@ -16,10 +16,8 @@ use Rattle.report.specs.Lines.{refused_line}
 use Rattle.report.proofs.WriteLaws.{refused-short, cheapest-short}
 use Rattle.entry.specs.Refusals.{number_of, second_of}
 use Rattle.simulation.specs.State.{Lent}
-use Rattle.retention.specs.declared.SearchAnswer.{SearchAnswer}
-use Rattle.retention.specs.declared.SearchAnswer.TheVariants as said
 use Rattle.retention.specs.Trials.{search_inputs}
-use Rattle.retention.specs.Retention.{answer_of, SearchContract}
+use Rattle.retention.specs.Retention.{SearchAnswer, answer_of, SearchContract}
 use Rattle.forecast_text.specs.Settings.{most_span, default_settings, config_of, parameters_of}
 use Rattle.forecast_text.specs.Forecast.{lists}
 use Rattle.cheapest_text.specs.Cheapest.{cheapest_search, answer_text, verdict_text, cheapest_text}
@@ -45,8 +43,8 @@ module _ (text : List ℕ) (base : Settings) (x : Reading) (b : base ≡ default
 -- 90 bytes are room enough
 answer_fits : (a : SearchAnswer) → length (answer_text a) ≤ 90
 unfolding answer_text
-answer_fits (said.Found x) = cheapest-short x.retention x.rounds x.mean
-answer_fits (said.Refused r) = omega (arith, refused-short (number_of r) (second_of r))
+answer_fits (Ok x) = cheapest-short x.retention x.rounds x.mean
+answer_fits (Err r) = omega (arith, refused-short (number_of r) (second_of r))
 
 verdict_fits : (v : Result Unit ReadError) (s : Settings) → length (verdict_text v s) ≤ 90
 unfolding verdict_text

@@ -12,10 +12,8 @@ use Rattle.entry.specs.declared.Refusal.{Refusal}
 use Rattle.entry.specs.Refusals.{number_of, second_of}
 use Rattle.simulation.specs.State.{Lent}
 use Rattle.brent.specs.Search.{Searched}
-use Rattle.retention.specs.declared.SearchAnswer.{SearchAnswer}
-use Rattle.retention.specs.declared.SearchAnswer.TheVariants as said
 use Rattle.retention.specs.Trials.{search_inputs}
-use Rattle.retention.specs.Retention.{most_rounds, optimal_retention, answer_of}
+use Rattle.retention.specs.Retention.{SearchAnswer, most_rounds, optimal_retention, answer_of}
 use Rattle.forecast_text.specs.Settings.{most_span, default_settings, config_of, parameters_of}
 use Rattle.forecast_text.specs.Forecast.{lists}
 
@@ -26,8 +24,8 @@ cheapest_search s =
     (lists (replicate most_span (replicate 4 0)) (replicate most_span 0ᶠ) (replicate most_span 0ᶠ))
 
 unfoldable pub answer_text : SearchAnswer → List ℕ
-answer_text (said.Found x) = cheapest_line x.retention x.rounds x.mean
-answer_text (said.Refused r) = refused_line (number_of r) (second_of r)
+answer_text (Ok x) = cheapest_line x.retention x.rounds x.mean
+answer_text (Err r) = refused_line (number_of r) (second_of r)
 
 unfoldable pub verdict_text : Result Unit ReadError → Settings → List ℕ
 verdict_text (Err e) s = refused_line 11 (told e)

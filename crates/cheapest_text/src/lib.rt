@@ -6,53 +6,46 @@ ghost use Rattle.report.specs.Lines.{placed, written};
 ghost use Rattle.retention.specs.Retention.{answer_of};
 ghost use Rattle.cheapest_text.specs.Cheapest.{cheapest_search, answer_text, cheapest_text};
 
-use entry::refusals;
+use entry::{Learner, Lists, Refusal, refusals};
 use forecast_text::settings;
 use listing::Settings;
-use retention::SearchAnswer;
+use retention::Optimum;
 
 // The search over settings, in 64 rounds at the most.
-fn search(set: Settings) -> SearchAnswer
+fn search(set: Settings) -> Result<Optimum, Refusal>
     ensures { result ≡ answer_of (cheapest_search set).answer }
 {
-    let mut cards = [[0.0; 6]; 512];
-    let mut counts = [[0; 2]; 512];
-    let mut rows = [[0; 2]; 512];
-    let mut days = [[0; 4]; 730];
-    let mut costs = [0.0; 730];
-    let mut memorized = [0.0; 730];
-    let mut due = [0; 1095];
-    let mut keys = [[0; 2]; 4096];
-    let mut intervals = [0.0; 4096];
+    let mut lists = Lists {
+        cards: &mut [[0.0; 6]; 512],
+        counts: &mut [[0; 2]; 512],
+        rows: &mut [[0; 2]; 512],
+        days: &mut [[0; 4]; 730],
+        costs: &mut [0.0; 730],
+        memorized: &mut [0.0; 730],
+        due: &mut [0; 1095],
+        keys: &mut [[0; 2]; 4096],
+        intervals: &mut [0.0; 4096],
+    };
     let parameters = settings::floats_of(&set.parameters);
-    let n = settings::parameter_count(set);
-    let config = settings::config_of(set);
-    retention::optimal_retention(
-        &mut cards,
-        &mut counts,
-        &mut rows,
-        &mut days,
-        &mut costs,
-        &mut memorized,
-        &mut due,
-        &mut keys,
-        &mut intervals,
-        &parameters[..n],
-        &[],
-        &[],
-        config,
-        64,
-    )
+    let learner = Learner {
+        parameters: &parameters[..settings::parameter_count(set)],
+        existing: &[],
+        existing_counts: &[],
+    };
+    retention::optimal_retention(&mut lists, learner, settings::config_of(set), 64)
 }
 
-fn write_answer(out: &mut [u8], answer: SearchAnswer) -> Option<usize>
+#[tactic(auto, unfolding(crate::specs::Cheapest::answer_text))]
+fn write_answer(out: &mut [u8], answer: Result<Optimum, Refusal>) -> Option<usize>
     ensures { (result ≡ placed out.old 0 (answer_text answer))
         × (out.new ≡ written out.old 0 (answer_text answer)) }
 {
     match answer {
-        SearchAnswer::Found(x) => report::write_cheapest(out, 0, x.retention, x.rounds, x.mean),
-        SearchAnswer::Refused(r) => {
-            report::write_refused(out, 0, refusals::number_of(r), refusals::second_of(r))
+        Ok(x) => report::write_cheapest(out, 0, x.retention, x.rounds, x.mean),
+        Err(refusal) => {
+            let number = refusals::number_of(refusal);
+            let second = refusals::second_of(refusal);
+            report::write_refused(out, 0, number, second)
         }
     }
 }

@@ -1,5 +1,5 @@
 -- The run of settings: the call of `simulate` that the code makes is that of the definition.
-use mathlib.Core.Path.{◌≡◌, refl, sym, ap}
+use mathlib.Core.Path.{◌≡◌, refl, sym, ap, ◌∙◌}
 use Prim.Native.Nat.{ℕ, ◌≤◌}
 use native.Mathlib.Omega.{arith}
 use mathlib.Core.Bool.{Bool, true, false, cond}
@@ -22,16 +22,17 @@ pub run_days : (s : Settings) (days : List (List ℕ)) (costs memorized : List F
     (g : SimulatorConfig) (w : List Float) (x : Float) (r : Answer) (l : Lent Float)
     → g ≡ config_of s → w ≡ parameters_of s → x ≡ of_bits binary32 s.retention
     → RunContract (inputs g w x s.seed [] []) (state (lists days costs memorized) 0 s.seed) r l
-    → RunDays (run_with days costs memorized s) r l.days l.costs l.memorized
+    → {days' : List (List ℕ)} {costs' memorized' : List Float} → days' ≡ l.days → costs' ≡ l.costs
+    → memorized' ≡ l.memorized → RunDays (run_with days costs memorized s) r days' costs' memorized'
 unfolding run_with inputs_of
-run_days s days costs memorized g w x r l eg ew ex k =
+run_days s days costs memorized g w x r l eg ew ex k d c m =
     let k' : RunContract (inputs_of s) (state (lists days costs memorized) 0 s.seed) r l = rw
     (sym eg, sym ew, sym ex) k in
     record {
       answer_is = k'.result.answer;
-      days_are = ap (λ (x : Lent Float). x.days) k'.result.lists;
-      costs_are = ap (λ (x : Lent Float). x.costs) k'.result.lists;
-      memorized_are = ap (λ (x : Lent Float). x.memorized) k'.result.lists;
+      days_are = d ∙ ap (λ (x : Lent Float). x.days) k'.result.lists;
+      costs_are = c ∙ ap (λ (x : Lent Float). x.costs) k'.result.lists;
+      memorized_are = m ∙ ap (λ (x : Lent Float). x.memorized) k'.result.lists;
     }
 
 -- the first n of the parameters: all, or none where their form is missing

@@ -1,4 +1,6 @@
 -- The numbers are those of the answer, and the list that of the lengths.
+use Rattle.std.proofs.Common.{rules}
+use Rattle.capi.proofs.Left.{run_left}
 use Rattle.capi.proofs.run.drill_simulate.Goals as goal
 
 pub returns : goal.returns
@@ -6,5 +8,6 @@ returns c =
     record {
       answer = c.simulate-told.result;
       numbers_are = rw (c.numbers_of.ensures, c.short_list-list.ensures, c.lengths.ensures);
-      run = ?;
+      run = run_left c.simulate-told.new.lists (search rules) (search rules) (search rules) (search rules) (search rules)
+          (search rules) (search rules) (search rules) (search rules) c.simulate-told.ensures.run;
     }

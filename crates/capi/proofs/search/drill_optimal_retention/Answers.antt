@@ -1,4 +1,6 @@
 -- The numbers are those of the answer, and the list that of the lengths.
+use Rattle.std.proofs.Common.{rules}
+use Rattle.capi.proofs.Left.{search_left}
 use Rattle.capi.proofs.search.drill_optimal_retention.Goals as goal
 
 pub returns : goal.returns
@@ -6,5 +8,6 @@ returns c =
     record {
       answer = c.optimal_retention-told.result;
       numbers_are = rw (c.numbers_of.ensures, c.short_list-list.ensures, c.lengths.ensures);
-      search = c.optimal_retention-told.ensures.search;
+      search = search_left c.optimal_retention-told.new.lists (search rules) (search rules) (search rules) (search rules)
+          (search rules) (search rules) (search rules) (search rules) (search rules) c.optimal_retention-told.ensures.search;
     }
