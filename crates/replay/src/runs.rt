@@ -61,7 +61,7 @@ pub fn run(
     }
     shown::digests(rt, digest::of_lists(&lists))?;
     if r.function == 77 {
-        inputs.keep_cards(lists.cards, lists.counts, shown::progress_of(answer).cards);
+        inputs.keep_cards(&lists, shown::progress_of(answer).cards);
     }
     Ok(())
 }
