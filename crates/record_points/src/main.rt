@@ -100,15 +100,26 @@ fn show(
 ) -> io::Result<()> {
     match answer {
         Ok(progress) => {
-            print!(rt; "turns {} cards {} draws {:016x} day", progress.turns, progress.cards, progress.draws)?;
+            print!(rt;
+                "turns {} cards {} draws {:016x} day",
+                progress.turns, progress.cards, progress.draws
+            )?;
             for count in day {
                 print!(rt; " {count}")?;
             }
-            println!(rt; " {:08x} {:08x}", float32::to_bits(cost), float32::to_bits(memorized))
+            println!(rt;
+                " {:08x} {:08x}",
+                float32::to_bits(cost),
+                float32::to_bits(memorized)
+            )
         }
         Err(refused) => {
             let refusal = refused.refusal;
-            println!(rt; "refused {} {}", refusals::number_of(refusal), refusals::second_of(refusal))
+            println!(rt;
+                "refused {} {}",
+                refusals::number_of(refusal),
+                refusals::second_of(refusal)
+            )
         }
     }
 }
