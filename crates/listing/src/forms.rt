@@ -10,6 +10,7 @@ use crate::parts::{part_at, part_of};
 use crate::values::{all_bits, one_word, words};
 use crate::{Name, Settings, Token};
 
+// Not a match on the texts: it asks a proof for each byte at which a word may differ.
 #[tactic(auto, unfolding(crate::specs::Forms::name_of))]
 fn name_of(w: &[u8]) -> Option<Name>
     ensures { result ≡ name_of w.now }
