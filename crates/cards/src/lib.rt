@@ -266,6 +266,7 @@ fn weights_ok(row: &[f32]) -> bool
     amounts_ok(row) && sum_ok(total(row))
 }
 
+// The tests of the two tables differ in a word: the test as a closure would make them no shorter.
 #[tactic(auto, unfolding(crate::specs::Config::transitions_ok))]
 fn transitions_ok(table: [f32; 12]) -> bool
     ensures { result ≡ transitions_ok table }
