@@ -57,8 +57,8 @@ pub fn is_bad(card: Card) -> bool
     cards::is_kept(card) && !cards::card_ok(card)
 }
 
-// The first n existing cards are those that are kept as they must be, or refusal 5 tells the first that is not.
-#[tactic(auto, unfolding(crate::specs::Entry::check_first))]
+// Refusal 5 tells the first of the first n existing cards that is kept and not as it must be.
+// A card lies in two lists, neither known to be as long as the other, so it is read by its number.
 fn check_cards(learner: Learner<'_>, n: u32) -> Result<(), Refusal>
     ensures { result ≡ check_first learner.entry.existing.now learner.entry.existing_counts.now n }
 {

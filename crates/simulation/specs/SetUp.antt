@@ -58,12 +58,7 @@ add_card s k = record {
 
 -- a kept card joins, and is counted on its day
 unfoldable pub add_kept_card : ℕ → Deck → Card → Deck
-add_kept_card span s k = record {
-  cards = (add_card s k).cards;
-  counts = (add_card s k).counts;
-  queue = (add_card s k).queue;
-  due = add_due span s.due (day_of k.due);
-}
+add_kept_card span s k = record (add_card s k) { due = add_due span s.due (day_of k.due) }
 
 -- an existing card joins only if it is kept
 unfoldable pub add_existing_card : ℕ → Deck → Card → Deck

@@ -91,82 +91,22 @@ module _ {C : Type 0} where
 
   -- ---- a state with one part written anew, the others as they are
   abbrev pub with_cards : List (List Float) → State C → State C
-  with_cards x s = record {
-    cards = x;
-    counts = s.counts;
-    queue = s.queue;
-    days = s.days;
-    costs = s.costs;
-    memorized = s.memorized;
-    due = s.due;
-    table = s.table;
-    draws = s.draws;
-  }
+  with_cards x s = record s { cards = x }
 
   abbrev pub with_queue : Queue → State C → State C
-  with_queue x s = record {
-    cards = s.cards;
-    counts = s.counts;
-    queue = x;
-    days = s.days;
-    costs = s.costs;
-    memorized = s.memorized;
-    due = s.due;
-    table = s.table;
-    draws = s.draws;
-  }
+  with_queue x s = record s { queue = x }
 
   abbrev pub with_memorized : List Float → State C → State C
-  with_memorized x s = record {
-    cards = s.cards;
-    counts = s.counts;
-    queue = s.queue;
-    days = s.days;
-    costs = s.costs;
-    memorized = x;
-    due = s.due;
-    table = s.table;
-    draws = s.draws;
-  }
+  with_memorized x s = record s { memorized = x }
 
   abbrev pub with_due : List ℕ → State C → State C
-  with_due x s = record {
-    cards = s.cards;
-    counts = s.counts;
-    queue = s.queue;
-    days = s.days;
-    costs = s.costs;
-    memorized = s.memorized;
-    due = x;
-    table = s.table;
-    draws = s.draws;
-  }
+  with_due x s = record s { due = x }
 
   abbrev pub with_table : Table → State C → State C
-  with_table x s = record {
-    cards = s.cards;
-    counts = s.counts;
-    queue = s.queue;
-    days = s.days;
-    costs = s.costs;
-    memorized = s.memorized;
-    due = s.due;
-    table = x;
-    draws = s.draws;
-  }
+  with_table x s = record s { table = x }
 
   abbrev pub with_draws : ℕ → State C → State C
-  with_draws x s = record {
-    cards = s.cards;
-    counts = s.counts;
-    queue = s.queue;
-    days = s.days;
-    costs = s.costs;
-    memorized = s.memorized;
-    due = s.due;
-    table = s.table;
-    draws = x;
-  }
+  with_draws x s = record s { draws = x }
 
 -- the lists that a call is lent, and the state between two turns, of those lists
 abbrev pub lent_of : Lists → Lent Float

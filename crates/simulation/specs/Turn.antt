@@ -41,16 +41,7 @@ refuses r = stops (Err r)
 
 -- a card put off from day d
 unfoldable pub card_after_put_off : Card → ℕ → Card
-card_after_put_off k d = record {
-  difficulty = k.difficulty;
-  stability = k.stability;
-  last_date = k.last_date;
-  due = next_due d;
-  interval = k.interval;
-  desired_retention = k.desired_retention;
-  reps = k.reps;
-  lapses = k.lapses;
-}
+card_after_put_off k d = record k { due = next_due d }
 
 -- a card after an event on day d that gives it the interval v: a review that was not recalled is a lapse
 unfoldable pub card_after_event : Card → Bool → Memory → ℕ → Float → Card

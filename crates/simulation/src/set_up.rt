@@ -16,8 +16,8 @@ use cards::{Card, SimulatorConfig};
 use entry::{Learner, Lists, Settings};
 use queue::CardPriorityQueue;
 
-// The first n places of a list, or all of a shorter one, become x: a loop, since std's `fill` asks for a `clone` that
-// can't fail, which `T: Copy` doesn't promise.
+// The first n places of a list, or all of a shorter one, become x.
+// A loop: std's `fill` asks for a `clone` that can't fail, which `T: Copy` doesn't promise.
 fn fill_first<T: Copy>(list: &mut [T], n: usize, x: T)
     ensures { list.new ≡ filled x n list.old }
 {
@@ -26,7 +26,7 @@ fn fill_first<T: Copy>(list: &mut [T], n: usize, x: T)
     }
 }
 
-// The card at place `len` joins the queue of the first `len` of its lent rows.
+// The card at place `len` joins the queue of the first `len` of its lent rows; over the rows alone, as in turn.rt.
 fn push(rows: &mut [[u64; 2]], len: u32, key: u64) -> u32
     ensures { queue rows.new result ≡ pushed (queue rows.old len) len key }
 {

@@ -1,8 +1,7 @@
--- From the state that set-up leaves to the answer: the bound fits a u32, and what the loop leaves is what `finished`
--- says.
+-- From the state that set-up leaves to the answer: its cards are few, and what the loop leaves is what the run's
+-- definition says.
 use mathlib.Core.Path.{◌≡◌, ap, subst}
-use Prim.Native.Nat.{ℕ, ◌+◌, ◌*◌, ◌≤◌}
-use native.Mathlib.Nat.{mul-le-mul}
+use Prim.Native.Nat.{ℕ, ◌≤◌}
 use native.Mathlib.Omega.{arith}
 use Rattle.entry.specs.Entry.{passed}
 use Rattle.simulation.specs.declared.run.RunEnd.{RunEnd}
@@ -38,6 +37,3 @@ module _ {C : Type 0} (R : Rules C) (i : Inputs) (s : State C) {s₁ : State C}
       go : RunTurns R s₁ (bound R s₁) x l'
           → InnerContract R s₁ (answer_of x.stop (progress x.turns s₁.queue.len x.at.queued x.at.draws)) l'
       go r₁ = record { answer = λ y e. rw (r₁.stop_is y e, r₁.turns, r₁.queued, r₁.draws); lists = r₁.lists }
-
-pub bound_fits : (len span : ℕ) → len ≤ 65536 → span ≤ 36500 → len * (span + 1) ≤ 2392129536
-bound_fits len span h l = let k : span + 1 ≤ 36501 = omega arith in mul-le-mul h k
