@@ -22,6 +22,7 @@ pub extern "C" fn drill_push(rows: &mut [[u64; 2]], len: u32, card: u32, key: u6
     queue.len
 }
 
+// The first row's card, whatever the length; C passes `len` as to the others.
 #[unsafe(no_mangle)]
 pub extern "C" fn drill_peek_index(rows: &[[u64; 2]], len: u32) -> u32
     ensures { result ≡ front (queue rows.now len) }

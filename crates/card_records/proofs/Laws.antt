@@ -9,7 +9,6 @@ use Prim.Native.Nat.{ℕ, zero, suc, ◌+◌, ◌≤◌}
 use native.Mathlib.Omega.{arith}
 use lib.ListN.{length}
 use lib.Seq.{set_out}
-use Rattle.elementary.proofs.Filled.{fill_length}
 use Rattle.elementary.specs.Filled.{filled}
 use Rattle.entry.specs.Entry.{first_where}
 

@@ -10,8 +10,6 @@ use entry::{Learner, Lists, Settings, refusals};
 use simulation::{Progress, Refused};
 use std::io;
 
-const PARAMETERS: [f32; 34] = [0.5; 34];
-
 // Eight cards, ten days, two new cards a day; the rest as `SimulatorConfig::default` has it.
 fn settings() -> Settings {
     Settings {
@@ -50,69 +48,78 @@ fn card(stability: f32, last_date: f32, due: f32, lapses: u32) -> Card {
     }
 }
 
-// The lists of a run.
-#[derive(Drop)]
-struct Memory {
-    cards: [[f32; 6]; 8],
-    counts: [[u32; 2]; 8],
-    rows: [[u64; 2]; 8],
-    days: [[u32; 4]; 10],
-    costs: [f32; 10],
-    memorized: [f32; 10],
-    due: [u32; 15],
-    keys: [[u32; 2]; 64],
-    intervals: [f32; 64],
+// A run over records, which are copied to the rows lent for them, or over these rows as they stand; and its last day.
+fn forecast(
+    rt: &impl Print,
+    records: Option<&[Card]>,
+    existing: &mut [[f32; 6]],
+    existing_counts: &mut [[u32; 2]],
+) -> io::Result<()> {
+    let mut days = [[0; 4]; 10];
+    let mut costs = [0.0; 10];
+    let mut memorized = [0.0; 10];
+    let mut lists = Lists {
+        cards: &mut [[0.0; 6]; 8],
+        counts: &mut [[0; 2]; 8],
+        rows: &mut [[0; 2]; 8],
+        days: &mut days,
+        costs: &mut costs,
+        memorized: &mut memorized,
+        due: &mut [0; 15],
+        keys: &mut [[0; 2]; 64],
+        intervals: &mut [0.0; 64],
+    };
+    let parameters = &[0.5; 34];
+    let answer = match records {
+        Some(records) => card_records::simulate(
+            &mut lists,
+            existing,
+            existing_counts,
+            parameters,
+            records,
+            settings(),
+        ),
+        None => {
+            let learner = Learner {
+                parameters,
+                existing,
+                existing_counts,
+            };
+            simulation::simulate(&mut lists, learner, settings())
+        }
+    };
+    show(rt, answer, days[9], costs[9], memorized[9])
 }
 
-impl Memory {
-    fn new() -> Memory {
-        Memory {
-            cards: [[0.0; 6]; 8],
-            counts: [[0; 2]; 8],
-            rows: [[0; 2]; 8],
-            days: [[0; 4]; 10],
-            costs: [0.0; 10],
-            memorized: [0.0; 10],
-            due: [0; 15],
-            keys: [[0; 2]; 64],
-            intervals: [0.0; 64],
-        }
-    }
-
-    fn lists(&mut self) -> Lists<'_> {
-        Lists {
-            cards: &mut self.cards,
-            counts: &mut self.counts,
-            rows: &mut self.rows,
-            days: &mut self.days,
-            costs: &mut self.costs,
-            memorized: &mut self.memorized,
-            due: &mut self.due,
-            keys: &mut self.keys,
-            intervals: &mut self.intervals,
-        }
-    }
-}
-
-// A run's answer, and its last day.
 fn show(
     rt: &impl Print,
     answer: Result<Progress, Refused>,
-    memory: &Memory,
+    day: [u32; 4],
+    cost: f32,
+    memorized: f32,
 ) -> io::Result<()> {
     match answer {
         Ok(progress) => {
-            print!(rt; "turns {} cards {} draws {:016x} day", progress.turns, progress.cards, progress.draws)?;
-            for count in memory.days[9] {
+            print!(rt;
+                "turns {} cards {} draws {:016x} day",
+                progress.turns, progress.cards, progress.draws
+            )?;
+            for count in day {
                 print!(rt; " {count}")?;
             }
-            let cost = float32::to_bits(memory.costs[9]);
-            let memorized = float32::to_bits(memory.memorized[9]);
-            println!(rt; " {cost:08x} {memorized:08x}")
+            println!(rt;
+                " {:08x} {:08x}",
+                float32::to_bits(cost),
+                float32::to_bits(memorized)
+            )
         }
         Err(refused) => {
             let refusal = refused.refusal;
-            println!(rt; "refused {} {}", refusals::number_of(refusal), refusals::second_of(refusal))
+            println!(rt;
+                "refused {} {}",
+                refusals::number_of(refusal),
+                refusals::second_of(refusal)
+            )
         }
     }
 }
@@ -124,16 +131,7 @@ fn by_records<const ROWS: usize>(rt: &impl Print, records: &[Card]) -> io::Resul
 {
     let mut existing = [[7.0; 6]; ROWS];
     let mut existing_counts = [[7; 2]; 4];
-    let mut memory = Memory::new();
-    let answer = card_records::simulate(
-        &mut memory.lists(),
-        &mut existing,
-        &mut existing_counts,
-        &PARAMETERS,
-        records,
-        settings(),
-    );
-    show(rt, answer, &memory)?;
+    forecast(rt, Some(records), &mut existing, &mut existing_counts)?;
     let first = float32::to_bits(existing[0][1]);
     let last = float32::to_bits(existing[ROWS - 1][1]);
     let [reps, lapses] = existing_counts[2];
@@ -147,14 +145,7 @@ fn by_rows(rt: &impl Print, records: &[Card; 3]) -> io::Result<()> {
         cards::write_floats(&mut existing, i, *record);
         cards::write_counts(&mut existing_counts, i, *record);
     }
-    let learner = Learner {
-        parameters: &PARAMETERS,
-        existing: &existing,
-        existing_counts: &existing_counts,
-    };
-    let mut memory = Memory::new();
-    let answer = simulation::simulate(&mut memory.lists(), learner, settings());
-    show(rt, answer, &memory)
+    forecast(rt, None, &mut existing, &mut existing_counts)
 }
 
 fn main(rt: HostRuntime) -> io::Result<()> {

@@ -60,19 +60,21 @@ pub fn of_memory(w: &[f32], r: Record) -> u32 {
         25 => to_bits(m.stability_short_term(x, y, z, r.d)),
         26 => to_bits(m.forgetting_curve(x, y)),
         27 => to_bits(m.forgetting_curve_for_state(x, state)),
-        28 => to_bits(m.curve_for_state(state).retention_and_derivative(x).retention),
-        29 => to_bits(m.curve_for_state(state).retention_and_derivative(x).derivative),
+        28 => to_bits(
+            m.curve_for_state(state)
+                .retention_and_derivative(x)
+                .retention,
+        ),
+        29 => to_bits(
+            m.curve_for_state(state)
+                .retention_and_derivative(x)
+                .derivative,
+        ),
         30 => to_bits(m.next_interval_bisection(state, x)),
         31 => to_bits(m.next_interval_for_state(state, x)),
         32 => to_bits(m.next_interval(x, y)),
         33 => to_bits(m.scheduled(x, y, z)),
-        34 => u32::from(intervals::certifies_rounded_interval(
-            m.curve(x),
-            x,
-            y,
-            z,
-            from_bits(r.d),
-        )),
+        34 => u32::from(intervals::certifies_rounded_interval(m.curve(x), x, y, z, from_bits(r.d))),
         _ => 0,
     }
 }

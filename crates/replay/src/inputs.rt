@@ -13,7 +13,7 @@ ghost use Rattle.std.specs.Prelude.{◌+◌, ◌≤◌};
 
 use crate::record::Record;
 use cards::SimulatorConfig;
-use entry::{Learner, Settings};
+use entry::{Learner, Lists, Settings};
 use float32::from_bits;
 
 #[derive(Drop)]
@@ -69,8 +69,8 @@ impl Inputs {
     }
 
     // The cards that a run left, of which it has n, are the existing ones from now on.
-    pub fn keep_cards(&mut self, cards: &[[f32; 6]], counts: &[[u32; 2]], n: u32) {
-        for ((i, card), count) in (0..n).zip(cards).zip(counts) {
+    pub fn keep_cards(&mut self, lists: &Lists<'_>, n: u32) {
+        for ((i, card), count) in (0..n).zip(&*lists.cards).zip(&*lists.counts) {
             put(&mut self.existing, i, *card);
             put(&mut self.existing_counts, i, *count);
         }

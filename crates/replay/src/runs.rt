@@ -34,15 +34,14 @@ fn called(
         keys: lent(lists.keys, lengths[7]),
         intervals: lent(lists.intervals, lengths[8]),
     };
-    simulation::simulate(&mut lists, inputs.learner(parameters), inputs.settings(seed))
+    simulation::simulate(
+        &mut lists,
+        inputs.learner(parameters),
+        inputs.settings(seed),
+    )
 }
 
-pub fn run(
-    rt: &impl Print,
-    parameters: &[f32],
-    inputs: &mut Inputs,
-    r: Record,
-) -> io::Result<()> {
+pub fn run(rt: &impl Print, parameters: &[f32], inputs: &mut Inputs, r: Record) -> io::Result<()> {
     let mut lists = Lists {
         cards: &mut [[9.0; 6]; 4096],
         counts: &mut [[9; 2]; 4096],
@@ -61,7 +60,7 @@ pub fn run(
     }
     shown::digests(rt, digest::of_lists(&lists))?;
     if r.function == 77 {
-        inputs.keep_cards(lists.cards, lists.counts, shown::progress_of(answer).cards);
+        inputs.keep_cards(&lists, shown::progress_of(answer).cards);
     }
     Ok(())
 }

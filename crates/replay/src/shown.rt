@@ -16,7 +16,10 @@ pub fn answer(rt: &impl Print, answer: Result<Progress, Refused>) -> io::Result<
         ),
     };
     let p = progress_of(answer);
-    println!(rt; "run {number:08x} {second:08x} {:08x} {:08x} {:016x}", p.turns, p.cards, p.draws)
+    println!(rt;
+        "run {number:08x} {second:08x} {:08x} {:08x} {:016x}",
+        p.turns, p.cards, p.draws
+    )
 }
 
 pub fn progress_of(answer: Result<Progress, Refused>) -> Progress {
@@ -51,5 +54,8 @@ pub fn rows(rt: &impl Print, lists: &Lists<'_>, span: u32) -> io::Result<()> {
 }
 
 pub fn digests(rt: &impl Print, d: Digests) -> io::Result<()> {
-    println!(rt; "digests {:08x} {:08x} {:08x} {:08x}", d.cards, d.days, d.due, d.table)
+    println!(rt;
+        "digests {:08x} {:08x} {:08x} {:08x}",
+        d.cards, d.days, d.due, d.table
+    )
 }

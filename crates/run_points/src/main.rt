@@ -35,7 +35,11 @@ fn day(rt: &impl Print, counts: [u32; 4], cost: f32, memorized: f32) -> io::Resu
     for count in counts {
         print!(rt; " {count}")?;
     }
-    println!(rt; " {:08x} {:08x}", float32::to_bits(cost), float32::to_bits(memorized))
+    println!(rt;
+        " {:08x} {:08x}",
+        float32::to_bits(cost),
+        float32::to_bits(memorized)
+    )
 }
 
 // A run over lists of these lengths, and those of its days that are to be shown.
@@ -70,7 +74,10 @@ fn forecast<const CARDS: usize, const DAYS: usize, const DUE: usize, const TABLE
     };
     match simulation::simulate(&mut lists, learner, settings) {
         Ok(progress) => {
-            println!(rt; "turns {} cards {} draws {:016x}", progress.turns, progress.cards, progress.draws)?;
+            println!(rt;
+                "turns {} cards {} draws {:016x}",
+                progress.turns, progress.cards, progress.draws
+            )?;
             for i in shown {
                 if *i < lists.days.len() && *i < lists.costs.len() && *i < lists.memorized.len() {
                     day(rt, lists.days[*i], lists.costs[*i], lists.memorized[*i])?;
@@ -80,7 +87,11 @@ fn forecast<const CARDS: usize, const DAYS: usize, const DUE: usize, const TABLE
         }
         Err(refused) => {
             let refusal = refused.refusal;
-            println!(rt; "refused {} {}", refusals::number_of(refusal), refusals::second_of(refusal))
+            println!(rt;
+                "refused {} {}",
+                refusals::number_of(refusal),
+                refusals::second_of(refusal)
+            )
         }
     }
 }

@@ -67,7 +67,12 @@ fn search(rt: &impl Print, config: SimulatorConfig, rounds: u32) -> io::Result<(
     let answer = retention::optimal_retention(&mut lists, learner, config, rounds);
     match answer {
         Ok(x) => {
-            print!(rt; "found {:08x} {:08x} {}", to_bits(x.retention), to_bits(x.mean), x.rounds)?;
+            print!(rt;
+                "found {:08x} {:08x} {}",
+                to_bits(x.retention),
+                to_bits(x.mean),
+                x.rounds
+            )?;
             println!(rt; " {:08x} {:08x}", to_bits(costs[0]), to_bits(memorized[0]))
         }
         Err(_) => {

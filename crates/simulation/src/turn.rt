@@ -85,7 +85,7 @@ fn slot_for(lists: &Lists<'_>, rules: Rules, stability: f32, retention: f32) -> 
 }
 
 // ---- the queue, of the first `len` of its lent rows: the first card gets another key, or leaves
-// Over the rows alone: what a queue made of a field of `Lists` leaves in that field, no answer could name (tried).
+// Over the rows alone: what a queue made of a field of `Lists` leaves there has no name that an answer should cite.
 
 fn change_front(rows: &mut [[u64; 2]], len: u32, key: u64)
     ensures { queue rows.new len ≡ front_changed (queue rows.old len) key }

@@ -1,7 +1,7 @@
 -- The tests before refusal 5, and then how many records pass it.
 use mathlib.Core.Path.{sym, ◌∙◌}
 use native.Mathlib.Omega.{arith}
-use borrow.Author.Tests.{lt-ltb, le-ltb}
+use borrow.Author.Tests.{lt-ltb}
 use Rattle.std.proofs.lemmas.Result.{err_from_is_err_and}
 use Rattle.entry.proofs.Tests.{settings_pass, settings_fail, settings_passed}
 use Rattle.card_records.proofs.Call.{room_told}
@@ -22,12 +22,6 @@ pub returns-then-good-n-clause-tests : goal.returns-then-good-n-clause-tests
 returns-then-good-n-clause-tests c =
     let e = sym c.check_settings.ensures ∙ c.in_ok-check_settings.was in
     rw (← c.is_finite-finite.ensures, ← c.lists_ok-long.ensures, ← c.first_not_ok-good.ensures, lt-ltb _ _ c.if-good-n.true)
-    (sym (settings_pass _ _ _ _ _ e _))
-
-pub returns-clause-tests : goal.returns-clause-tests
-returns-clause-tests c =
-    let e = sym c.check_settings.ensures ∙ c.in_ok-check_settings.was in
-    rw (← c.is_finite-finite.ensures, ← c.lists_ok-long.ensures, ← c.first_not_ok-good.ensures, le-ltb _ _ c.if-good-n.false)
     (sym (settings_pass _ _ _ _ _ e _))
 
 pub returns-clause-fits : goal.returns-clause-fits

@@ -2,11 +2,10 @@
 -- run stops as the whole.
 --   Going R s₀ bound s k    the state after k turns, of at most bound
 --   going_on, going_stops   one more turn, or a stop
---   going_spent             as many turns as the bound
 --   going_start             no turn yet
 use mathlib.Core.Path.{◌≡◌, refl, sym, ap, ◌∙◌}
 use mathlib.Core.List.{[], ◌∷◌}
-use mathlib.Core.Option.{none, some}
+use mathlib.Core.Option.{some}
 use Prim.Native.Nat.{ℕ, suc, ◌+◌, ◌-◌, ◌≤◌, ◌<◌}
 use native.Mathlib.Omega.{arith}
 use lib.ListN.{length}
@@ -44,9 +43,6 @@ stopped_same (Err r) (Err r') e = cc
 
 same_stop : (x y : Stop) → some x ≡ some y → x ≡ y
 same_stop x y e = cc
-
-no_stop : (x : Stop) → none ≡ some x → ⊥
-no_stop x e = not-one cc
 
 module _ {C : Type 0} (R : Rules C) (s₀ : State C) (bound : ℕ) where
   abbrev after : ℕ → RunState (Turn Drawn) (State C)
@@ -110,21 +106,6 @@ module _ {C : Type 0} (R : Rules C) (s₀ : State C) (bound : ℕ) where
               draws = ap (λ (z : State C). z.draws) s;
               lists = h.lists ∙ ap lists_of s;
             }
-
-  pub going_spent : {x : Lent C} {n draws k : ℕ} → Going (state x n draws) k → bound ≤ k
-      → RunTurns R s₀ bound (record { stop = Ok tt; turns = k; at = record { queued = n; draws = draws } }) x
-  going_spent {x} {n} {draws} {k} i l =
-      let e : k ≡ bound = omega (arith, i.within) in
-      let zero_left : bound - k ≡ 0 = omega arith in
-      let st : State C = state x n draws in
-      let s : st ≡ (after bound).state = i.at ∙ ap (λ (z : ℕ). (after z).state) e in
-      record {
-        stop_is = λ w ew. absurd (no_stop w (ap (λ (z : ℕ). stop_of (next R) z st) (sym zero_left) ∙ i.left ∙ ew));
-        turns = sym i.many ∙ ap (λ (z : ℕ). length (after z).turns) e;
-        queued = ap (λ (z : State C). z.queue.len) s;
-        draws = ap (λ (z : State C). z.draws) s;
-        lists = ap lists_of s;
-      }
 
 pub going_start : {C : Type 0} (R : Rules C) (bound : ℕ) (s : State C) → Going R s bound s 0
 going_start R bound s =
