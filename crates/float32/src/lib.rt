@@ -1,4 +1,4 @@
-// Rust's functions on `f32` that Rattle's operators lack, each for every input.
+// Rust's functions on `f32`, each for every input: the library's, where it has one that promises the same.
 #![tactic(auto)]
 
 ghost use Rattle.std.specs.Prelude.{◌≡◌, ◌+◌, ◌-◌, ◌*◌, ◌/◌, ◌%◌, ◌^◌, ◌<◌, ◌≤◌, pos};
