@@ -104,7 +104,7 @@ fn quick_powers(x: &mut [f32; 64], y: f32, n: usize)
     let mut e: [u64; 64] = [0; 64];
     let mut f: [u64; 64] = [0; 64];
     intervals(&mut e, &mut f, x, n);
-    args(&mut e, &f, x, f32::to_bits(y), n);
+    args(&mut e, &f, x, y.to_bits(), n);
     powers(&mut f, &e, n);
     values(x, &e, &f, n);
 }

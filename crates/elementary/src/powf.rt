@@ -79,7 +79,7 @@ fn special(b: u32, c: u32) -> f32
     } else if b == 0x3F800000 {
         1.0
     } else if 0x80000000 < b {
-        0.0 / 0.0
+        f32::NAN
     } else {
         f32::from_bits(special_bits(b, c))
     }
