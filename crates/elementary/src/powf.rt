@@ -17,7 +17,7 @@ fn is_odd(a: u32) -> bool
     }
 }
 
-// A zero to the y, without a sign.
+// A zero to the y, without a sign. Its mirror `inf_bits` stands apart, as in the definition: one with both values is no shorter.
 fn zero_size(c: u32) -> u32
     ensures { result ≡ zero_size c }
 {
