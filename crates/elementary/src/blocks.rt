@@ -1,6 +1,7 @@
 // The powers of a block of up to 64 numbers to one exponent, each as powf has it. A step of powf is a loop over the
 // whole block here: a loop without a table is compiled to operations on several numbers at once, and none waits for the
-// chain of a whole power. A block is an array of 64 with a count beside it, not a slice: no place then needs a test.
+// chain of a whole power.
+// With no heap the words of a step lie in arrays of 64: a block is one as well, and one count n tells how far each is filled.
 ghost use Rattle.std.specs.Prelude.{◌≡◌, ℕ, ◌+◌, ◌*◌, ◌/◌, ◌%◌, ◌^◌, ◌<◌, ◌≤◌, min, true, from_bits, slice_index, slice_index_or, to_bits};
 ghost use Rattle.std.specs.Float.{nan, binary32};
 ghost use Rattle.power_tables.specs.Tables.{line_word, curvature, power_word};
