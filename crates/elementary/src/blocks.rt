@@ -1,6 +1,7 @@
 // The powers of a block of up to 64 numbers to one exponent, each as powf has it. A step of powf is a loop over the
 // whole block here: a loop without a table is compiled to operations on several numbers at once, and none waits for the
 // chain of a whole power.
+// With no heap the words of a step lie in arrays of 64: a block is one as well, and one count n tells how far each is filled.
 ghost use Rattle.std.specs.Prelude.{◌≡◌, ℕ, ◌+◌, ◌*◌, ◌/◌, ◌%◌, ◌^◌, ◌<◌, ◌≤◌, min, true, from_bits, slice_index, slice_index_or, to_bits};
 ghost use Rattle.std.specs.Float.{nan, binary32};
 ghost use Rattle.power_tables.specs.Tables.{line_word, curvature, power_word};
@@ -10,27 +11,19 @@ ghost use Rattle.elementary.specs.Accuracy.{IsPow};
 ghost use Rattle.elementary.specs.Filled.{filled};
 ghost use Rattle.elementary.specs.Quick.{IsBase, IsDecay, quick_arg};
 
-// 0 only where x is from 1 to 2^32.
-fn outside_one(x: f32) -> u32
-    ensures { (result ≡ 0 → IsBase x) × (result ≤ 15) }
+// Whether x is from 1 to 2^32.
+fn is_base(x: f32) -> bool
+    ensures { result ≡ true → IsBase x }
 {
-    if x.is_nan() {
-        1
-    } else {
-        x.to_bits().wrapping_sub(0x3F800000) / 0x10000000
-    }
+    !x.is_nan() && x.to_bits().wrapping_sub(0x3F800000) < 0x10000000
 }
 
-// 0 only where the first n are from 1 to 2^32.
-fn outside(x: &[f32; 64], n: usize) -> u32
+// Whether the first n are from 1 to 2^32.
+fn are_bases(x: &[f32; 64], n: usize) -> bool
     requires { n ≤ 64 }
-    ensures { result ≡ 0 → (i : ℕ) → i < n → IsBase (slice_index_or x.now i nan) }
+    ensures { result ≡ true → (i : ℕ) → i < n → IsBase (slice_index_or x.now i nan) }
 {
-    let mut sum: u32 = 0;
-    for i in 0..n {
-        sum += outside_one(x[i]);
-    }
-    sum
+    x[..n].iter().copied().all(is_base)
 }
 
 // The words of the logarithms' intervals.
@@ -104,7 +97,7 @@ fn quick_powers(x: &mut [f32; 64], y: f32, n: usize)
     let mut e: [u64; 64] = [0; 64];
     let mut f: [u64; 64] = [0; 64];
     intervals(&mut e, &mut f, x, n);
-    args(&mut e, &f, x, f32::to_bits(y), n);
+    args(&mut e, &f, x, y.to_bits(), n);
     powers(&mut f, &e, n);
     values(x, &e, &f, n);
 }
@@ -121,7 +114,7 @@ fn one_by_one(x: &mut [f32; 64], y: f32, n: usize)
     }
 }
 
-// As many of n as a block holds.
+// As many of n as a block holds: the name of a block's length, which callers share.
 pub fn up_to_64(n: usize) -> usize
     ensures { (result ≡ min n 64) × (result ≤ 64) }
 {
@@ -134,7 +127,7 @@ fn powers_of_first(x: &mut [f32; 64], y: f32, n: usize)
     ensures bound { (i : ℕ) → i < n
         → IsPow (slice_index_or x.old i nan) y (pow_of (slice_index_or x.old i nan) y) }
 {
-    if is_decay(y) && outside(x, n) == 0 {
+    if is_decay(y) && are_bases(x, n) {
         quick_powers(x, y, n);
     } else {
         one_by_one(x, y, n);

@@ -62,7 +62,7 @@ fn to_fixed(a: u32) -> u64
     requires { (0x33000000 ≤ a) × (a < 0x42B17218) }
     ensures { result ≡ fixed a }
 {
-    ((a % 8388608 + 8388608) as u64) << (a / 8388608 - 102)
+    u64::from(a % 8388608 + 8388608) << (a / 8388608 - 102)
 }
 
 // x + 127 ln 2, from the bit pattern of x and |x|, less what makes it a lower bound.
@@ -95,7 +95,7 @@ fn exp_at(b: u32) -> f32
         let z = shift(b, to_fixed(a));
         pack(z / LN2, z % LN2)
     } else if b < 0x80000000 {
-        f32::from_bits(0x7F800000)
+        f32::INFINITY
     } else {
         0.0
     }

@@ -45,7 +45,7 @@ pub(crate) fn ranged(z: u64, d: u64) -> f32
         if z < ARG_INFINITE {
             return f32::from_bits(normal(z / 4294967296 - 8388608, d));
         }
-        return f32::from_bits(0x7F800000);
+        return f32::INFINITY;
     }
     if z < ARG_ZERO {
         0.0

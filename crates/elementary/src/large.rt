@@ -79,11 +79,11 @@ fn fine_log2(x: u64) -> u64
     requires { (2 ^ 58 ≤ x) × (x < 2 ^ 62) }
     ensures { result ≡ fine_log2 x }
 {
-    let z = u64::leading_zeros(x);
+    let z = x.leading_zeros();
     let y = (x << z) / 268435456;
     let i = y / 67108864 - 512;
     let f = fine_log2_at(i, y % 67108864);
-    ((162 - z) as u64) * 34359738368 + (f + i * 67108864)
+    u64::from(162 - z) * 34359738368 + (f + i * 67108864)
 }
 
 // y log2 x + 2^16 + 126 in units of 2^-39.
@@ -91,7 +91,7 @@ fn fine_arg(l: u64, c: u32) -> u64
     requires { (157 * 2 ^ 35 ≤ l) × (l ≤ 161 * 2 ^ 35 + 8) }
     ensures { result ≡ fine_arg l c }
 {
-    let u = ((c % 8388608 + 8388608) as u64) * l.abs_diff(LOG2_ONE) / 8192;
+    let u = u64::from(c % 8388608 + 8388608) * l.abs_diff(LOG2_ONE) / 8192;
     super::power::signed_arg(LOG2_ONE, l, c, u)
 }
 
@@ -107,7 +107,7 @@ fn squared(p: u32, c: u32) -> u64
     }
     if p < PATTERN_FOUR {
         if k <= 24 {
-            let m = (8388608 + p % 8388608) as u64;
+            let m = u64::from(8388608 + p % 8388608);
             return squares(k, m << (p / 8388608 - 122));
         }
         if p < PATTERN_ONE {

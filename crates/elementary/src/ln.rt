@@ -49,9 +49,9 @@ pub(crate) fn exponent_of(b: u32) -> u64
     ensures { result ≡ exponent b }
 {
     if b < 8388608 {
-        (41 - u32::leading_zeros(b)) as u64
+        u64::from(41 - b.leading_zeros())
     } else {
-        (32 + b / 8388608) as u64
+        u64::from(32 + b / 8388608)
     }
 }
 
@@ -61,9 +61,9 @@ pub(crate) fn significand_of(b: u32) -> u64
     ensures { result ≡ significand b }
 {
     if b < 8388608 {
-        (b << (u32::leading_zeros(b) - 8)) as u64
+        u64::from(b << (b.leading_zeros() - 8))
     } else {
-        (b % 8388608 + 8388608) as u64
+        u64::from(b % 8388608 + 8388608)
     }
 }
 
@@ -99,7 +99,7 @@ fn round_fixed(w: u64) -> u32
     requires { 0 < w }
     ensures { result ≡ rounded w }
 {
-    let z = u64::leading_zeros(w);
+    let z = w.leading_zeros();
     (137 - z) * 8388608 + (((w << z) / 549755813888 + 1) / 2) as u32
 }
 
@@ -126,15 +126,15 @@ pub fn ln_f32(x: f32) -> f32
     let b = x.to_bits();
     if b < 0x7F800000 {
         if b == 0 {
-            return f32::from_bits(0xFF800000);
+            return f32::NEG_INFINITY;
         }
         return f32::from_bits(ln_rounded(ln_wide(exponent_of(b), significand_of(b))));
     }
     if b == 0x7F800000 {
         x
     } else if b == 0x80000000 {
-        f32::from_bits(0xFF800000)
+        f32::NEG_INFINITY
     } else {
-        0.0 / 0.0
+        f32::NAN
     }
 }

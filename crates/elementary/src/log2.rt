@@ -9,15 +9,15 @@ pub(crate) fn log2_by(line: u64, bend: u64, p: u32) -> u64
     ensures { result ≡ log2_of p }
 {
     let t = p % 16384;
-    let s = (p << 18) as u64;
-    ((p / 16384) as u64) * 8388608
-        + (line + line % 4294967296 * s - bend % 4294967296 * ((t * t) as u64)) / 34359738368
+    let s = u64::from(p << 18);
+    u64::from(p / 16384) * 8388608
+        + (line + line % 4294967296 * s - bend % 4294967296 * u64::from(t * t)) / 34359738368
 }
 
 // The logarithm of a pattern, counted from where the patterns are.
 pub(crate) fn log2_of(p: u32) -> u64
     ensures { result ≡ log2_of p }
 {
-    let e = power_tables::interval_at((p / 16384) as u64);
+    let e = power_tables::interval_at(u64::from(p / 16384));
     log2_by(e.0, e.1, p)
 }

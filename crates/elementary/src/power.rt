@@ -17,7 +17,7 @@ pub(crate) fn normalized(b: u32) -> u32
     ensures { result ≡ Power.normalized b }
 {
     if b < 8388608 {
-        let z = u32::leading_zeros(b);
+        let z = b.leading_zeros();
         return (40 - z) * 8388608 + (b << (z - 8));
     }
     b + 0x10000000

@@ -17,7 +17,7 @@ fn is_odd(a: u32) -> bool
     }
 }
 
-// A zero to the y, without a sign.
+// A zero to the y, without a sign. Its mirror `inf_bits` stands apart, as in the definition: one with both values is no shorter.
 fn zero_size(c: u32) -> u32
     ensures { result ≡ zero_size c }
 {
@@ -79,7 +79,7 @@ fn special(b: u32, c: u32) -> f32
     } else if b == 0x3F800000 {
         1.0
     } else if 0x80000000 < b {
-        0.0 / 0.0
+        f32::NAN
     } else {
         f32::from_bits(special_bits(b, c))
     }

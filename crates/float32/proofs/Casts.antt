@@ -3,11 +3,9 @@
 --   two_to w, minus_two_to w           2 ^ w and -2 ^ w
 --   below                              the whole part of a fraction below P is below P
 --   above_zero, not-zero               2 ^ w is not 0
---   top_signed, top_unsigned           from 2 ^ w up it is the largest number
+--   top_signed                         from 2 ^ w up it is the largest number
 --   Middle x, middle                   from -2 ^ 31, below 2 ^ 31: what the function asks, and that it gives the cast
 --   bottom_signed, nan_signed          below -2 ^ 31, and a NaN
---   zero_unsigned                      -1 and below, and a NaN
---   Middle-unsigned, middle-unsigned   above -1 and below 2 ^ 32, as Middle
 use Rattle.std.proofs.Common.{◌≡◌, ℕ, ◌+◌, ◌-◌, ◌*◌, ◌/◌, ◌^◌, ◌<◌, ◌≤◌, min, Bool, true, false, not, ◌&&◌, ◌||◌, T, eqb, ltb, pos, negsuc, neg_ℤ, sym, refl, ap, le_of_lt, mul_comm, div-lt_iff_lt-mul, mul-pos, one-mul, le-div_iff_mul-le, arith, lit<, lit≤, eqb→eq, lt→ltb, T_not, pow_pos}
 use native.Mathlib.Nat.{div-le_of_le-mul}
 use lib.Ieee.{Float, nan, inf, fin, up, down, lt, eq, le, to_signed}

@@ -1,4 +1,4 @@
-// Rust's functions on `f32` that Rattle's operators lack, each for every input.
+// Rust's functions on `f32`, each for every input: the library's, where it has one that promises the same.
 #![tactic(auto)]
 
 ghost use Rattle.std.specs.Prelude.{◌≡◌, ◌+◌, ◌-◌, ◌*◌, ◌/◌, ◌%◌, ◌^◌, ◌<◌, ◌≤◌, pos};
@@ -191,6 +191,7 @@ pub fn pack(negative: bool, m: u64, e: u32) -> f32
 }
 
 // x to the nearest whole number, a half away from zero.
+#[tactic(auto, using(crate::proofs::Alike::round_is))]
 pub fn round(x: f32) -> f32
     ensures { result ≡ Float32.round x }
 {
@@ -198,6 +199,7 @@ pub fn round(x: f32) -> f32
 }
 
 // x * y + z, rounded once.
+#[tactic(auto, using(crate::proofs::Alike::mul_add_is))]
 pub fn mul_add(x: f32, y: f32, z: f32) -> f32
     ensures { result ≡ Float32.mul_add x y z }
 {

@@ -4,5 +4,5 @@ pub quick_powers-requires : goal.quick_powers-requires
 quick_powers-requires c = (
   c.requires,
   c.is_decay.ensures c.if-is_decay.true,
-  λ i h. c.outside.ensures c.if-outside-eq0.true i h,
+  λ i h. c.are_bases.ensures c.if-are_bases.true i h,
 )

@@ -55,9 +55,6 @@ returns-then-a-limit_of c =
     (ap (λ (z : ℕ). packed (z / (ln2 + 1)) (z % (ln2 + 1))) (z_is c.before)
     ∙ sym (bits_is b ∙ abs-mid (ltb b (2 ^ 31)) (b % 2 ^ 31) c.if-a-lt-PATTERN_ONE.false l))
 
-pub float_from_bits-result : goal.float_from_bits-result
-float_from_bits-result c = no_nan_bits 0x7F800000 (lit≤ tt)
-
 pub returns-then-b-lt2147483648 : goal.returns-then-b-lt2147483648
 returns-then-b-lt2147483648 c =
     let b = c.args.b in

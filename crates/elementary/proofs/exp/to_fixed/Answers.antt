@@ -5,4 +5,4 @@ use Rattle.elementary.proofs.exp.to_fixed.Goals as goal
 
 pub returns : goal.returns
 unfolding fixed
-returns c = mod-eq_of_lt (lt_of_lt_of_le (fixed_pos c.args.a c.requires.1) (lit≤ tt))
+returns c = rw c.from.ensures (mod-eq_of_lt (lt_of_lt_of_le (fixed_pos c.args.a c.requires.1) (lit≤ tt)))

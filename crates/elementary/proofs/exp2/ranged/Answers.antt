@@ -16,9 +16,6 @@ returns-then-z-lt-ARG_INFINITE c =
     ap (of_bits binary32) (c.normal.ensures ∙ normal_is c.args.z c.args.d c.requires
     c.if-z-ge-ARG_NORMAL.true c.if-z-lt-ARG_INFINITE.true)
 
-pub float_from_bits-result-then-z-ge-ARG_NORMAL : goal.float_from_bits-result-then-z-ge-ARG_NORMAL
-float_from_bits-result-then-z-ge-ARG_NORMAL c = below_nan 0x7F800000 (lit≤ tt)
-
 pub returns-then-z-ge-ARG_NORMAL : goal.returns-then-z-ge-ARG_NORMAL
 returns-then-z-ge-ARG_NORMAL c = ap (of_bits binary32) (sym (value_inf c.args.z c.if-z-lt-ARG_INFINITE.false))
 

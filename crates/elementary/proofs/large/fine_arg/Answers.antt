@@ -11,13 +11,13 @@ size c =
     (diff_le (159 * 2 ^ 35) c.args.l 68719476744 (omega arith) (omega arith)))
 
 pub overflow_mul-u : goal.overflow_mul-u
-overflow_mul-u c = omega (arith, size c)
+overflow_mul-u c = rw c.from.ensures (omega (arith, size c))
 
 pub signed_arg-requires : goal.signed_arg-requires
-signed_arg-requires c = omega (arith, size c)
+signed_arg-requires c = rw c.from.ensures (omega (arith, size c))
 
 pub returns : goal.returns
 unfolding fine_arg
 returns c =
-    c.signed_arg.ensures ∙ ap (λ (g : ℕ). signed_arg (159 * 2 ^ 35) c.args.l c.args.c
-    ((c.args.c % 2 ^ 23 + 2 ^ 23) * g / 2 ^ 13)) (c.abs_diff.ensures ∙ diff_is c.args.l (159 * 2 ^ 35))
+    c.signed_arg.ensures ∙ rw c.from.ensures (ap (λ (g : ℕ). signed_arg (159 * 2 ^ 35) c.args.l c.args.c
+    ((c.args.c % 2 ^ 23 + 2 ^ 23) * g / 2 ^ 13)) (c.abs_diff.ensures ∙ diff_is c.args.l (159 * 2 ^ 35)))

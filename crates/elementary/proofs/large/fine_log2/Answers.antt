@@ -17,5 +17,5 @@ overflow_sub-i c = omega (arith, shifted c, (tp c).low)
 pub returns : goal.returns
 returns c =
     let x = c.args.x in
-    fine-from x (x * 2 ^ count_leading_zeros 64 x % 2 ^ 64) c.fine_log2_at-f.result (shifted c.before)
-    c.fine_log2_at-f.ensures.0
+    rw c.from.ensures (fine-from x (x * 2 ^ count_leading_zeros 64 x % 2 ^ 64) c.fine_log2_at-f.result
+    (shifted c.before.before) c.fine_log2_at-f.ensures.0)

@@ -12,10 +12,10 @@ pub returns-then-k-le24 : goal.returns-then-k-le24
 returns-then-k-le24 c =
     let p = c.args.p in
     let r = start_range (p / 2 ^ 23) (2 ^ 23 + p % 2 ^ 23) (omega arith) (omega arith) (omega arith) (omega arith) in
-    c.squares.ensures ∙ ap (squares (c.args.c % 2 ^ 31 / 2 ^ 23 - 133))
+    c.squares.ensures ∙ rw c.from-m.ensures (ap (squares (c.args.c % 2 ^ 31 / 2 ^ 23 - 133))
     (mod-eq_of_lt (lt_of_lt_of_le r.1 (lit≤ tt)))
     ∙ sym (squared_2 p c.args.c c.if-p-lt-PATTERN_QUARTER.false c.if-p-lt-PATTERN_FOUR.true
-    c.if-k-le24.true)
+    c.if-k-le24.true))
 
 pub returns-then-p-lt-PATTERN_ONE : goal.returns-then-p-lt-PATTERN_ONE
 returns-then-p-lt-PATTERN_ONE c =

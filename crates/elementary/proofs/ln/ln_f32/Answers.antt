@@ -1,5 +1,5 @@
 use Rattle.std.proofs.Common.{◌≡◌, ℕ, ◌%◌, ◌^◌, ◌<◌, ◌≤◌, true, T, sym, refl, ap, ◌∙◌, subst, not, le_trans, pos_of_ne-zero, arith, lit≤}
-use lib.Ieee.{Float, nan, inf, binary32, div, is_nan, of_bits, to_bits, fits}
+use lib.Ieee.{Float, nan, inf, binary32, is_nan, of_bits, to_bits, fits}
 use lib.Ieee.Bits.{of_bits-to_bits, to_bits-lt}
 use Rattle.elementary.specs.Ln.{ln_fixed, ln_rounded, ln_at, ln_of}
 use Rattle.elementary.specs.Accuracy.{IsLn}
@@ -12,9 +12,9 @@ minus_infinity : of_bits binary32 4286578688 ≡ inf true
 unfolding of_bits
 minus_infinity = refl
 
-zero_by_zero : div binary32 (of_bits binary32 0) (of_bits binary32 0) ≡ nan
-unfolding div of_bits
-zero_by_zero = refl
+no_number : of_bits binary32 0x7FC00000 ≡ nan
+unfolding of_bits
+no_number = refl
 
 -- the law holds of what equals ln_of x
 law : (x r : Float) → T (fits binary32 x) → r ≡ ln_of x → IsLn x r
@@ -54,9 +54,6 @@ returns-then-is_nan c =
     let v : x ≡ ln_of x = e ∙ sym (ap ln_of e ∙ of_nan nan (unfold is_nan in tt)) in
     record { value = v; bound = law x x (subst T (sym c.well_formed.0.1) tt) v }
 
-pub float_from_bits-result : goal.float_from_bits-result
-float_from_bits-result c = no_nan_bits 4286578688 (lit≤ tt)
-
 pub returns-then-b-eq0 : goal.returns-then-b-eq0
 returns-then-b-eq0 c =
     let x = c.args.x in
@@ -75,8 +72,8 @@ ln_rounded-requires c =
     rw (w-is c) (fixed_gap b (pos_of_ne-zero c.if-b-eq0.false)
     c.if-b-lt2139095040.true)
 
-pub float_from_bits-result-then-b-lt2139095040 : goal.float_from_bits-result-then-b-lt2139095040
-float_from_bits-result-then-b-lt2139095040 c =
+pub float_from_bits-result : goal.float_from_bits-result
+float_from_bits-result c =
     let b = to_bits binary32 c.args.x in
     no_nan_bits c.ln_rounded.result
     (rw (bits_are c) (rounded-mod (ln_fixed b)
@@ -103,9 +100,6 @@ returns-then-b-eq2139095040 c =
     ∙ sym (ap ln_at c.if-b-eq2139095040.true ∙ at_infinity)) in
     record { value = v; bound = law x r (subst T (sym c.well_formed.0.1) tt) v }
 
-pub float_from_bits-result-then-b : goal.float_from_bits-result-then-b
-float_from_bits-result-then-b c = no_nan_bits 4286578688 (lit≤ tt)
-
 pub returns-then-b : goal.returns-then-b
 returns-then-b c =
     let x = c.args.x in
@@ -117,8 +111,8 @@ returns-then-b c =
 pub returns-else-b : goal.returns-else-b
 returns-else-b c =
     let x = c.args.x in
-    let r : Float = div binary32 (of_bits binary32 0) (of_bits binary32 0) in
+    let r : Float = of_bits binary32 0x7FC00000 in
     let v : r ≡ ln_of x = at_pattern x r (number_is x _ c.is_nan.ensures.value c.if-is_nan.false)
-    (zero_by_zero ∙ sym (at_rest (to_bits binary32 c.args.x) (not_zero x (subst T (sym c.well_formed.0.1) tt) c.if-b-lt2139095040.false
+    (no_number ∙ sym (at_rest (to_bits binary32 c.args.x) (not_zero x (subst T (sym c.well_formed.0.1) tt) c.if-b-lt2139095040.false
     c.if-b.false) c.if-b-lt2139095040.false c.if-b-eq2139095040.false)) in
     record { value = v; bound = law x r (subst T (sym c.well_formed.0.1) tt) v }

@@ -1,12 +1,12 @@
 use Rattle.std.proofs.Common.{◌≡◌, ℕ, ◌%◌, ◌^◌, ◌≤◌, sym, refl, ap, ◌∙◌, subst}
-use lib.Ieee.{nan, binary32, div, of_bits}
+use lib.Ieee.{nan, binary32, of_bits}
 use Rattle.elementary.proofs.Common.{no_nan_bits}
 use Rattle.elementary.proofs.powf.Cases.{at_zero, at_one, at-below, at-num, num-mod}
 use Rattle.elementary.proofs.powf.special.Goals as goal
 
-zero_by_zero : div binary32 (of_bits binary32 0) (of_bits binary32 0) ≡ nan
-unfolding div of_bits
-zero_by_zero = refl
+no_number : of_bits binary32 0x7FC00000 ≡ nan
+unfolding of_bits
+no_number = refl
 
 pub returns-then-c-eq0 : goal.returns-then-c-eq0
 returns-then-c-eq0 c = sym (at_zero c.args.b c.args.c c.if-c-eq0.true)
@@ -16,7 +16,7 @@ returns-then-b-eq1065353216 c = sym (at_one c.args.b c.args.c c.if-b-eq106535321
 
 pub returns-then-b-gt2147483648 : goal.returns-then-b-gt2147483648
 returns-then-b-gt2147483648 c =
-    zero_by_zero ∙ sym (at-below c.args.b c.args.c c.if-c-eq0.false c.if-b-eq1065353216.false
+    no_number ∙ sym (at-below c.args.b c.args.c c.if-c-eq0.false c.if-b-eq1065353216.false
     c.if-b-gt2147483648.true)
 
 pub float_from_bits-result : goal.float_from_bits-result
