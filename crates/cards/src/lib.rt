@@ -1,7 +1,7 @@
 // The configuration of a run, its cards by value and as rows of lent lists, and what a turn does with a card.
 #![tactic(auto)]
 
-ghost use Rattle.std.specs.Prelude.{ℕ, ◌≡◌, not, ◌&&◌};
+ghost use Rattle.std.specs.Prelude.{ℕ, ◌≡◌, not, ◌&&◌, [], ◌∷◌};
 ghost use Rattle.std.specs.List.{fold};
 ghost use Rattle.std.specs.Float.Ieee.{eq};
 ghost use Rattle.float32.specs.Float32.{is_finite};
@@ -221,16 +221,19 @@ pub fn decide(config: SimulatorConfig, card: Card, learned: u32, reviewed: u32, 
     }
 }
 
-// Row i of a table whose rows of four stand one after the other.
+// The rows of a table, which stand one after the other.
+#[tactic(auto, using(crate::proofs::Rows::rows_are))]
+fn rows_of(table: &[f32; 12]) -> &[[f32; 4]]
+    ensures { result.now ≡ row_of table.now 0 ∷ row_of table.now 1 ∷ row_of table.now 2 ∷ [] }
+{
+    table.as_chunks::<4>().0
+}
+
+// Row i of a table; row 3 and on are NaN.
 pub fn row_of(table: [f32; 12], i: u32) -> [f32; 4]
     ensures { result ≡ row_of table i }
 {
-    if i < 3 {
-        let at = 4 * i as usize;
-        [table[at], table[at + 1], table[at + 2], table[at + 3]]
-    } else {
-        [f32::NAN; 4]
-    }
+    rows_of(&table).get(i as usize).copied().unwrap_or([f32::NAN; 4])
 }
 
 #[tactic(auto, unfolding(crate::specs::Config::amount_ok))]
@@ -266,19 +269,18 @@ fn weights_ok(row: &[f32]) -> bool
     amounts_ok(row) && sum_ok(total(row))
 }
 
-// The tests of the two tables differ in a word: the test as a closure would make them no shorter.
-#[tactic(auto, unfolding(crate::specs::Config::transitions_ok))]
+#[tactic(auto, using(crate::proofs::Rows::all_three), unfolding(crate::specs::Config::transitions_ok))]
 fn transitions_ok(table: [f32; 12]) -> bool
     ensures { result ≡ transitions_ok table }
 {
-    weights_ok(&row_of(table, 0)) && weights_ok(&row_of(table, 1)) && weights_ok(&row_of(table, 2))
+    rows_of(&table).iter().all(|row| weights_ok(row))
 }
 
-#[tactic(auto, unfolding(crate::specs::Config::costs_ok))]
+#[tactic(auto, using(crate::proofs::Rows::all_three), unfolding(crate::specs::Config::costs_ok))]
 fn costs_ok(table: [f32; 12]) -> bool
     ensures { result ≡ costs_ok table }
 {
-    amounts_ok(&row_of(table, 0)) && amounts_ok(&row_of(table, 1)) && amounts_ok(&row_of(table, 2))
+    rows_of(&table).iter().all(|row| amounts_ok(row))
 }
 
 fn interval_ok(x: f32) -> bool
