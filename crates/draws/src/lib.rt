@@ -66,10 +66,11 @@ pub fn unit(word: u32) -> f32
     (word / 256) as f32 / 16777216.0
 }
 
-fn total(weights: &[f32]) -> f32
+// The sum of the weights, added from the first on to 0.
+pub fn total(weights: &[f32]) -> f32
     ensures { result ≡ Draws.sum_from 0ᶠ weights.now }
 {
-    let mut sum = 0.0;
+    let mut sum: f32 = 0.0;
     for &weight in weights {
         sum += weight;
     }
