@@ -1,4 +1,7 @@
--- A row of weights folded by a sum is its running sum; a table is three rows.
+-- A table of twelve is three rows of four.
+--   rows_are   its chunks are the rows
+--   row_is     a row by its number, NaN past the third
+--   all_three  a test of all three
 use mathlib.Core.Path.{◌≡◌, refl, ap, ◌∙◌}
 use mathlib.Core.List.{List, [], ◌∷◌}
 use mathlib.Core.Bool.{Bool, ◌&&◌}
@@ -11,16 +14,7 @@ use Rattle.std.proofs.Math.Bool.{and-true}
 use Rattle.std.specs.List.{list_all}
 use Rattle.std.specs.Simd.{first_chunks}
 use Rattle.cards.specs.Config.{row_of}
-use Rattle.std.specs.List.{fold}
-use Rattle.float32.specs.Ops.{◌+ᶠ◌}
-use Rattle.draws.specs.Draws.{sum_from}
 
-pub sum_is : (s : Float) (row : List Float) → fold (λ sum x. sum +ᶠ x) s row ≡ sum_from s row
-unfolding sum_from
-sum_is s [] = refl
-sum_is s (x ∷ row) = sum_is (s +ᶠ x) row
-
--- ---- a table of twelve as three rows of four
 step : (n i : ℕ) (xs : List Float) → i < length xs → take (suc n) (drop i xs) ≡ get_or xs i nan ∷ take n (drop (i + 1) xs)
 step n i xs h = at_drop_more (take (suc n)) xs i nan h
 

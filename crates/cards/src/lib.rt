@@ -2,10 +2,8 @@
 #![tactic(auto)]
 
 ghost use Rattle.std.specs.Prelude.{ℕ, ◌≡◌, not, ◌&&◌, [], ◌∷◌};
-ghost use Rattle.std.specs.List.{fold};
 ghost use Rattle.std.specs.Float.Ieee.{eq};
 ghost use Rattle.float32.specs.Float32.{is_finite};
-ghost use Rattle.float32.specs.Ops.{◌+ᶠ◌};
 ghost use Rattle.float32.specs.Numbers.{0ᶠ};
 ghost use Rattle.cards.specs.Day.{day_of, next_due, is_new};
 ghost use Rattle.cards.specs.Cards.{card_at, write_floats, write_counts, is_kept, date_ok, history_ok, card_ok};
@@ -45,6 +43,7 @@ pub struct SimulatorConfig {
     pub relearning_step_count: u32,
 }
 
+// A new card's last date is -infinity, as C has it.
 #[repr(C)]
 #[derive(Clone, Copy)]
 pub struct Card {
@@ -249,12 +248,6 @@ fn amounts_ok(row: &[f32]) -> bool
     row.iter().copied().all(amount_ok)
 }
 
-fn total(row: &[f32]) -> f32
-    ensures { result ≡ fold (λ sum x. sum +ᶠ x) 0ᶠ row.now }
-{
-    row.iter().copied().fold(0.0, |sum, x| sum + x)
-}
-
 // Whether `sum`, of finite weights, is finite and not 0.
 fn sum_ok(sum: f32) -> bool
     ensures { result ≡ is_finite sum && not (eq sum 0ᶠ) }
@@ -262,11 +255,11 @@ fn sum_ok(sum: f32) -> bool
     float32::is_finite(sum) && sum != 0.0
 }
 
-#[tactic(auto, using(crate::proofs::Rows::sum_is), unfolding(crate::specs::Config::weights_ok))]
+#[tactic(auto, unfolding(crate::specs::Config::weights_ok))]
 fn weights_ok(row: &[f32]) -> bool
     ensures { result ≡ weights_ok row.now }
 {
-    amounts_ok(row) && sum_ok(total(row))
+    amounts_ok(row) && sum_ok(draws::total(row))
 }
 
 #[tactic(auto, using(crate::proofs::Rows::all_three), unfolding(crate::specs::Config::transitions_ok))]
