@@ -248,6 +248,7 @@ pub fn begun(mean: f32) -> Brent
     }
 }
 
+// This and the next two ask that one round more fits into `done`, since any state may come from C.
 #[tactic(auto, unfolding(crate::specs::Step::after_worse))]
 fn after_worse(s: Brent, t: Trial, fu: f32) -> Brent
     requires { s.done < 4294967295 }

@@ -1,11 +1,9 @@
 // The configuration of a run, its cards by value and as rows of lent lists, and what a turn does with a card.
 #![tactic(auto)]
 
-ghost use Rattle.std.specs.Prelude.{ℕ, ◌≡◌, not, ◌&&◌};
-ghost use Rattle.std.specs.List.{fold};
+ghost use Rattle.std.specs.Prelude.{ℕ, ◌≡◌, not, ◌&&◌, [], ◌∷◌};
 ghost use Rattle.std.specs.Float.Ieee.{eq};
 ghost use Rattle.float32.specs.Float32.{is_finite};
-ghost use Rattle.float32.specs.Ops.{◌+ᶠ◌};
 ghost use Rattle.float32.specs.Numbers.{0ᶠ};
 ghost use Rattle.cards.specs.Day.{day_of, next_due, is_new};
 ghost use Rattle.cards.specs.Cards.{card_at, write_floats, write_counts, is_kept, date_ok, history_ok, card_ok};
@@ -45,6 +43,7 @@ pub struct SimulatorConfig {
     pub relearning_step_count: u32,
 }
 
+// A new card's last date is -infinity, as C has it.
 #[repr(C)]
 #[derive(Clone, Copy)]
 pub struct Card {
@@ -221,16 +220,19 @@ pub fn decide(config: SimulatorConfig, card: Card, learned: u32, reviewed: u32, 
     }
 }
 
-// Row i of a table whose rows of four stand one after the other.
+// The rows of a table, which stand one after the other.
+#[tactic(auto, using(crate::proofs::Rows::rows_are))]
+fn rows_of(table: &[f32; 12]) -> &[[f32; 4]]
+    ensures { result.now ≡ row_of table.now 0 ∷ row_of table.now 1 ∷ row_of table.now 2 ∷ [] }
+{
+    table.as_chunks::<4>().0
+}
+
+// Row i of a table; row 3 and on are NaN.
 pub fn row_of(table: [f32; 12], i: u32) -> [f32; 4]
     ensures { result ≡ row_of table i }
 {
-    if i < 3 {
-        let at = 4 * i as usize;
-        [table[at], table[at + 1], table[at + 2], table[at + 3]]
-    } else {
-        [f32::NAN; 4]
-    }
+    rows_of(&table).get(i as usize).copied().unwrap_or([f32::NAN; 4])
 }
 
 #[tactic(auto, unfolding(crate::specs::Config::amount_ok))]
@@ -246,12 +248,6 @@ fn amounts_ok(row: &[f32]) -> bool
     row.iter().copied().all(amount_ok)
 }
 
-fn total(row: &[f32]) -> f32
-    ensures { result ≡ fold (λ sum x. sum +ᶠ x) 0ᶠ row.now }
-{
-    row.iter().copied().fold(0.0, |sum, x| sum + x)
-}
-
 // Whether `sum`, of finite weights, is finite and not 0.
 fn sum_ok(sum: f32) -> bool
     ensures { result ≡ is_finite sum && not (eq sum 0ᶠ) }
@@ -259,26 +255,25 @@ fn sum_ok(sum: f32) -> bool
     float32::is_finite(sum) && sum != 0.0
 }
 
-#[tactic(auto, using(crate::proofs::Rows::sum_is), unfolding(crate::specs::Config::weights_ok))]
+#[tactic(auto, unfolding(crate::specs::Config::weights_ok))]
 fn weights_ok(row: &[f32]) -> bool
     ensures { result ≡ weights_ok row.now }
 {
-    amounts_ok(row) && sum_ok(total(row))
+    amounts_ok(row) && sum_ok(draws::total(row))
 }
 
-// The tests of the two tables differ in a word: the test as a closure would make them no shorter.
-#[tactic(auto, unfolding(crate::specs::Config::transitions_ok))]
+#[tactic(auto, using(crate::proofs::Rows::all_three), unfolding(crate::specs::Config::transitions_ok))]
 fn transitions_ok(table: [f32; 12]) -> bool
     ensures { result ≡ transitions_ok table }
 {
-    weights_ok(&row_of(table, 0)) && weights_ok(&row_of(table, 1)) && weights_ok(&row_of(table, 2))
+    rows_of(&table).iter().all(|row| weights_ok(row))
 }
 
-#[tactic(auto, unfolding(crate::specs::Config::costs_ok))]
+#[tactic(auto, using(crate::proofs::Rows::all_three), unfolding(crate::specs::Config::costs_ok))]
 fn costs_ok(table: [f32; 12]) -> bool
     ensures { result ≡ costs_ok table }
 {
-    amounts_ok(&row_of(table, 0)) && amounts_ok(&row_of(table, 1)) && amounts_ok(&row_of(table, 2))
+    rows_of(&table).iter().all(|row| amounts_ok(row))
 }
 
 fn interval_ok(x: f32) -> bool

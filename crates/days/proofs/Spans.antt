@@ -1,12 +1,14 @@
 -- Turns of the loops over days.
 --   introduce_turn, introduce_end   a day with one more card introduced, and the end
+--   added                           a chance is added to its day as a cost is
 --   range_turn, range_end           a day with one more chance, and the end
 --   chance-at                       the chances of a block, by its days
 --   block_start, block_turn         the loop over a block's days
 --   blocks_turn                     a whole block
-use mathlib.Core.Path.{◌≡◌, sym, ap, ap₂, ◌∙◌}
-use mathlib.Core.List.{List}
-use Prim.Native.Nat.{ℕ, zero, suc, ◌+◌, ◌-◌, ◌≤◌, ◌<◌}
+--   strides_turn                    a block of up to 64 days, and on by 64 days
+use mathlib.Core.Path.{◌≡◌, refl, sym, ap, ap₂, ◌∙◌}
+use mathlib.Core.List.{List, [], ◌∷◌}
+use Prim.Native.Nat.{ℕ, zero, suc, ◌+◌, ◌-◌, ◌≤◌, ◌<◌, min}
 use native.Mathlib.Nat.{le_trans, le_of_eq}
 use native.Mathlib.Omega.{arith}
 use lib.IntN.{pos}
@@ -15,7 +17,8 @@ use lib.Ieee.{Float, nan, binary32, add, sub, of_int}
 use Rattle.elementary.specs.Filled.{filled}
 use Rattle.elementary.proofs.Filled.{fill_at, fill_length}
 use Rattle.days.specs.Counts.{add_introduced, add_introduced_from}
-use Rattle.days.specs.Sums.{add_memorized, add_forgetting_curve_range}
+use Rattle.float32.specs.Numbers.{0ᶠ}
+use Rattle.days.specs.Sums.{add_cost, add_memorized, add_forgetting_curve_range}
 
 -- what is left to introduce equals the whole
 pub introduce_turn : (l l' l₀ : List (List ℕ)) (d to from : ℕ)
@@ -36,6 +39,17 @@ unfolding add_introduced_from
 introduce_end l l₀ d to from e h =
     let n : to - d ≡ 0 = omega arith in
     sym (ap (λ (m : ℕ). add_introduced_from l m d) n) ∙ e
+
+-- whatever a place past the list's end is read as
+added_by : (y z : Float) (l : List Float) (d : ℕ) (x : Float)
+    → set l d (add binary32 (get_or l d y) x) ≡ set l d (add binary32 (get_or l d z) x)
+added_by y z [] d x = refl
+added_by y z (k ∷ l) zero x = refl
+added_by y z (k ∷ l) (suc d) x = ap (λ (l : List Float). k ∷ l) (added_by y z l d x)
+
+pub added : (l : List Float) (d : ℕ) (x : Float) → add_cost 0ᶠ (λ x y. add binary32 x y) l d x ≡ add_memorized l d x
+unfolding add_cost add_memorized
+added l d x = added_by 0ᶠ nan l d x
 
 -- what is left to add equals the whole
 module _ (chance : Float → Float) (last : Float) where
@@ -113,7 +127,7 @@ module _ (chance : Float → Float) (last : Float) where
       ap (λ (k : ℕ). add_forgetting_curve_range chance l k d last) e ∙ range_add n m (d + 1) l'
       ∙ ap (λ (b : ℕ). add_forgetting_curve_range chance (add_forgetting_curve_range chance l' n (d + 1) last) m b last) f
 
-  pub blocks_turn : (l l' l₀ : List Float) (d to from n : ℕ)
+  blocks_turn : (l l' l₀ : List Float) (d to from n : ℕ)
       → add_forgetting_curve_range chance l (to - d) d last ≡ add_forgetting_curve_range chance l₀ (to - from) from last
       → n ≤ to - d
       → l' ≡ add_forgetting_curve_range chance l n d last
@@ -124,3 +138,22 @@ module _ (chance : Float → Float) (last : Float) where
       ap (λ (k : List Float). add_forgetting_curve_range chance k (to - (d + n)) (d + n) last) el
       ∙ sym (range_add n (to - (d + n)) d l)
       ∙ sym (ap (λ (m : ℕ). add_forgetting_curve_range chance l m d last) m) ∙ e
+
+  -- the first of the days plays no part where none is left
+  rest : (l : List Float) (m a b : ℕ) → (0 < m → a ≡ b)
+      → add_forgetting_curve_range chance l m a last ≡ add_forgetting_curve_range chance l m b last
+  unfolding add_forgetting_curve_range
+  rest l zero a b same = refl
+  rest l (suc m) a b same = ap (λ (a : ℕ). add_forgetting_curve_range chance l (suc m) a last) (same (omega arith))
+
+  pub strides_turn : (l l' l₀ : List Float) (d to from n : ℕ)
+      → add_forgetting_curve_range chance l (to - d) d last ≡ add_forgetting_curve_range chance l₀ (to - from) from last
+      → n ≡ min (to - d) 64
+      → l' ≡ add_forgetting_curve_range chance l n d last
+      → add_forgetting_curve_range chance l' (to - (d + 64)) (d + 64) last
+      ≡ add_forgetting_curve_range chance l₀ (to - from) from last
+  strides_turn l l' l₀ d to from n e en el =
+      let m : to - (d + 64) ≡ to - (d + n) = omega (arith, en) in
+      rest l' _ _ _ (λ h. omega (arith, en, h))
+      ∙ ap (λ (m : ℕ). add_forgetting_curve_range chance l' m (d + n) last) m
+      ∙ blocks_turn l l' l₀ d to from n e (omega (arith, en)) el

@@ -4,20 +4,10 @@ ghost use Rattle.std.specs.Float.{binary32};
 ghost use Rattle.std.specs.Float.Ieee.{sub, of_int};
 ghost use Rattle.elementary.specs.Filled.{filled};
 ghost use Rattle.model.specs.Model.{retention};
-ghost use Rattle.days.specs.Sums.{add_memorized, add_forgetting_curve_range};
+ghost use Rattle.days.specs.Sums.{add_forgetting_curve_range};
 
-use elementary::up_to_64;
+use crate::add_cost;
 use model::Curve;
-
-#[tactic(auto, using(std::proofs::lemmas::List::set_past), unfolding(crate::specs::Sums::add_memorized))]
-fn add_memorized(memorized: &mut [f32], d: u32, chance: f32)
-    ensures { memorized.new ≡ add_memorized memorized.old d chance }
-{
-    let i = d as usize;
-    if i < memorized.len() {
-        memorized[i] += chance;
-    }
-}
 
 // The times since `last` of n days from day d on.
 fn times(a: &mut [f32; 64], d: u32, last: f32, n: usize)
@@ -46,28 +36,25 @@ fn add_block(memorized: &mut [f32], curve: Curve, d: u32, n: usize, last: f32)
 }
 
 // On each day from `from` up to `to`, block by block.
-// A `while`, since the length of a block, the last one's too, tells where the next begins.
 fn add_blocks(memorized: &mut [f32], curve: Curve, from: u32, to: u32, last: f32)
     requires { (to ≤ 2 ^ 24) × (to ≤ length memorized.old) }
     ensures { memorized.new ≡ add_forgetting_curve_range (λ t. retention curve t) memorized.old
         (to - from) from last }
 {
-    let mut d = from;
-    while d < to {
-        let n = up_to_64((to - d) as usize);
+    for d in (from..to).step_by(64) {
+        let n = ((to - d) as usize).min(64);
         add_block(memorized, curve, d, n, last);
-        d += n as u32;
     }
 }
 
-// The same day by day, for any days.
+// The same day by day, for any days. A chance is added to its day as a cost is.
 fn add_days(memorized: &mut [f32], curve: Curve, from: u32, to: u32, last: f32)
     ensures { memorized.new ≡ add_forgetting_curve_range (λ t. retention curve t) memorized.old
         (to - from) from last }
 {
     for d in from..to {
         let t = float32::from_u32(d) - last;
-        add_memorized(memorized, d, curve.retention(t));
+        add_cost(memorized, d, curve.retention(t));
     }
 }
 

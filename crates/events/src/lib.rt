@@ -11,6 +11,13 @@ use cards::{Card, SimulatorConfig};
 use draws::SplitMix64;
 use model::Fsrs7Runtime;
 
+// The rows of the costs: of a learning, of a review, and of the steps after a lapse.
+const LEARNING: u32 = 0;
+
+const REVIEW: u32 = 1;
+
+const RELEARNING: u32 = 2;
+
 // What an event leaves: the card's memory, what it cost, whether the card was recalled, and the state of the draws.
 #[derive(Clone, Copy)]
 pub struct Memory {
@@ -28,7 +35,8 @@ pub struct Rules {
     pub model: Fsrs7Runtime,
 }
 
-// Where the short-term steps have come to.
+// Where the short-term steps have come to. A rating is a u32 from 1 to 4, as the model takes it: to that, C and callers
+// as the Rust has them hand over any u32.
 #[derive(Clone, Copy)]
 pub struct ShortTerm {
     pub stability: f32,
@@ -139,7 +147,7 @@ impl Rules {
     {
         let drawn = SplitMix64::new(state).next();
         let rating = drawn_rating(self.config.first_rating_prob, drawn.output);
-        let costs = cards::row_of(self.config.state_rating_costs, 0);
+        let costs = cards::row_of(self.config.state_rating_costs, LEARNING);
         let first = ShortTerm {
             stability: self.model.init_stability(rating),
             difficulty: float32::clamp(
@@ -164,7 +172,7 @@ impl Rules {
     {
         let drawn = SplitMix64::new(state).next();
         let rating = drawn_rating(self.config.review_rating_prob, drawn.output);
-        let costs = cards::row_of(self.config.state_rating_costs, 1);
+        let costs = cards::row_of(self.config.state_rating_costs, REVIEW);
         let m = self.model;
         Memory {
             difficulty: m.next_difficulty(card.difficulty, rating, 1.0),
@@ -191,8 +199,8 @@ impl Rules {
         let transitions = self.config.relearning_step_transitions;
         let costs = self.config.state_rating_costs;
         let limit = self.config.relearning_step_count;
-        let t = short_steps(m, transitions, cards::row_of(costs, 2), limit, first);
-        memory_of(t, of_rating(cards::row_of(costs, 1), 1) + t.cost, false)
+        let t = short_steps(m, transitions, cards::row_of(costs, RELEARNING), limit, first);
+        memory_of(t, of_rating(cards::row_of(costs, REVIEW), 1) + t.cost, false)
     }
 
     // None is refusal 7: the chance to recall is not within 0 to 1.

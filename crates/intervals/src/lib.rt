@@ -5,8 +5,8 @@
 // and taken apart again at each use.
 #![tactic(auto)]
 
-ghost use Rattle.std.specs.Prelude.{◌≡◌, ◌<◌, length, set, replicate, false};
-ghost use Rattle.intervals.specs.Table.{table, mix_of, home_of, next_of, LookupContract, enter_in};
+ghost use Rattle.std.specs.Prelude.{◌≡◌, ◌<◌, length, get_or, set, replicate, false};
+ghost use Rattle.intervals.specs.Table.{table, mix_of, home_of, next_of, same_key, LookupContract, enter_in};
 ghost use Rattle.std.specs.Float.{inf};
 ghost use Rattle.float32.specs.Float32.{max};
 ghost use Rattle.model.specs.Constants.{s_min};
@@ -37,7 +37,7 @@ pub enum Entry {
 }
 
 // How the table serves a schedule: an interval that it holds, one to be entered at a place under a key of two buckets,
-// or neither for want of a place. Three cases as well.
+// or neither for want of a place. Three cases, where an Option or a Result has two.
 #[derive(Clone, Copy)]
 pub enum Slot {
     Keep(f32),
@@ -101,6 +101,13 @@ fn after(n: usize, p: usize) -> usize
     if q == n { 0 } else { q }
 }
 
+#[tactic(auto, unfolding(crate::specs::Table::same_key))]
+fn is_key(key: [u32; 2], s: u32, r: u32) -> bool
+    ensures { result ≡ same_key (get_or key 0 0) (get_or key 1 0) s r }
+{
+    key == [s, r]
+}
+
 pub fn lookup(keys: &[[u32; 2]], intervals: &[f32], s: u32, r: u32) -> Entry
     ensures { LookupContract (table keys.now intervals.now) s r result }
 {
@@ -109,14 +116,12 @@ pub fn lookup(keys: &[[u32; 2]], intervals: &[f32], s: u32, r: u32) -> Entry
         return Entry::Full;
     }
     let mut p = home(n, s, r);
-    'places: for _ in 0..n {
+    for _ in 0..n {
         let v = intervals[p];
         if v < 1.0 {
             return Entry::Free(p);
         }
-        let [a, b] = keys[p];
-        let same = a == s && b == r;
-        if same {
+        if is_key(keys[p], s, r) {
             return Entry::Found(p, v);
         }
         p = after(n, p);
@@ -239,7 +244,8 @@ pub fn is_full(slot: Slot) -> bool
     matches!(slot, Slot::Full)
 }
 
-// The interval of a slot; a NaN where there is none.
+// The interval of a slot. A NaN where there is none, not None: C and the stored answers tell a NaN, and a run asks
+// `is_full` first.
 pub fn interval_in(slot: Slot) -> f32
     ensures { result ≡ interval_of slot }
 {

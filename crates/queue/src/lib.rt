@@ -89,7 +89,8 @@ fn heapify(rows: &mut [[u64; 2]], n: usize, row: [u64; 2])
     only_child(rows, n, pos, left, row);
 }
 
-// The card number of the first of a queue's rows, 0 where there is none: what a reader of lent rows asks.
+// The card number of the first of a queue's rows: what a reader of lent rows asks. 0 where there is none, not None, since
+// C's drill_peek_index tells a number.
 pub fn first_card(rows: &[[u64; 2]]) -> u32
     ensures { result ≡ card_index_at rows.now 0 }
 {

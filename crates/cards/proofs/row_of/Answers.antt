@@ -1,21 +1,14 @@
-use lib.Ieee.{of_bits, of_fields, div, nan}
-use Prim.Native.Nat.{◌+◌, ◌*◌, ◌≤◌}
-use lib.ListN.{length, get_or-eq_default}
+use lib.Ieee.{nan, of_bits, of_fields, div}
+use mathlib.Core.Path.{◌≡◌}
+use mathlib.Core.List.{[], ◌∷◌}
+use lib.ListN.{get_or}
 use native.Mathlib.Omega.{arith}
-use mathlib.Core.Path.{refl}
+use Rattle.std.proofs.lemmas.Grind.{common_steps}
+use Rattle.cards.proofs.Rows.{row_is}
 use Rattle.cards.proofs.row_of.Goals as goal
 
-pub returns-then-i-lt3 : goal.returns-then-i-lt3
+pub returns : goal.returns
 unfolding of_bits of_fields div
-returns-then-i-lt3 c = refl
-
-pub returns-else-i-lt3 : goal.returns-else-i-lt3
-unfolding of_bits of_fields div
-returns-else-i-lt3 c =
-    let L : length c.args.table ≤ 4 * c.args.i = omega
-    (arith, c.well_formed.0, c.if-i-lt3.false) in rw (
-      get_or-eq_default c.args.table nan {n = 4 * c.args.i} L,
-      get_or-eq_default c.args.table nan {n = 4 * c.args.i + 1} (omega arith),
-      get_or-eq_default c.args.table nan {n = 4 * c.args.i + 2} (omega arith),
-      get_or-eq_default c.args.table nan {n = 4 * c.args.i + 3} (omega arith),
-    )
+returns c =
+    let row : c.unwrap_or.result ≡ get_or c.rows_of.result.now c.args.i (nan ∷ nan ∷ nan ∷ nan ∷ []) = grind (arith, common_steps) in
+    rw (row, c.rows_of.ensures) (row_is c.args.table c.args.i (omega (arith, c.well_formed.0)))

@@ -1,5 +1,4 @@
--- The invariant of its loop: what is left to add, to what is memorized so far, gives the whole. The measure is the days
--- left.
+-- The invariant of its loop: what is left to add, to what is memorized so far, gives the whole.
 use mathlib.Core.Path.{◌≡◌}
 use Prim.Native.Nat.{◌-◌}
 use lib.ListN.{length}
@@ -12,6 +11,3 @@ invariant-loop-d l =
     (add_forgetting_curve_range (λ t. retention l.curve t) l.memorized (l.to - l.d) l.d l.last
     ≡ add_forgetting_curve_range (λ t. retention l.curve t) l.initial.memorized (l.to - l.from) l.from l.last)
     × (length l.memorized ≡ length l.initial.memorized)
-
-abbrev pub decreases-loop-d : goal.decreases-loop-d
-decreases-loop-d l = l.to - l.d
