@@ -73,7 +73,7 @@ pub fn default_settings() -> Settings
     }
 }
 
-// n, or 0 where it is above `most`: the run refuses 0.
+// n, or 0 where it is above `most`: the run itself then refuses it, in the order of its refusals.
 fn at_most(most: u32, n: u32) -> u32
     ensures { result ≡ within most n }
 {
