@@ -30,7 +30,7 @@ pub fn default_config() -> SimulatorConfig
     }
 }
 
-// Floats as W. Not `map`: its proof did not close, since a generic array's length is not known once it is passed by value.
+// Floats as W. Not `map`: it asks a bound on N, which each caller would then have to show.
 fn bits_of<const N: usize>(xs: &[f32; N]) -> [u32; N]
     ensures { result ≡ bits_of xs.now }
 {
