@@ -51,13 +51,7 @@ fn run(
 }
 
 // A run that ended Ok: its first line, and a line a day.
-fn write_run(
-    out: &mut [u8],
-    rows: Rows<'_>,
-    span: u32,
-    turns: u32,
-    cards: u32,
-) -> Option<usize>
+fn write_run(out: &mut [u8], rows: Rows<'_>, span: u32, turns: u32, cards: u32) -> Option<usize>
     requires { (room ≤ length out.old) × ((span ≤ most_span) × Covers rows span) }
     ensures { Printed out.old (forecast_line span turns cards ++ day_lines rows.entry.days.now
         rows.entry.costs.now rows.entry.memorized.now 0 span) result out.new }
