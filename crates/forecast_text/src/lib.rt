@@ -3,13 +3,14 @@
 
 ghost use Rattle.std.specs.Prelude.{◌≡◌, ◌++◌, ◌≤◌, length};
 ghost use Rattle.report.specs.Lines.{forecast_line};
-ghost use Rattle.report.specs.Rows.{day_lines};
+ghost use Rattle.report.specs.Rows.{Covers, day_lines};
 ghost use Rattle.forecast_text.specs.Settings.{most_span};
 ghost use Rattle.forecast_text.specs.Forecast.{RunDays, Printed, run_with, room, run_text};
 ghost use Rattle.forecast_text.specs.Forecast.{forecast_text, printed, left};
 
 use entry::{Learner, Lists, refusals};
 use listing::Settings;
+use report::Rows;
 use simulation::{Progress, Refused};
 
 pub mod settings;
@@ -50,25 +51,13 @@ fn run(
 }
 
 // A run that ended Ok: its first line, and a line a day.
-fn write_run(
-    out: &mut [u8],
-    days: &[[u32; 4]],
-    costs: &[f32],
-    memorized: &[f32],
-    span: u32,
-    turns: u32,
-    cards: u32,
-) -> Option<usize>
-    requires { (room ≤ length out.old)
-        × ((span ≤ most_span)
-        × ((span ≤ length days.now)
-        × ((span ≤ length costs.now)
-        × (span ≤ length memorized.now)))) }
-    ensures { Printed out.old (forecast_line span turns cards ++ day_lines days.now
-        costs.now memorized.now 0 span) result out.new }
+fn write_run(out: &mut [u8], rows: Rows<'_>, span: u32, turns: u32, cards: u32) -> Option<usize>
+    requires { (room ≤ length out.old) × ((span ≤ most_span) × Covers rows span) }
+    ensures { Printed out.old (forecast_line span turns cards ++ day_lines rows.entry.days.now
+        rows.entry.costs.now rows.entry.memorized.now 0 span) result out.new }
 {
     let at = report::write_forecast(out, 0, span, turns, cards)?;
-    report::write_days(out, at, days, costs, memorized, span)
+    report::write_days(out, at, rows, span)
 }
 
 // The run of settings, made and written.
@@ -82,7 +71,14 @@ fn forecast_settings(out: &mut [u8], set: Settings) -> Option<usize>
     let answer = run(&mut days, &mut costs, &mut memorized, set);
     let span = settings::span_of(set);
     match answer {
-        Ok(p) => write_run(out, &days, &costs, &memorized, span, p.turns, p.cards),
+        Ok(p) => {
+            let rows = Rows {
+                days: &days,
+                costs: &costs,
+                memorized: &memorized,
+            };
+            write_run(out, rows, span, p.turns, p.cards)
+        }
         Err(refused) => {
             let number = refusals::number_of(refused.refusal);
             let second = refusals::second_of(refused.refusal);

@@ -30,7 +30,7 @@ pub fn default_config() -> SimulatorConfig
     }
 }
 
-// Floats as W. Not `map`: its proof did not close, since a generic array's length is not known once it is passed by value.
+// Floats as W. Not `map`: it asks a bound on N, which each caller would then have to show.
 fn bits_of<const N: usize>(xs: &[f32; N]) -> [u32; N]
     ensures { result ≡ bits_of xs.now }
 {
@@ -73,7 +73,7 @@ pub fn default_settings() -> Settings
     }
 }
 
-// n, or 0 where it is above `most`: the run refuses 0.
+// n, or 0 where it is above `most`: the run itself then refuses it, in the order of its refusals.
 fn at_most(most: u32, n: u32) -> u32
     ensures { result ≡ within most n }
 {

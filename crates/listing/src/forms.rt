@@ -47,18 +47,7 @@ fn place_of(name: Name) -> usize
     ensures place { result ≡ place_of name }
     ensures within { result < 10 }
 {
-    match name {
-        Name::Parameters => 0,
-        Name::Deck => 1,
-        Name::Span => 2,
-        Name::Seed => 3,
-        Name::Learn => 4,
-        Name::Review => 5,
-        Name::Retention => 6,
-        Name::Maxcost => 7,
-        Name::First => 8,
-        Name::Cost => 9,
-    }
+    name as usize
 }
 
 // What stands behind a name that was not seen before.

@@ -19,7 +19,7 @@ pub enum Token {
     End,
 }
 
-// The names of forms.
+// The names of forms, in the order of their places in `Settings::seen`.
 #[derive(Clone, Copy, PartialEq, Eq)]
 pub enum Name {
     Parameters,
@@ -36,6 +36,7 @@ pub enum Name {
 
 // What the forms set, W as the f32's bits, and which forms stood there: parameters, deck, span, seed, learn, review,
 // retention, maxcost, first, cost.
+// Parameters are no Option: `seen` says of each form whether it stood there, and an Option would say it a second time.
 #[derive(Clone, Copy)]
 pub struct Settings {
     pub deck: u32,

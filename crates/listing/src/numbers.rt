@@ -1,23 +1,24 @@
 // N and W.
-ghost use Rattle.std.specs.Prelude.{◌≡◌, ◌<◌, ◌≤◌, IfSome};
+ghost use Rattle.std.specs.Prelude.{◌≡◌, ◌<◌, ◌≤◌, IfSome, MatchOption};
 ghost use Rattle.listing.specs.Numbers.{digit, number, number64, number32, bits};
 
-// What a digit says, 16 where it is none.
+// What a digit says.
 #[tactic(auto, unfolding(crate::specs::Numbers::digit))]
-fn digit_of(b: u8) -> u64
-    ensures { result ≡ digit b }
+fn digit_of(b: u8) -> Option<u64>
+    ensures { MatchOption result (digit b ≡ 16) (λ d. digit b ≡ d) }
 {
     match b {
-        b'0'..=b'9' => u64::from(b - b'0'),
-        b'A'..=b'F' => u64::from(b - b'A') + 10,
-        _ => 16,
+        b'0'..=b'9' => Some(u64::from(b - b'0')),
+        b'A'..=b'F' => Some(u64::from(b - b'A') + 10),
+        _ => None,
     }
 }
 
 // One or more digits to the base that say a number of at most `most`.
+// By hand: the library's own reading of a number takes a sign and small letters too.
 #[tactic(auto, unfolding(crate::specs::Numbers::number, crate::specs::Numbers::empty, crate::specs::Numbers::digits, crate::specs::Numbers::value))]
 fn number_of(w: &[u8], base: u64, most: u64) -> Option<u64>
-    requires { (0 < base) × (base ≤ most) }
+    requires { (0 < base) × ((base ≤ 16) × (base ≤ most)) }
     ensures is { result ≡ number base most w.now }
     ensures bounded { IfSome result (λ n. n ≤ most) }
 {
@@ -26,7 +27,7 @@ fn number_of(w: &[u8], base: u64, most: u64) -> Option<u64>
     }
     let mut v = 0;
     for b in w {
-        let d = digit_of(*b);
+        let d = digit_of(*b)?;
         if base <= d || (most - d) / base < v {
             return None;
         }

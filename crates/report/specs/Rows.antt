@@ -1,13 +1,19 @@
 -- The rows of a run as lines, one a day. Definitions only.
+--   Covers rows span            there is a row for each of the first `span` days
 --   day_at l d                  the row of day d, for its line
 --   day_lines l d k             the lines of k days from day d on
 --   days_placed, days_written    these lines in a list, until one finds no room: where they end, and the list
 --   span_placed, span_written    the lines of the first `span` days; none where a list of rows is shorter
-use Rattle.std.specs.Prelude.{ℕ, zero, suc, ◌+◌, Bool, cond, ◌&&◌, List, [], ◌++◌, length, get_or, leb, Float}
+use Rattle.std.specs.Prelude.{ℕ, zero, suc, ◌+◌, ◌≤◌, Bool, cond, ◌&&◌, List, [], ◌++◌, length, get_or, leb, Float}
 use Rattle.std.specs.Float.{nan}
 use Rattle.report.specs.declared.Day.{Day}
+use Rattle.report.specs.declared.Rows.{Rows}
 use Rattle.std.specs.Prelude.{Option, Some, None}
 use Rattle.report.specs.Lines.{day_line, written}
+
+abbrev pub Covers : Rows → ℕ → Type 0
+Covers rows span =
+    (span ≤ length rows.days.now) × ((span ≤ length rows.costs.now) × (span ≤ length rows.memorized.now))
 
 -- the rows of a run: learned, reviewed, correct and introduced of each day, its cost, and what is held on it
 module _ (days : List (List ℕ)) (costs memorized : List Float) where

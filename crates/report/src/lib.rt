@@ -4,7 +4,7 @@
 ghost use Rattle.std.specs.Prelude.{◌≡◌, ◌++◌, ◌+◌, ◌<◌, ◌≤◌, length};
 ghost use Rattle.report.specs.Digits.{decimal, hex};
 ghost use Rattle.report.specs.Lines.{word, placed, written, day_line, forecast_line, refused_line, cheapest_line};
-ghost use Rattle.report.specs.Rows.{day_at, days_placed, days_written, span_placed, span_written};
+ghost use Rattle.report.specs.Rows.{Covers, day_at, days_placed, days_written, span_placed, span_written};
 
 use arrayvec::ArrayVec;
 use itoa::Buffer;
@@ -156,65 +156,61 @@ pub fn write_cheapest(
     write_line(out, at, &cheapest_line(retention, rounds, mean))
 }
 
-// The row of day d.
-#[tactic(auto, unfolding(crate::specs::Rows::day_at))]
-fn day_at(days: &[[u32; 4]], costs: &[f32], memorized: &[f32], d: u32) -> Day
-    requires { (d < length days.now) × ((d < length costs.now) × (d < length memorized.now)) }
-    ensures { result ≡ day_at days.now costs.now memorized.now d }
-{
-    let i = d as usize;
-    let [learn, review, correct, introduced] = days[i];
-    Day {
-        day: d,
-        learn,
-        review,
-        correct,
-        introduced,
-        cost: costs[i],
-        held: memorized[i],
+// A run's rows: learned, reviewed, correct and introduced of each day, its cost, and what is held on it.
+#[derive(Clone, Copy)]
+pub struct Rows<'a> {
+    pub days: &'a [[u32; 4]],
+    pub costs: &'a [f32],
+    pub memorized: &'a [f32],
+}
+
+impl Rows<'_> {
+    // The row of day d.
+    #[tactic(auto, unfolding(crate::specs::Rows::day_at))]
+    fn day(self, d: u32) -> Day
+        requires { Covers self (d + 1) }
+        ensures { result ≡ day_at self.entry.days.now self.entry.costs.now self.entry.memorized.now d }
+    {
+        let i = d as usize;
+        let [learn, review, correct, introduced] = self.days[i];
+        Day {
+            day: d,
+            learn,
+            review,
+            correct,
+            introduced,
+            cost: self.costs[i],
+            held: self.memorized[i],
+        }
     }
 }
 
 // The lines of all days, one after the other, until one finds no room.
-fn write_rows(
-    out: &mut [u8],
-    from: usize,
-    days: &[[u32; 4]],
-    costs: &[f32],
-    memorized: &[f32],
-    span: u32,
-) -> Option<usize>
-    requires { (span ≤ length days.now) × ((span ≤ length costs.now) × (span ≤ length memorized.now)) }
-    ensures { (result ≡ days_placed days.now costs.now memorized.now 0 span
+fn write_rows(out: &mut [u8], from: usize, rows: Rows<'_>, span: u32) -> Option<usize>
+    requires { Covers rows span }
+    ensures { (result ≡ days_placed rows.entry.days.now rows.entry.costs.now rows.entry.memorized.now 0 span
         out.old from)
-        × (out.new ≡ days_written days.now costs.now memorized.now 0 span
+        × (out.new ≡ days_written rows.entry.days.now rows.entry.costs.now rows.entry.memorized.now 0 span
         out.old from) }
 {
     let mut at = from;
     for d in 0..span {
-        at = write_day(out, at, day_at(days, costs, memorized, d))?;
+        at = write_day(out, at, rows.day(d))?;
     }
     Some(at)
 }
 
 // The lines of the first `span` days.
 #[tactic(auto, unfolding(crate::specs::Rows::span_placed, crate::specs::Rows::span_written, crate::specs::Rows::has_rows))]
-pub fn write_days(
-    out: &mut [u8],
-    at: usize,
-    days: &[[u32; 4]],
-    costs: &[f32],
-    memorized: &[f32],
-    span: u32,
-) -> Option<usize>
-    ensures { (result ≡ span_placed days.now costs.now memorized.now span
+pub fn write_days(out: &mut [u8], at: usize, rows: Rows<'_>, span: u32) -> Option<usize>
+    ensures { (result ≡ span_placed rows.entry.days.now rows.entry.costs.now rows.entry.memorized.now span
         out.old at)
-        × (out.new ≡ span_written days.now costs.now memorized.now span
+        × (out.new ≡ span_written rows.entry.days.now rows.entry.costs.now rows.entry.memorized.now span
         out.old at) }
 {
     let n = span as usize;
-    if days.len() < n || costs.len() < n || memorized.len() < n {
+    if rows.days.len() < n || rows.costs.len() < n || rows.memorized.len() < n {
         return None;
     }
-    write_rows(out, at, days, costs, memorized, span)
+    write_rows(out, at, rows, span)
 }

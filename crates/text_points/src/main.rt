@@ -1,6 +1,5 @@
 // Prints what each text of its input forecasts. A text ends at a byte 1E; the texts and what they print are those of
-// the Rust
-// (`harness/run store`).
+// the Rust (`harness/run store`).
 #![tactic(auto)]
 
 use std::io;
@@ -8,11 +7,8 @@ use std::io;
 fn forecast(rt: &impl Print, text: &[u8]) -> io::Result<()> {
     println!(rt; "text")?;
     let mut out = [0; 133680];
-    let end = forecast_text::forecast(&mut out, text);
-    if let Some(printed) = end.and_then(|end| out.get(..end)) {
-        rt.write_all(printed)?;
-    }
-    Ok(())
+    let end = forecast_text::forecast(&mut out, text).unwrap_or(0);
+    rt.write_all(out.get(..end).unwrap_or(&[]))
 }
 
 fn main(rt: HostRuntime) -> io::Result<()> {

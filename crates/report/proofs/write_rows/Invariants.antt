@@ -5,8 +5,8 @@ use Rattle.report.proofs.write_rows.Given as goal
 
 abbrev pub invariant-loop-d : goal.invariant-loop-d
 invariant-loop-d l = record {
-  placed : days_placed l.days l.costs l.memorized 0 l.span l.initial.out l.from
-      ≡ days_placed l.days l.costs l.memorized l.d (l.span - l.d) l.out l.at;
-  written : days_written l.days l.costs l.memorized 0 l.span l.initial.out l.from
-      ≡ days_written l.days l.costs l.memorized l.d (l.span - l.d) l.out l.at;
+  placed : days_placed l.rows.days.now l.rows.costs.now l.rows.memorized.now 0 l.span l.initial.out l.from
+      ≡ days_placed l.rows.days.now l.rows.costs.now l.rows.memorized.now l.d (l.span - l.d) l.out l.at;
+  written : days_written l.rows.days.now l.rows.costs.now l.rows.memorized.now 0 l.span l.initial.out l.from
+      ≡ days_written l.rows.days.now l.rows.costs.now l.rows.memorized.now l.d (l.span - l.d) l.out l.at;
 }

@@ -1,4 +1,4 @@
-use Rattle.std.proofs.Common.{ℕ, ◌+◌, ◌*◌, ◌<◌, ◌∙◌, sym, arith, drop, get_or}
+use Rattle.std.proofs.Common.{◌≡◌, ℕ, ◌+◌, ◌*◌, ◌<◌, ◌∙◌, sym, rules, tests, arith, drop, get_or}
 use Rattle.listing.specs.Numbers.{digit}
 use Rattle.listing.proofs.NumberLaws.{digits_off, value_on, value-ge}
 use Rattle.listing.proofs.NumberLaws.{number_digits, number-over, goes_over}
@@ -8,16 +8,17 @@ use Rattle.listing.proofs.numbers.number_of.Goals.{then-base-d-via-then-base-d, 
 pub returns-then-base-d-clause-is : goal.returns-then-base-d-clause-is
 returns-then-base-d-clause-is c =
     let a = c.args in
+    let e : c.in_ok-d.d ≡ digit (get_or a.w.now c.loop-b.b-index 0) = search (rules, tests) in
     elim c.then-base-d.branch [
       | then-base-d-via-then-base-d w ↦
           sym (number_digits a.base a.most a.w.now (c.loop-b.invariant.digits
           ∙ digits_off a.base a.w.now c.loop-b.b-index c.loop-b-test.true
-          (rw c.digit_of-d.ensures at w.if-base-d.true)))
+          (rw e at w.if-base-d.true)))
       | then-base-d-via-else-base-d+then-most-d w ↦
           let d : ℕ = digit (get_or a.w.now c.loop-b.b-index 0) in
           let past : a.most < c.loop-b.v * a.base + d = goes_over a.base a.most c.loop-b.v d
-          (omega arith) (omega (arith, c.digit_of-d.ensures))
-          (rw c.digit_of-d.ensures at w.if-most-d.true) in
+          (omega arith) (omega (arith, e))
+          (rw e at w.if-most-d.true) in
           sym (number-over a.base a.most a.w.now
           (omega (
             arith,

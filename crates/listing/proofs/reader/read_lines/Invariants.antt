@@ -4,11 +4,10 @@ use Rattle.listing.specs.Text.{lines}
 use Rattle.listing.specs.Forms.{read_lines}
 use Rattle.listing.proofs.reader.read_lines.Given as goal
 
-abbrev pub invariant-loop-line : goal.invariant-loop-line
-invariant-loop-line l = record {
-  can : (goal.iterator-loop-line).can_next l.line-iterator;
-  finite : (goal.iterator-loop-line).is_finite l.line-iterator;
-  count : l.n ≡ length l.yielded;
+abbrev pub invariant-loop-i : goal.invariant-loop-i
+invariant-loop-i l = record {
+  can : (goal.iterator-loop-i).can_next l.i-iterator;
+  finite : (goal.iterator-loop-i).is_finite l.i-iterator;
   read : read_lines 1 (lines l.text) l.initial.settings
-      ≡ read_lines (l.n + 1) (drop l.n (lines l.text)) l.settings;
+      ≡ read_lines (length l.yielded + 1) (drop (length l.yielded) (lines l.text)) l.settings;
 }
