@@ -1,6 +1,5 @@
 -- By the verdict of the method.
-use mathlib.Core.Path.{◌≡◌}
-use mathlib.Core.Logic.{◌⊎◌, inl, inr}
+use mathlib.Core.Logic.{inl, inr}
 use Rattle.brent.specs.Stepping.{told}
 use Rattle.retention.proofs.ended.Goals as goal
 

@@ -45,12 +45,12 @@ pub returns-clause-searched : goal.returns-clause-searched
 returns-clause-searched c =
     let a = c.args in
     elim c.loop-test.branch [
-      else-loop-test w ↦ rw (w.lists-is) (trying_spent (search_of a.learner a.config) a.rounds (lent_of a.lists.now)
+      | else-loop-test w ↦ rw (w.lists-is) (trying_spent (search_of a.learner a.config) a.rounds (lent_of a.lists.now)
           c.loop.invariant.trying (omega (arith, w.loop-test.false)) (rw w.stepper-is at c.ended-2.ensures))
       | then-loop-test+in-Some+in_ok-mean+else-counter-rounds w ↦ rw (w.lists-is)
           (trying_spent (search_of a.learner a.config) a.rounds (lent_of a.lists.now)
           (trying_on (search_of a.learner a.config) a.rounds (lent_of a.lists.now) c.loop.invariant.trying
           (omega (arith, w.loop-test.true)) w.next_retention.ensures w.in-Some.is w.sample.ensures.trial _
-          w.in_ok-mean.was w.take_mean-stepper.ensures) (omega (arith, w.if-counter-rounds.false))
+          w.in_ok-mean.was w.take_mean-stepper.ensures) (omega arith)
           (rw w.stepper-is at c.ended-2.ensures))
     ]

@@ -14,7 +14,7 @@ use Rattle.turns.proofs.Logic.{not-one}
 use Rattle.entry.specs.declared.Refusal.{Refusal}
 use Rattle.std.specs.Prelude.{Result, Ok, Err, MatchResult, IsErrAnd}
 use Rattle.simulation.specs.State.{Lent, state}
-use Rattle.entry.specs.Entry.{Inputs, inputs}
+use Rattle.entry.specs.Entry.{Inputs}
 use Rattle.simulation.specs.Simulate.{Answer}
 use Rattle.simulation.specs.Demands.{RunContract}
 use Rattle.brent.specs.Search.{Sampled, gives, refuses}

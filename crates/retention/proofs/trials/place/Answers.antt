@@ -1,4 +1,4 @@
-use lib.Ieee.{of_bits, of_fields, nan}
+use lib.Ieee.{of_bits, of_fields}
 use Rattle.std.proofs.Common.{rules}
 use Rattle.retention.proofs.trials.place.Goals as goal
 
