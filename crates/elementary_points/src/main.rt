@@ -48,7 +48,7 @@ fn is_within(line: &[u8; 38]) -> bool {
 fn all(rt: &impl Print, input: &mut impl Read) -> io::Result<Tally> {
     let mut rows = 0;
     let mut outside = 0;
-    for _ in 0..10000 {
+    for _ in 0..10000u64 {
         let mut line = [0; 38];
         if reading::read_full(input, &mut line) < 38 {
             continue;

@@ -1,5 +1,5 @@
 -- No more lines were read than readings made, and no more of them lie outside.
-use Rattle.std.proofs.Common.{◌≤◌, ◌×◌}
+use Rattle.std.proofs.Common.{◌≤◌}
 use Rattle.elementary_points.proofs.all.Given as goal
 
 abbrev pub invariant-loop : goal.invariant-loop
