@@ -1,8 +1,8 @@
 // The run over card records: its existing cards are one lent list of `cards::Card`, which is copied to two lent lists
 // of rows, and the core (`simulation::simulate`) is called on those. All of the entry's tests come before the first
 // copy, so a refusal at the entry leaves every list as it was, the room for the copies too; a room too short is refusal
-// 6. The updated cards stand in `cards` and `counts`; `read_back` gives them out as records, and `cards::card_at` the
-// record of a place.
+// 6. The updated cards stand in the fields `cards` and `counts` of `lists`; `read_back` gives them out as records, and
+// `cards::card_at` the record of a place.
 #![tactic(auto)]
 
 ghost use Rattle.std.specs.Prelude.{◌≡◌, ◌&&◌, ◌<◌, ◌≤◌, ltb, length, OnOk};
@@ -55,11 +55,10 @@ fn check_records(
     let long = lists_ok(settings.config, n, lengths, existing, existing_counts);
     let finite = float32::is_finite(settings.retention);
     entry::check_settings(parameters, settings.config, finite, long, n)?;
-    let good = records::first_not_ok(records);
-    if good < n {
-        return Err(Refusal::ExistingCard(good as u32));
+    match records.iter().position(|card| entry::is_bad(*card)) {
+        Some(i) => Err(Refusal::ExistingCard(i as u32)),
+        None => Ok(()),
     }
-    Ok(())
 }
 
 // A run over records; `existing` and `existing_counts` are room for the records' rows, two lists as the core and C have
@@ -86,13 +85,7 @@ pub fn simulate(
         settings,
     );
     if let Err(refusal) = tests {
-        let progress = Progress {
-            turns: 0,
-            cards: 0,
-            queued: 0,
-            draws: settings.seed,
-        };
-        return Err(Refused { refusal, progress });
+        return Err(Refused::at_entry(refusal, settings.seed));
     }
     records::copy(records, existing, existing_counts);
     let learner = Learner {

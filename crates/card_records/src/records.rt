@@ -1,24 +1,10 @@
-// What is done with a lent list of records: the first that refusal 5 turns away is found, and records are copied to
-// rows, or from rows.
+// What is done with a lent list of records: they are copied to rows, or from rows.
 ghost use Rattle.std.specs.Prelude.{◌≡◌, ◌<◌, length};
 ghost use Rattle.elementary.specs.Filled.{filled};
 ghost use Rattle.cards.specs.Cards.{card_at};
-ghost use Rattle.entry.specs.Entry.{first_where};
-ghost use Rattle.card_records.specs.Records.{record_bad, floats_at, counts_at};
+ghost use Rattle.card_records.specs.Records.{floats_at, counts_at};
 
 use cards::Card;
-
-// The first record that is kept and not as it must be, or their number.
-pub(crate) fn first_not_ok(records: &[Card]) -> usize
-    ensures { result ≡ first_where (record_bad records.now) (length records.now) 0 }
-{
-    for (i, card) in records.iter().enumerate() {
-        if entry::is_bad(*card) {
-            return i;
-        }
-    }
-    records.len()
-}
 
 // The records, each to its row.
 pub(crate) fn copy(records: &[Card], existing: &mut [[f32; 6]], existing_counts: &mut [[u32; 2]])
@@ -33,7 +19,8 @@ pub(crate) fn copy(records: &[Card], existing: &mut [[f32; 6]], existing_counts:
 }
 
 // The first n cards of a run as records, as many as there is room for; `n` is the answer's number of cards. By place,
-// not by a zip of the range with the records: the proof knows no list that such a zip has written in part.
+// not by a zip of the range with the records: tried, and inside such a loop the proof knows nothing of the records that
+// are written already.
 pub fn read_back(cards: &[[f32; 6]], counts: &[[u32; 2]], records: &mut [Card], n: u32)
     ensures { records.new ≡ filled (card_at cards.now counts.now) n records.old }
 {

@@ -43,23 +43,23 @@ fn is_within(line: &[u8; 38]) -> bool {
     word(&line[20..28]) <= bits && bits <= word(&line[29..37])
 }
 
-// At most 10000 lines, of which those that lie outside are printed.
+// Ten thousand readings at most; one that gives less than a line counts nothing, and the next goes on from there. Lines
+// that lie outside are printed.
 fn all(rt: &impl Print, input: &mut impl Read) -> io::Result<Tally> {
+    let mut rows = 0;
     let mut outside = 0;
-    for rows in 0..10000 {
+    for _ in 0..10000u64 {
         let mut line = [0; 38];
         if reading::read_full(input, &mut line) < 38 {
-            return Ok(Tally { rows, outside });
+            continue;
         }
+        rows += 1;
         if !is_within(&line) {
             rt.write_all(&line)?;
             outside += 1;
         }
     }
-    Ok(Tally {
-        rows: 10000,
-        outside,
-    })
+    Ok(Tally { rows, outside })
 }
 
 fn main(rt: HostRuntime) -> io::Result<()> {

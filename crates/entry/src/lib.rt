@@ -41,6 +41,7 @@ const MOST_DAYS: u32 = 36500;
 fn check_parameters(w: &[f32]) -> Result<(), Refusal>
     ensures { result ≡ check_parameters w.now passed }
 {
+    // too few are told as number 34, by the C interface and in stored outputs, so they have no variant of their own
     if w.len() < 34 {
         return Err(Refusal::Parameters(34));
     }
@@ -68,7 +69,6 @@ fn check_cards(learner: Learner<'_>, n: u32) -> Result<(), Refusal>
     }
 }
 
-#[tactic(auto, unfolding(crate::specs::Entry::lengths_ok))]
 pub fn lists_ok(
     config: SimulatorConfig,
     existing: usize,
@@ -77,17 +77,7 @@ pub fn lists_ok(
 ) -> bool
     ensures { result ≡ lengths_ok config existing existing_counts x }
 {
-    let deck = config.deck_size as usize;
-    let span = config.learn_span as usize;
-    existing == existing_counts
-        && x.keys == x.intervals
-        && x.cards == x.counts
-        && deck <= x.cards
-        && deck <= x.rows
-        && span <= x.days
-        && span <= x.costs
-        && span <= x.memorized
-        && days::due_days(config.learn_span) <= x.due
+    short_list(config, existing, existing_counts, x) == 0
 }
 
 // Which list refusal 6 is about, by the number that the C interface tells; 0 where it is about none.

@@ -28,7 +28,8 @@ pub struct Optimum {
     pub rounds: u32,
 }
 
-// The refusal's number, 0 where a retention was found.
+// What C and the programs tell of an answer, as numbers: the refusal's number and its second number, or 0 and 0 where a
+// retention was found.
 pub fn number_of(answer: Result<Optimum, Refusal>) -> u32
     ensures { result ≡ number_of answer }
 {
@@ -82,7 +83,7 @@ fn search(
     ensures same { SameLists lists.old lists.new }
 {
     let mut stepper = brent::start(rounds);
-    for _ in 0..rounds + 1 {
+    for _ in 0..=rounds {
         let Some(retention) = brent::next_retention(stepper) else {
             return ended(stepper);
         };

@@ -64,10 +64,8 @@ fn run_of(
         retention,
         seed: 42 + u64::from(n),
     };
-    match simulation::simulate(lists, learner, settings) {
-        Ok(_) => Ok(target_of(lists, config.learn_span)),
-        Err(refused) => Err(refused.refusal),
-    }
+    simulation::simulate(lists, learner, settings).map_err(|it| it.refusal)?;
+    Ok(target_of(lists, config.learn_span))
 }
 
 // The trial of a retention.

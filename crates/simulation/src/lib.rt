@@ -1,7 +1,9 @@
 // The run: the types of its answer, and the call. Its parts are the entry's tests (crate `entry`), set_up, turn and run.
 #![tactic(auto)]
 
+ghost use Rattle.std.specs.Prelude.{◌≡◌, Err};
 ghost use Rattle.simulation.specs.State.{lent_of, state};
+ghost use Rattle.simulation.specs.Simulate.{progress, refused};
 ghost use Rattle.entry.specs.Lists.{SameLists, inputs_of};
 ghost use Rattle.simulation.specs.Demands.{RunContract};
 
@@ -28,6 +30,21 @@ pub struct Refused {
     pub progress: Progress,
 }
 
+impl Refused {
+    // A call that an entry test turns away has come no further than its seed.
+    pub fn at_entry(refusal: Refusal, seed: u64) -> Refused
+        ensures { Err result ≡ refused refusal (progress 0 0 0 seed) }
+    {
+        let progress = Progress {
+            turns: 0,
+            cards: 0,
+            queued: 0,
+            draws: seed,
+        };
+        Refused { refusal, progress }
+    }
+}
+
 // Where a run stands between two turns: the queue's length and the state of the draws.
 #[derive(Clone, Copy)]
 pub struct Place {
@@ -48,13 +65,7 @@ pub fn simulate(
     let retention_ok = float32::is_finite(settings.retention);
     let entry = entry::check_entry(lists.lengths(), learner, settings.config, retention_ok);
     if let Err(refusal) = entry {
-        let progress = Progress {
-            turns: 0,
-            cards: 0,
-            queued: 0,
-            draws: settings.seed,
-        };
-        return Err(Refused { refusal, progress });
+        return Err(Refused::at_entry(refusal, settings.seed));
     }
     run::simulate_inner(lists, learner, settings)
 }

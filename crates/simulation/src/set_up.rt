@@ -26,7 +26,8 @@ fn fill_first<T: Copy>(list: &mut [T], n: usize, x: T)
     }
 }
 
-// The card at place `len` joins the queue of the first `len` of its lent rows; over the rows alone, as in turn.rt.
+// The card at place `len` joins the queue of the first `len` of its lent rows. Over the rows alone, for the same reason
+// as turn.rt's `change_front` and `pop`.
 fn push(rows: &mut [[u64; 2]], len: u32, key: u64) -> u32
     ensures { queue rows.new result ≡ pushed (queue rows.old len) len key }
 {

@@ -85,7 +85,8 @@ fn slot_for(lists: &Lists<'_>, rules: Rules, stability: f32, retention: f32) -> 
 }
 
 // ---- the queue, of the first `len` of its lent rows: the first card gets another key, or leaves
-// Over the rows alone: what a queue made of a field of `Lists` leaves there has no name that an answer should cite.
+// Over the rows alone: where a step itself makes a queue of a field of `Lists`, its proof has no lasting name for what
+// that field holds afterwards.
 
 fn change_front(rows: &mut [[u64; 2]], len: u32, key: u64)
     ensures { queue rows.new len ≡ front_changed (queue rows.old len) key }
@@ -145,9 +146,9 @@ fn event_card(card: Card, new: bool, x: Memory, d: u32, v: f32) -> Card
         last_date: day,
         due: day + v,
         interval: v,
-        desired_retention: card.desired_retention,
         reps: card.reps.saturating_add(1),
         lapses: lapses_after(card.lapses, new, x.recalled),
+        ..card
     }
 }
 
@@ -272,7 +273,7 @@ pub(crate) fn turn(lists: &mut Lists<'_>, rules: Rules, at: Place) -> Result<Opt
     match choice_in(lists, rules, first) {
         Choice::Retire => retire_step(lists, rules, first, at),
         Choice::PutOff => put_off_step(lists, rules, first, at),
-        // by whether the card is new
+        // each is an event; `event_step` sees itself whether the card is new
         Choice::Learn | Choice::Review => event_step(lists, rules, first, at),
     }
 }

@@ -8,8 +8,8 @@ pub returns-in-Err-clause-run : goal.returns-in-Err-clause-run
 returns-in-Err-clause-run c =
     let a = c.args in
     let tests = rw c.lengths.ensures at c.check_records-tests.ensures.tests in
-    when_failed a.parameters.now a.records.now a.settings (lent_of a.lists.now) a.existing.now a.existing_counts.now
-    c.in-Err.refusal (sym tests ∙ c.in-Err.is)
+    rw (c.at_entry.ensures) (when_failed a.parameters.now a.records.now a.settings (lent_of a.lists.now)
+    a.existing.now a.existing_counts.now c.in-Err.refusal (sym tests ∙ c.in-Err.is))
 
 pub returns-clause-run : goal.returns-clause-run
 returns-clause-run c =

@@ -5,6 +5,7 @@ use Rattle.simulation.specs.State.{lent_of}
 use Rattle.retention.specs.Trials.{search_of}
 use Rattle.retention.proofs.Rounds.{trying_start, trying_on, trying_ends, trying_stops, trying_spent}
 use Rattle.retention.proofs.search.Goals as goal
+use Rattle.retention.proofs.search.Goals.{else-loop-test, then-loop-test+in-Some+in_ok-mean+else-counter-rounds}
 
 pub loop-init : goal.loop-init
 loop-init c =
@@ -39,8 +40,17 @@ loop-preserved c =
       same = search rules;
     }
 
+-- the loop ends before a trial, or after the last
 pub returns-clause-searched : goal.returns-clause-searched
 returns-clause-searched c =
     let a = c.args in
-    trying_spent (search_of a.learner a.config) a.rounds (lent_of a.lists.now) c.loop.invariant.trying
-    (omega (arith, c.loop-test.false)) c.ended-2.ensures
+    elim c.loop-test.branch [
+      | else-loop-test w ↦ rw (w.lists-is) (trying_spent (search_of a.learner a.config) a.rounds (lent_of a.lists.now)
+          c.loop.invariant.trying (omega (arith, w.loop-test.false)) (rw w.stepper-is at c.ended-2.ensures))
+      | then-loop-test+in-Some+in_ok-mean+else-counter-rounds w ↦ rw (w.lists-is)
+          (trying_spent (search_of a.learner a.config) a.rounds (lent_of a.lists.now)
+          (trying_on (search_of a.learner a.config) a.rounds (lent_of a.lists.now) c.loop.invariant.trying
+          (omega (arith, w.loop-test.true)) w.next_retention.ensures w.in-Some.is w.sample.ensures.trial _
+          w.in_ok-mean.was w.take_mean-stepper.ensures) (omega arith)
+          (rw w.stepper-is at c.ended-2.ensures))
+    ]

@@ -1,8 +1,9 @@
 -- The loop over a trial's runs follows the definition: after k runs, those that are left from here, with the sum so
 -- far, are the whole trial's.
 --   run_is                               one run
+--   before_ok, before_err                what a result was whose error is turned into another
 --   going_start, going_on, going_stops, going_spent   the loop
-use mathlib.Core.Path.{◌≡◌, refl, sym, ap, ◌∙◌}
+use mathlib.Core.Path.{◌≡◌, refl, sym, ap, ◌∙◌, subst}
 use mathlib.Core.Option.{some}
 use Prim.Native.Nat.{ℕ, suc, ◌+◌, ◌-◌, ◌≤◌, ◌<◌}
 use native.Mathlib.Omega.{arith}
@@ -11,7 +12,7 @@ use Rattle.float32.specs.Numbers.{0ᶠ}
 use Rattle.float32.specs.Ops.{◌+ᶠ◌}
 use Rattle.turns.proofs.Logic.{not-one}
 use Rattle.entry.specs.declared.Refusal.{Refusal}
-use Rattle.std.specs.Prelude.{Ok, Err}
+use Rattle.std.specs.Prelude.{Result, Ok, Err, MatchResult, IsErrAnd}
 use Rattle.simulation.specs.State.{Lent, state}
 use Rattle.entry.specs.Entry.{Inputs}
 use Rattle.simulation.specs.Simulate.{Answer}
@@ -33,6 +34,28 @@ run_is i u n l {a} {after} c {r} e = rw (c.result.answer, ← c.result.lists) (r
         ≡ left_by (sampled_as (refusal_in (some a)) (target i.config.learn_span after.costs after.memorized) after)
     left (Ok p) = refl
     left (Err w) = refl
+
+-- ---- a result whose error is turned into another: what it was before
+module _ {T E D : Type 0} (m : Result T D) (Q : E → D → Type 0) (a : Result T E) where
+  same_ok : (x y : T) → (let r : Result T D = Ok x in r ≡ Ok y) → x ≡ y
+  same_ok x y e = cc
+
+  pub before_ok : MatchResult a (λ x. m ≡ Ok x) (λ e. IsErrAnd m (Q e)) → (x : T) → m ≡ Ok x → a ≡ Ok x
+  before_ok = go a
+    where
+      go : (a : Result T E) → MatchResult a (λ x. m ≡ Ok x) (λ e. IsErrAnd m (Q e)) → (x : T) → m ≡ Ok x → a ≡ Ok x
+      go (Ok y) h x e = ap (λ (z : T). Ok z) (same_ok y x (sym h ∙ e))
+      go (Err w) h x e = absurd (subst (λ r. IsErrAnd r (Q w)) e h)
+
+  -- and the error is as the turning has it
+  pub before_err : (R : E → D → Type 0) → ((w : E) (y : D) → Q w y → R w y)
+      → MatchResult a (λ x. m ≡ Ok x) (λ e. IsErrAnd m (Q e)) → (y : D) → m ≡ Err y → (w : E) × (a ≡ Err w) × R w y
+  before_err R told = go a
+    where
+      go : (a : Result T E) → MatchResult a (λ x. m ≡ Ok x) (λ e. IsErrAnd m (Q e)) → (y : D) → m ≡ Err y
+          → (w : E) × (a ≡ Err w) × R w y
+      go (Ok x) h y e = absurd (not-one cc)
+      go (Err w) h y e = (w, refl, told w y (subst (λ r. IsErrAnd r (Q w)) e h))
 
 -- ---- a trial that has a mean is not refused
 pub refused-mean : (w : Refusal) (x : Float) → (let r : Trial = Err w in r ≡ Ok x) → ⊥

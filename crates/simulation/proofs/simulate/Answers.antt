@@ -18,8 +18,8 @@ returns-in-Err-clause-run c =
     let a = c.args in
     let i = inputs_of a.learner a.settings in
     let s = state (lent_of a.lists.now) 0 a.settings.seed in
-    refused_is i s _ (sym (same_check i s c.is_finite-retention_ok.result c.is_finite-retention_ok.ensures
-    (rw c.lengths.ensures at c.check_entry-entry.ensures)) ∙ c.in-Err.is)
+    rw (c.at_entry.ensures) (refused_is i s _ (sym (same_check i s c.is_finite-retention_ok.result
+    c.is_finite-retention_ok.ensures (rw c.lengths.ensures at c.check_entry-entry.ensures)) ∙ c.in-Err.is))
 
 pub returns-clause-run : goal.returns-clause-run
 returns-clause-run c =

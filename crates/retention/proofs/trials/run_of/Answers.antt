@@ -1,20 +1,27 @@
 -- One run, and what it costs.
-use mathlib.Core.Path.{refl, ap}
+use mathlib.Core.Path.{◌≡◌, ap, ◌∙◌}
 use lib.Ieee.{Float}
-use Rattle.std.specs.Prelude.{Ok}
+use Rattle.std.specs.Prelude.{Ok, Err}
+use Rattle.std.proofs.Common.{rules}
+use Rattle.std.proofs.lemmas.Result.{err_from_is_err_and}
+use Rattle.entry.specs.declared.Refusal.{Refusal}
 use Rattle.simulation.specs.State.{lent_of}
 use Rattle.retention.specs.Trials.{search_of}
-use Rattle.retention.proofs.trials.Runs.{run_is}
+use Rattle.retention.proofs.trials.Runs.{run_is, before_ok, before_err}
 use Rattle.retention.proofs.trials.run_of.Goals as goal
 
-pub returns-in-Ok-clause-run : goal.returns-in-Ok-clause-run
-returns-in-Ok-clause-run c =
+pub returns-clause-run : goal.returns-clause-run
+returns-clause-run c =
     let a = c.args in
+    let ok = before_ok c.map_err.result _ c.simulate.result c.map_err.ensures.cases _ c.in_ok-map_err.was in
     run_is (search_of a.learner a.config) a.retention a.n (lent_of a.lists.now)
-    (rw (c.from.ensures, c.in-Ok.is) at c.simulate.ensures.run) (ap (λ (x : Float). Ok x) c.target_of.ensures)
+    (rw (c.from.ensures, ok) at c.simulate.ensures.run) (ap (λ (x : Float). Ok x) c.target_of.ensures)
 
-pub returns-in-Err-clause-run : goal.returns-in-Err-clause-run
-returns-in-Err-clause-run c =
+pub returns-in_err-map_err-clause-run : goal.returns-in_err-map_err-clause-run
+returns-in_err-map_err-clause-run c =
     let a = c.args in
+    let p = err_from_is_err_and c.from_residual.result c.from_residual.ensures.1 in
+    let q = before_err c.map_err.result _ c.simulate.result (λ w y. y ≡ w.refusal) (λ w y q. search rules)
+    c.map_err.ensures.cases _ c.in_err-map_err.was in
     run_is (search_of a.learner a.config) a.retention a.n (lent_of a.lists.now)
-    (rw (c.from.ensures, c.in-Err.is) at c.simulate.ensures.run) refl
+    (rw (c.from.ensures, q.1) at c.simulate.ensures.run) (p.1 ∙ ap (λ (x : Refusal). Err x) (p.2 ∙ q.2))
