@@ -1,8 +1,7 @@
-use Rattle.std.proofs.Common.{◌≡◌, ℕ, ◌+◌, ◌/◌, ◌%◌, ◌^◌, ◌<◌, ◌≤◌, Bool, cond, ltb, sym, ap, ◌∙◌, subst, le_trans, le_of_eq, lt_of_lt_of_le, arith, lit≤, le-ltb, lt-ltb}
+use Rattle.std.proofs.Common.{◌≡◌, ℕ, ◌+◌, ◌/◌, ◌%◌, ◌^◌, ◌<◌, ◌≤◌, Bool, cond, ltb, sym, ap, ◌∙◌, subst, le_trans, le_of_eq, lt_of_lt_of_le, arith, le-ltb, lt-ltb}
 use lib.Ieee.{binary32, of_bits}
 use Rattle.series.specs.Exp.{ln2}
 use Rattle.elementary.specs.Exp.{fixed, packed, shifted, limit, exp_bits}
-use Rattle.elementary.proofs.Common.{no_nan_bits}
 use Rattle.elementary.proofs.exp.Cases.{abs-one, abs-mid, abs-end, bits_is, limit-le}
 use Rattle.elementary.proofs.exp.Law.{fixed_fits, shifted-le, shifted-ge}
 use Rattle.elementary.proofs.exp.exp_at.Goals as goal
