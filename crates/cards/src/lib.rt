@@ -232,7 +232,10 @@ fn rows_of(table: &[f32; 12]) -> &[[f32; 4]]
 pub fn row_of(table: [f32; 12], i: u32) -> [f32; 4]
     ensures { result ≡ row_of table i }
 {
-    rows_of(&table).get(i as usize).copied().unwrap_or([f32::NAN; 4])
+    rows_of(&table)
+        .get(i as usize)
+        .copied()
+        .unwrap_or([f32::NAN; 4])
 }
 
 #[tactic(auto, unfolding(crate::specs::Config::amount_ok))]

@@ -35,8 +35,8 @@ pub struct Rules {
     pub model: Fsrs7Runtime,
 }
 
-// Where the short-term steps have come to. A rating is a u32 from 1 to 4, as the model takes it: to that, C and callers
-// as the Rust has them hand over any u32.
+// Where the short-term steps have come to. A rating is a u32 from 1 to 4, not an enum of four: the model takes any u32, as
+// C and the Rust's callers hand it over.
 #[derive(Clone, Copy)]
 pub struct ShortTerm {
     pub stability: f32,
@@ -197,10 +197,12 @@ impl Rules {
             draws: state,
         };
         let transitions = self.config.relearning_step_transitions;
-        let costs = self.config.state_rating_costs;
         let limit = self.config.relearning_step_count;
-        let t = short_steps(m, transitions, cards::row_of(costs, RELEARNING), limit, first);
-        memory_of(t, of_rating(cards::row_of(costs, REVIEW), 1) + t.cost, false)
+        let costs = self.config.state_rating_costs;
+        let review = cards::row_of(costs, REVIEW);
+        let relearning = cards::row_of(costs, RELEARNING);
+        let t = short_steps(m, transitions, relearning, limit, first);
+        memory_of(t, of_rating(review, 1) + t.cost, false)
     }
 
     // None is refusal 7: the chance to recall is not within 0 to 1.

@@ -8,7 +8,7 @@ use elementary::{exp_f32, powf_f32};
 use float32::{clamp, max, min};
 use std::num::nearest_u32_to_f32;
 
-// A rating is a u32, not an enum of four: C, and callers as the Rust has them, hand over any u32.
+// A rating is a u32, not an enum of four: C and the Rust's callers hand over any u32.
 #[tactic(auto, unfolding(crate::specs::Model::to_rating))]
 fn to_rating(rating: u32) -> u32
     ensures { result ≡ Model.to_rating rating }
