@@ -8,8 +8,7 @@
 use mathlib.Core.Path.{◌≡◌, refl, sym, ap, ◌∙◌, subst}
 use mathlib.Core.Bool.{Bool, true, false, ◌&&◌}
 use mathlib.Core.List.{List, [], ◌∷◌, ◌++◌, map, append_assoc}
-use mathlib.Core.Option.{some}
-use Prim.Native.Nat.{ℕ, zero, suc, ◌<◌, ◌≤◌}
+use Prim.Native.Nat.{ℕ, zero, suc, ◌≤◌}
 use native.Mathlib.Omega.{arith}
 use borrow.Author.Tests.{leb-true}
 use lib.Dec.{ltb, leb}
@@ -19,12 +18,11 @@ use lib.Seq.{take-suc, take-length, take_at, drop-cons, set_at, length-take-le}
 use Rattle.turns.proofs.Logic.{both, not-one}
 use Rattle.float32.specs.Float32.{is_finite}
 use Rattle.elementary.specs.Filled.{filled}
-use Rattle.elementary.proofs.Filled.{fill_length}
 use Rattle.cards.specs.declared.Card.{Card}
 use Rattle.cards.specs.Cards.{card_at, floats_of, counts_of}
 use Rattle.entry.specs.declared.Refusal.{Refusal}
 use Rattle.entry.specs.declared.Refusal.TheVariants as refusal
-use Rattle.std.specs.Prelude.{Ok, Err}
+use Rattle.std.specs.Prelude.{Err}
 use Rattle.simulation.specs.declared.Progress.{Progress}
 use Rattle.simulation.specs.State.{State, Lent, state, lists_of}
 use Rattle.entry.specs.declared.lists.Settings.{Settings}

@@ -7,11 +7,7 @@ ghost use Rattle.card_records.specs.Records.{floats_at, counts_at};
 use cards::Card;
 
 // The records, each to its row.
-pub(crate) fn copy(
-    records: &[Card],
-    existing: &mut [[f32; 6]],
-    existing_counts: &mut [[u32; 2]],
-)
+pub(crate) fn copy(records: &[Card], existing: &mut [[f32; 6]], existing_counts: &mut [[u32; 2]])
     requires { length records.now < 4294967296 }
     ensures floats { existing.new ≡ filled (floats_at records.now) (length records.now) existing.old }
     ensures counts { existing_counts.new ≡ filled (counts_at records.now) (length records.now) existing_counts.old }

@@ -10,8 +10,8 @@ loop-i-init c = sym (fill_none (card_at c.args.cards.now c.args.counts.now) _)
 
 pub loop-i-preserved : goal.loop-i-preserved
 loop-i-preserved c = elim c.if-at-records.branch [
-  then-at-records w ↦ w.records-is
+  | then-at-records w ↦ w.records-is
       ∙ fill_turn (card_at c.args.cards.now c.args.counts.now) _ _ _ _ c.loop-i.invariant w.card_at.ensures
   | else-at-records w ↦ w.records-is
       ∙ fill_past (card_at c.args.cards.now c.args.counts.now) _ _ _ c.loop-i.invariant w.if-at-records.false
-  ]
+]
