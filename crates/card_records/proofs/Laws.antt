@@ -14,7 +14,6 @@ use lib.ListN.{length}
 use lib.Seq.{set_out}
 use Rattle.std.specs.Prelude.{Err, Option, Some, None, MatchOption}
 use Rattle.std.specs.List.{AllWithin, HoldsAt}
-use Rattle.elementary.proofs.Filled.{fill_length}
 use Rattle.elementary.specs.Filled.{filled}
 use Rattle.cards.specs.declared.Card.{Card}
 use Rattle.entry.specs.declared.Refusal.TheVariants as refusal
