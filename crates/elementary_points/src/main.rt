@@ -24,7 +24,8 @@ fn digit(byte: u8) -> u32
 }
 
 fn word(hex: &[u8]) -> u32 {
-    hex.iter().fold(0, |word: u32, byte| word % 268435456 * 16 + digit(*byte))
+    hex.iter()
+        .fold(0, |word: u32, byte| word % 268435456 * 16 + digit(*byte))
 }
 
 fn result(k: u8, x: f32, y: f32) -> f32 {
