@@ -11,7 +11,7 @@ use forecast_text::settings;
 use listing::Settings;
 use retention::Optimum;
 
-// The search over settings, in 64 rounds at the most.
+// The search over settings, in 64 rounds at the most. Its lists stand here as in forecast_text.
 fn search(set: Settings) -> Result<Optimum, Refusal>
     ensures { result ≡ answer_of (cheapest_search set).answer }
 {

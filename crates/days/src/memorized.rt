@@ -1,4 +1,5 @@
-// What is memorized on each day: the chances of all cards, added up.
+// What is memorized on each day: the chances of all cards, added up, in blocks of 64 days with a count beside, as in
+// elementary's blocks.
 ghost use Rattle.std.specs.Prelude.{◌≡◌, true, ◌+◌, ◌-◌, ◌^◌, ◌≤◌, pos, length};
 ghost use Rattle.std.specs.Float.{binary32};
 ghost use Rattle.std.specs.Float.Ieee.{sub, of_int};
@@ -65,7 +66,8 @@ fn is_long(memorized: &[f32], from: u32, to: u32) -> bool
     to <= 16777216 && from < to && 7 < to - from && to as usize <= memorized.len()
 }
 
-// A card's chance on each day from `from` up to `to`, that day left out.
+// A card's chance on each day from `from` up to `to`, that day left out. Five parameters and no struct: one function
+// makes them and two take them, and a struct would be taken apart in each.
 pub fn add_forgetting_curve_range(
     memorized: &mut [f32],
     curve: Curve,

@@ -11,7 +11,7 @@ ghost use Rattle.elementary.specs.Accuracy.{IsPow};
 ghost use Rattle.elementary.specs.Filled.{filled};
 ghost use Rattle.elementary.specs.Quick.{IsBase, IsDecay, quick_arg};
 
-// Whether x is from 1 to 2^32.
+// Whether x is from 1 to 2^32. Its like `is_decay` stands apart: each promises its own range.
 fn is_base(x: f32) -> bool
     ensures { result ≡ true → IsBase x }
 {

@@ -43,7 +43,8 @@ fn ln_mant(m: u64) -> u64
     e / 65536 * 32 + ln_rest(t, t / 16777216 % 128)
 }
 
-// The n of a finite x above 0, from its bit pattern.
+// The n of a finite x above 0, from its bit pattern. The pattern's bounds are asked at four places: a type for it would
+// be made and opened at each.
 pub(crate) fn exponent_of(b: u32) -> u64
     requires { (0 < b) × (b < 0x7F800000) }
     ensures { result ≡ exponent b }

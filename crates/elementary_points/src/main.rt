@@ -16,7 +16,7 @@ struct Tally {
     outside: u64,
 }
 
-// A hex digit; of a byte that is none, some number below 16.
+// A hex digit; of a byte that is none, some number below 16, where the library's own reading refuses the whole line.
 fn digit(byte: u8) -> u32
     ensures { result < 16 }
 {

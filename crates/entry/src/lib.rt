@@ -69,6 +69,7 @@ fn check_cards(learner: Learner<'_>, n: u32) -> Result<(), Refusal>
     }
 }
 
+// The existing cards' two lengths are no fields of `Lengths`: over records both are the number of records.
 pub fn lists_ok(
     config: SimulatorConfig,
     existing: usize,

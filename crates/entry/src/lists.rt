@@ -5,7 +5,8 @@ ghost use Rattle.entry.specs.Lists.{lengths_of_lists};
 use cards::SimulatorConfig;
 
 // The lists that a call writes, all lent: rows of cards and of their counts, of the queue and of days' counts, the
-// days' costs, what is memorized on each, the due counts, and the interval table.
+// days' costs, what is memorized on each, the due counts, and the interval table. Cards and counts, days and costs, keys
+// and intervals lie side by side, as C lends them.
 #[derive(Drop)]
 pub struct Lists<'a> {
     pub cards: &'a mut [[f32; 6]],

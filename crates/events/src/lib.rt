@@ -223,6 +223,7 @@ impl Rules {
     }
 
     // A learning of a new card, or a review at a chance to recall, from a state of the draws. None is refusal 7.
+    // `new` is a fact of the card: a closure in its place would have to be chosen by the same test.
     #[tactic(auto, unfolding(crate::specs::Events::event_at))]
     pub fn event_at(self, card: Card, new: bool, chance: f32, state: u64) -> Option<Memory>
         ensures { result ≡ event_at split_mix self.config (kept self.model) card new chance state }

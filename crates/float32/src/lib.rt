@@ -1,4 +1,5 @@
 // Rust's functions on `f32`, each for every input: the library's, where it has one that promises the same.
+// One that is a single call of the library's stays for its contract: the crates above prove by its definition.
 #![tactic(auto)]
 
 ghost use Rattle.std.specs.Prelude.{◌≡◌, ◌+◌, ◌-◌, ◌*◌, ◌/◌, ◌%◌, ◌^◌, ◌<◌, ◌≤◌, pos};

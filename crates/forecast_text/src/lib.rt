@@ -15,7 +15,8 @@ use simulation::{Progress, Refused};
 
 pub mod settings;
 
-// The run of settings, its days in the lent lists.
+// The run of settings, its days in the lent lists. The other lists stand here as in cheapest_text: one function that
+// lends them all was tried, and its borrows are not proved.
 fn run(
     days: &mut [[u32; 4]],
     costs: &mut [f32],

@@ -1,4 +1,5 @@
-// The retentions of a block of up to 64 times. Each step of `Curve::retention` is a loop over the whole block.
+// The retentions of a block of up to 64 times. Each step of `Curve::retention` is a loop over the whole block:
+// an array of 64 with a count beside, as in elementary's blocks, since there is no heap.
 ghost use Rattle.std.specs.Prelude.{◌≡◌, ◌≤◌, min, get_or, slice_index_or};
 ghost use Rattle.std.specs.Float.{nan};
 ghost use Rattle.float32.specs.Ops.{◌+ᶠ◌, ◌*ᶠ◌, ◌/ᶠ◌};

@@ -7,6 +7,7 @@ ghost use Rattle.std.specs.Prelude.{◌<◌, ◌≤◌};
 
 use cards::{Card, SimulatorConfig};
 use entry::{Learner, Lists, Settings, refusals};
+use forecast_text::settings::default_config;
 use simulation::{Progress, Refused};
 use std::io;
 
@@ -17,18 +18,9 @@ fn settings() -> Settings {
             deck_size: 8,
             learn_span: 10,
             max_cost_perday: 100.0,
-            max_ivl: 36500.0,
-            first_rating_prob: model::defaults::first_rating_prob(),
-            review_rating_prob: model::defaults::review_rating_prob(),
             learn_limit: 2,
             review_limit: 9999,
-            new_cards_ignore_review_limit: true,
-            suspend_after_lapses: u32::MAX,
-            learning_step_transitions: model::defaults::learning_step_transitions(),
-            relearning_step_transitions: model::defaults::relearning_step_transitions(),
-            state_rating_costs: model::defaults::state_rating_costs(),
-            learning_step_count: 2,
-            relearning_step_count: 1,
+            ..default_config()
         },
         retention: 0.9,
         seed: 42,

@@ -5,6 +5,7 @@ use float32::from_bits;
 use model::Fsrs7Runtime;
 use queue::CardPriorityQueue;
 
+// A queue's rows and length, not a queue: a struct can't hold one that borrows its own rows.
 #[derive(Drop)]
 pub struct Kept {
     pub parameters: [f32; 40],
@@ -36,6 +37,7 @@ impl Kept {
         let front = queue.peek_index();
         let len = queue.len;
         self.len = len;
+        // Not an Option: a stored answer is one word, and 4294967295 stands there for none.
         if len == 0 { u32::MAX } else { front }
     }
 

@@ -11,7 +11,7 @@ pub struct Record {
     pub d: u32,
 }
 
-// A hex digit's value; 0 of another byte.
+// A hex digit's value; 0 of another byte, where the library's own reading refuses the whole number.
 fn digit(b: u8) -> u32 {
     match b {
         b'0'..=b'9' => u32::from(b - b'0'),

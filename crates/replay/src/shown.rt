@@ -1,7 +1,7 @@
 // What is printed of a run: its answer, the rows of its days, and digests of its lists.
 use crate::digest::Digests;
 use crate::inputs::first;
-use entry::{Lists, refusals};
+use entry::{Lists, Refusal, refusals};
 use float32::to_bits;
 use simulation::{Progress, Refused};
 use std::io;
@@ -33,7 +33,10 @@ pub fn progress_of(answer: Result<Progress, Refused>) -> Progress {
 pub fn has_run(answer: Result<Progress, Refused>) -> bool {
     match answer {
         Ok(_) => true,
-        Err(it) => refusals::number_of(it.refusal) > 6,
+        Err(it) => matches!(
+            it.refusal,
+            Refusal::ChanceOutOfRange(_) | Refusal::TableFull(_) | Refusal::DueCount(_)
+        ),
     }
 }
 

@@ -6,6 +6,7 @@ ghost use Rattle.std.specs.Prelude.{◌≤◌};
 
 use cards::SimulatorConfig;
 use entry::{Learner, Lists, Settings, refusals};
+use forecast_text::settings::default_config;
 use std::io;
 
 // Two streets, every first rating 4, costs of 8 seconds and at most 10 a day; the rest as `SimulatorConfig::default`
@@ -15,18 +16,9 @@ fn config(deck_size: u32, learn_span: u32) -> SimulatorConfig {
         deck_size,
         learn_span,
         max_cost_perday: 10.0,
-        max_ivl: 36500.0,
         first_rating_prob: [0.0, 0.0, 0.0, 1.0],
-        review_rating_prob: model::defaults::review_rating_prob(),
-        learn_limit: u32::MAX,
-        review_limit: u32::MAX,
-        new_cards_ignore_review_limit: true,
-        suspend_after_lapses: u32::MAX,
-        learning_step_transitions: model::defaults::learning_step_transitions(),
-        relearning_step_transitions: model::defaults::relearning_step_transitions(),
         state_rating_costs: [8.0; 12],
-        learning_step_count: 2,
-        relearning_step_count: 1,
+        ..default_config()
     }
 }
 

@@ -5,8 +5,10 @@
 use cards::SimulatorConfig;
 use entry::{Learner, Lists};
 use float32::to_bits;
+use forecast_text::settings::default_config;
 use std::io;
 
+// The same numbers as in the program points: a program lends none to another, and no crate has default parameters.
 const PARAMETERS: [f32; 34] = [
     0.1104, 2.2395, 3.9221, 11.7841, 6.1686, 0.6457, 3.0194, 3.3722, 0.1666, 0.796, 1.4, 0.2629,
     1.6483, 0.6014, 1.8729, 3.3722, 0.1666, 0.796, 1.4, 0.2629, 1.6483, 0.6014, 1.8729, 0.0392,
@@ -27,19 +29,8 @@ fn config(deck_size: u32, learn_span: u32, learn_limit: u32) -> SimulatorConfig 
     SimulatorConfig {
         deck_size,
         learn_span,
-        max_cost_perday: 1800.0,
-        max_ivl: 36500.0,
-        first_rating_prob: model::defaults::first_rating_prob(),
-        review_rating_prob: model::defaults::review_rating_prob(),
         learn_limit,
-        review_limit: u32::MAX,
-        new_cards_ignore_review_limit: true,
-        suspend_after_lapses: u32::MAX,
-        learning_step_transitions: model::defaults::learning_step_transitions(),
-        relearning_step_transitions: model::defaults::relearning_step_transitions(),
-        state_rating_costs: model::defaults::state_rating_costs(),
-        learning_step_count: 2,
-        relearning_step_count: 1,
+        ..default_config()
     }
 }
 
