@@ -53,9 +53,29 @@ static unsigned bits(float x) {
 }
 
 int main(void) {
-    const struct drill_answer answer = drill_simulate(
-        parameters, DRILL_PARAMETERS, NULL, 0, NULL, 0, config, 0.9f, 7, cards, DECK, counts, DECK, queue, DECK,
-        days, SPAN, costs, SPAN, memorized, SPAN, due, DRILL_DUE_LENGTH(SPAN), keys, TABLE, intervals, TABLE);
+    const struct drill_inputs inputs = {
+        .parameters = parameters,
+        .parameters_len = DRILL_PARAMETERS,
+        .config = config,
+        .desired_retention = 0.9f,
+        .seed = 7,
+    };
+    const struct drill_lists lists = {
+        .cards = cards,
+        .counts = counts,
+        .queue = queue,
+        .cards_len = DECK,
+        .days = days,
+        .costs = costs,
+        .memorized = memorized,
+        .days_len = SPAN,
+        .due = due,
+        .due_len = DRILL_DUE_LENGTH(SPAN),
+        .keys = keys,
+        .intervals = intervals,
+        .table_len = TABLE,
+    };
+    const struct drill_answer answer = drill_forecast(inputs, lists);
     if (answer.refusal != DRILL_OK) return 1;
     printf("(forecast %d (turns %u) (cards %u))\n", SPAN, answer.turns, answer.cards);
     for (int i = 0; i < SPAN; i++)

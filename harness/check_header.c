@@ -91,6 +91,40 @@ int main(void) {
         drill_optimal_retention(w, DRILL_PARAMETERS, NULL, 0, NULL, 0, config, DRILL_MOST_ROUNDS, cards, 1, counts, 1,
                                 queue, 1, days, 1, costs, 1, memorized, 1, due, 1, keys, 2, intervals, 2);
     good &= found.refusal == DRILL_OK && found.rounds == 6 && found.retention > 0.93f && found.mean >= 1;
+    const struct drill_inputs inputs = {
+        .parameters = w,
+        .parameters_len = DRILL_PARAMETERS,
+        .config = config,
+        .desired_retention = 0.9f,
+        .seed = 42,
+    };
+    struct drill_lists lists = {
+        .cards = cards,
+        .counts = counts,
+        .queue = queue,
+        .cards_len = 1,
+        .days = days,
+        .costs = costs,
+        .memorized = memorized,
+        .days_len = 1,
+        .due = due,
+        .due_len = DRILL_DUE_LENGTH(1),
+        .keys = keys,
+        .intervals = intervals,
+        .table_len = 2,
+    };
+    const struct drill_answer named = drill_forecast(inputs, lists);
+    good &= named.refusal == DRILL_OK && named.turns == 2 && named.cards == 1 && named.draws != 42 && costs[0] == 1;
+    const struct drill_found cheapest = drill_cheapest(inputs, DRILL_MOST_ROUNDS, lists);
+    good &= cheapest.refusal == DRILL_OK && cheapest.retention == found.retention && cheapest.mean == found.mean;
+    /* each length is that of its own lists */
+    size_t *const lengths[4] = {&lists.table_len, &lists.due_len, &lists.days_len, &lists.cards_len};
+    const uint32_t short_lists[4] = {DRILL_LIST_NONE, DRILL_LIST_DUE, DRILL_LIST_DAYS, DRILL_LIST_CARDS};
+    for (int i = 0; i < 4; i++) {
+        *lengths[i] = 0;
+        const struct drill_answer shorter = drill_forecast(inputs, lists);
+        good &= shorter.refusal == (i == 0 ? DRILL_TABLE_FULL : DRILL_LISTS_REFUSED) && shorter.list == short_lists[i];
+    }
     struct drill_search search = drill_search_start(DRILL_MOST_ROUNDS);
     good &= drill_search_next(search) == 0.7f && drill_search_answer(search) == DRILL_SEARCH_OPEN;
     search = drill_search_take(search, 1);

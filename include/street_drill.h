@@ -164,6 +164,44 @@ drill_simulate(const float *parameters, size_t parameters_len, const struct dril
                float *memorized, size_t memorized_len, uint32_t *due, size_t due_len, struct drill_interval_key *keys,
                size_t keys_len, float *intervals, size_t intervals_len);
 
+/* The same with names, so that no list can stand in another's place: what a run is given, and the lists that it writes.
+ * Lists that belong together have one length. */
+struct drill_inputs {
+    const float *parameters;
+    size_t parameters_len;
+    const struct drill_card_state *existing_cards; /* NULL where existing_len is 0 */
+    const struct drill_card_counts *existing_counts;
+    size_t existing_len; /* of both */
+    struct drill_config config;
+    float desired_retention; /* drill_cheapest does not look at it, nor at the seed */
+    uint64_t seed;
+};
+
+struct drill_lists {
+    struct drill_card_state *cards;
+    struct drill_card_counts *counts;
+    struct drill_queue_row *queue;
+    size_t cards_len; /* of these three: deck_size */
+    struct drill_day *days;
+    float *costs;
+    float *memorized;
+    size_t days_len; /* of these three: learn_span */
+    uint32_t *due;
+    size_t due_len; /* DRILL_DUE_LENGTH(learn_span) */
+    struct drill_interval_key *keys;
+    float *intervals;
+    size_t table_len; /* of both */
+};
+
+static inline struct drill_answer drill_forecast(struct drill_inputs inputs, struct drill_lists lists) {
+    return drill_simulate(inputs.parameters, inputs.parameters_len, inputs.existing_cards, inputs.existing_len,
+                          inputs.existing_counts, inputs.existing_len, inputs.config, inputs.desired_retention,
+                          inputs.seed, lists.cards, lists.cards_len, lists.counts, lists.cards_len, lists.queue,
+                          lists.cards_len, lists.days, lists.days_len, lists.costs, lists.days_len, lists.memorized,
+                          lists.days_len, lists.due, lists.due_len, lists.keys, lists.table_len, lists.intervals,
+                          lists.table_len);
+}
+
 /* ==== the search for the retention from 0.70 to 0.95 at which a run costs least for each card memorized in the end */
 
 struct drill_found {
@@ -188,6 +226,15 @@ struct drill_found drill_optimal_retention(const float *parameters, size_t param
                                            size_t memorized_len, uint32_t *due, size_t due_len,
                                            struct drill_interval_key *keys, size_t keys_len, float *intervals,
                                            size_t intervals_len);
+
+/* With names, as drill_forecast is. */
+static inline struct drill_found drill_cheapest(struct drill_inputs inputs, uint32_t rounds, struct drill_lists lists) {
+    return drill_optimal_retention(
+        inputs.parameters, inputs.parameters_len, inputs.existing_cards, inputs.existing_len, inputs.existing_counts,
+        inputs.existing_len, inputs.config, rounds, lists.cards, lists.cards_len, lists.counts, lists.cards_len,
+        lists.queue, lists.cards_len, lists.days, lists.days_len, lists.costs, lists.days_len, lists.memorized,
+        lists.days_len, lists.due, lists.due_len, lists.keys, lists.table_len, lists.intervals, lists.table_len);
+}
 
 /* The same search one trial at a time, so that a host may make a trial's runs on threads of its own:
  *
