@@ -169,7 +169,7 @@ fn all_finite(stability: f32, retention: f32, interval: f32, most: f32) -> bool
 }
 
 // Whether an interval is the nearest whole number of days at which the curve of the stability falls to the retention.
-// The three go as numbers, as C and the Rust's own functions have them.
+// Stability, retention and the largest interval go as three numbers, as C and the Rust's own functions have them.
 #[tactic(auto, unfolding(crate::specs::Schedule::certifies))]
 pub fn certifies_rounded_interval(
     curve: Curve,

@@ -55,6 +55,26 @@ fn run_turns(lists: &mut Lists<'_>, rules: Rules, from: Place, bound: u32) -> Ru
     }
 }
 
+// The same over nine references of its own: the compiler then keeps them in registers from turn to turn, where it would
+// read those of the caller's `Lists` anew in each (a run at the usual rate 1.6 ms of 74 longer).
+fn run_held(lists: &mut Lists<'_>, rules: Rules, from: Place, bound: u32) -> RunEnd
+    ensures run { RunTurns (rules_as rules) (state_at lists.old from) bound result (lent_of lists.new) }
+    ensures same { SameLists lists.old lists.new }
+{
+    let mut held = Lists {
+        cards: lists.cards,
+        counts: lists.counts,
+        rows: lists.rows,
+        days: lists.days,
+        costs: lists.costs,
+        memorized: lists.memorized,
+        due: lists.due,
+        keys: lists.keys,
+        intervals: lists.intervals,
+    };
+    run_turns(&mut held, rules, from, bound)
+}
+
 fn bound_of(len: u32, span: u32) -> u32
     requires { (len ≤ most_cards) × (span ≤ most_days) }
     ensures { result ≡ suc (len * suc span) }
@@ -100,6 +120,6 @@ pub(crate) fn simulate_inner(
         draws: settings.seed,
     };
     let bound = bound_of(cards, settings.config.learn_span);
-    let end = run_turns(lists, rules, start, bound);
+    let end = run_held(lists, rules, start, bound);
     answer_of(end, cards)
 }

@@ -26,4 +26,4 @@ returns-clause-run c =
     rw (c.answer_of.ensures, ← c.new.ensures)
     (inner_is (rules_as (record { config = a.settings.config; model = c.new.result }))
     (inputs_of a.learner a.settings) (state (lent_of a.lists.now) 0 a.settings.seed)
-    c.set_up-cards.ensures.state c.bound_of-bound.ensures c.run_turns-end.ensures.run)
+    c.set_up-cards.ensures.state c.bound_of-bound.ensures c.run_held-end.ensures.run)
