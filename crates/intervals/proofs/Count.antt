@@ -135,7 +135,7 @@ module _ (t t' : Table) where
 place-by : (t : Table) → Sound t → (s r : ℕ) → (held_in t s r ≡ none → ⊥) → Answer t s r → (p : ℕ) × Stands t s r p
 place-by t ok s r h (at p v e) = (p, (lookup_at_is t s r e).0)
 place-by t ok s r h (room p e) = absurd (h (free_none t ok s r p e))
-place-by t ok s r h (full e) = absurd (h (full-none t ok s r e))
+place-by t ok s r h (full e) = absurd (h (full-none t s r e))
 
 module _ (t t' : Table) (ok : Sound t) (ok' : Sound t') (held : (s r : ℕ) → held_in t s r ≡ held_in t' s r) where
   -- a used place of t has a place of t' that is marked from then on

@@ -2,7 +2,8 @@
 --   held_free, held_here, held_on, held_zero   what is held, place by place
 --   some_none                                  what is held is not nothing
 --   Answer, answer                             an answer, with what it is
---   found_held, free_none, full-none           what is held where the lookup said Found, Free or Full
+--   found_some, full-none                      of any table: what a lookup finds is held; Full: the key is not
+--   found_held, free_none                      of a sound one: what is held where the lookup said Found, or Free
 --   lookup_held, looked                        a lookup gives what is held under the key, or nothing
 --   one_place, stands_held                     a key stands at one place, and is held where it stands
 use mathlib.Core.Path.{◌≡◌, refl, sym, ◌∙◌, ap}
@@ -16,7 +17,7 @@ use Rattle.intervals.specs.declared.Entry.{Entry}
 use Rattle.intervals.specs.declared.Entry.TheVariants.{Found, Free, Full}
 use Rattle.intervals.specs.Table.{Table, places, free_at, key_at, value_at, lookup_in, held_to, held_in, answer_of}
 use Rattle.intervals.specs.Table.{Stands, Sound, LookupContract}
-use Rattle.intervals.proofs.Probe.{free, here, other, case_of, at_free, at-full, true_false, lookup_at_is}
+use Rattle.intervals.proofs.Probe.{free, here, other, case_of, at_free, true_false, lookup_at_is, lookup_full_is}
 
 -- ---- what is held, place by place
 
@@ -80,33 +81,45 @@ answer_of_lem t s r Full e = full e
 pub answer : (t : Table) (s r : ℕ) → Answer t s r
 answer t s r = answer_of_lem t s r (lookup_in t s r) refl
 
+-- whatever the table: a key that a lookup finds is held, and where it says Full the key is not
+pub found_some : (t : Table) (s r p : ℕ) (v : Float) → lookup_in t s r ≡ Found p v → held_in t s r ≡ none → ⊥
+found_some t s r p v e n = go (view t s r (places t))
+  where
+    go : View t s r (places t) → ⊥
+    go (absent h a) = let w = (lookup_at_is t s r e).0 in a p w.within w.used w.key
+    go (present q l f k h) = some_none h n
+
+pub full-none : (t : Table) (s r : ℕ) → lookup_in t s r ≡ Full → held_in t s r ≡ none
+full-none t s r e = go (view t s r (places t))
+  where
+    go : View t s r (places t) → held_in t s r ≡ none
+    go (absent h a) = h
+    go (present q l f k h) = absurd (true_false k (lookup_full_is t s r e q l).1)
+
 module _ (t : Table) (ok : Sound t) (s r : ℕ) where
   -- where something is held a lookup finds it, and where nothing is held it finds nothing
   at_held : (p : ℕ) (v : Float) → lookup_in t s r ≡ Found p v → View t s r (places t) → held_in t s r ≡ some v
-  at_held p v e (absent h a) = let w = (lookup_at_is t s r e).0 in absurd (a p w.within w.used w.key)
+  at_held p v e (absent h a) = absurd (found_some t s r p v e h)
   at_held p v e (present q l f k h) =
       let g = ok.found s r q (record { within = l; used = f; key = k }) in
       let y : v ≡ value_at t q = cc in
       h ∙ ap some (sym y)
 
-  not_at_held : ((p : ℕ) (v : Float) → lookup_in t s r ≡ Found p v → ⊥) → View t s r (places t) → held_in t s r ≡ none
-  not_at_held n (absent h a) = h
-  not_at_held n (present q l f k h) = absurd
-      (n q (value_at t q) (ok.found s r q (record { within = l; used = f; key = k })))
+  not_held : (p : ℕ) → lookup_in t s r ≡ Free p → View t s r (places t) → held_in t s r ≡ none
+  not_held p e (absent h a) = h
+  not_held p e (present q l f k h) = absurd
+      (at_free (ok.found s r q (record { within = l; used = f; key = k })) e)
 
   pub found_held : (p : ℕ) (v : Float) → lookup_in t s r ≡ Found p v → held_in t s r ≡ some v
   found_held p v e = at_held p v e (view t s r (places t))
 
   pub free_none : (p : ℕ) → lookup_in t s r ≡ Free p → held_in t s r ≡ none
-  free_none p e = not_at_held (λ q v a. at_free a e) (view t s r (places t))
-
-  pub full-none : lookup_in t s r ≡ Full → held_in t s r ≡ none
-  full-none e = not_at_held (λ q v a. at-full a e) (view t s r (places t))
+  free_none p e = not_held p e (view t s r (places t))
 
   lookup_held_by : Answer t s r → answer_of (lookup_in t s r) ≡ held_in t s r
   lookup_held_by (at p v e) = ap answer_of e ∙ sym (found_held p v e)
   lookup_held_by (room p e) = ap answer_of e ∙ sym (free_none p e)
-  lookup_held_by (full e) = ap answer_of e ∙ sym (full-none e)
+  lookup_held_by (full e) = ap answer_of e ∙ sym (full-none t s r e)
 
   pub lookup_held : answer_of (lookup_in t s r) ≡ held_in t s r
   lookup_held = lookup_held_by (answer t s r)

@@ -62,7 +62,7 @@ module _ (t t' : Table) (w : SameEntries t t') (s r : ℕ) where
   match (at p v e) (room p' e') =
       absurd (some_none (found_held t w.sound s r p v e) (w.held s r ∙ free_none t' w.sound' s r p' e'))
   match (at p v e) (full e') = absurd (some_none (found_held t w.sound s r p v e)
-      (w.held s r ∙ full-none t' w.sound' s r e'))
+      (w.held s r ∙ full-none t' s r e'))
   match (room p e) (at p' v' e') =
       absurd (some_none (found_held t' w.sound' s r p' v' e') (sym (w.held s r) ∙ free_none t w.sound s r p e))
   match (room p e) (room p' e') = rw (e, e') both_free

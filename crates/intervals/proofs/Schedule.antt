@@ -2,7 +2,7 @@
 -- to it.
 --     held_is, anew_is, new_is, full_is   the slot by what the lookup found
 --     Origin, origin  where a slot's interval comes from
---     slot_full_iff   there is no slot exactly where the key is not held and as many keys are held as the table is long
+--     slot_full_iff   there is no slot exactly where the key is not held and every place is used, whatever the table
 --     slot_sound      a sound table stays sound
 --     interval-all, slot_all              what holds of all intervals held and of the fresh one holds of the slot's,
 --     and of all held after it
@@ -75,18 +75,17 @@ module _ (t : Table) (s r : ℕ) (certified : Float → Bool) (fresh : Float) wh
   pub origin : Origin (slot_in certified fresh t s r)
   origin = origin_by (lookup_in t s r) refl
 
-  -- refused for want of a place: the key is new, and as many keys are held as the table is long
+  -- refused for want of a place: the key is not held, and every place is used
   full_lookup : (x : Slot) → Origin x → is_full x ≡ true → lookup_in t s r ≡ entry.Full
   full_lookup x (held p v e y) z = absurd (true_false z refl)
   full_lookup x (anew p k) z = absurd (true_false z refl)
   full_lookup x (refused e) z = e
 
-  pub slot_full_iff : Sound t → (is_full (slot_in certified fresh t s r) ≡ true)
+  pub slot_full_iff : (is_full (slot_in certified fresh t s r) ≡ true)
       ↔ ((held_in t s r ≡ none) × (count_in t ≡ places t))
-  slot_full_iff ok = (
-    λ z. (full_iff t ok s r).0 (full_lookup (slot_in certified fresh t s r) origin z),
-    λ w. ap is_full
-        (full_is ((full_iff t ok s r).1 w)),
+  slot_full_iff = (
+    λ z. (full_iff t s r).0 (full_lookup (slot_in certified fresh t s r) origin z),
+    λ w. ap is_full (full_is ((full_iff t s r).1 w)),
   )
 
   module _ (u : is_free fresh ≡ false) where

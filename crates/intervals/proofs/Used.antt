@@ -2,7 +2,7 @@
 --   count_free, count_used, count_zero   the count, place by place
 --   count-places                         no more keys are held than the table is long
 --   full-count, free_count               Full: as many as it is long; Free: fewer
---   full_iff                             Full: the key is not held and as many are held as it is long, and only then
+--   full_iff                             Full: the key is not held and every place is used, and only then
 --   count_same, count_more               as many where the same places are used; one more where one place more is
 use mathlib.Core.Path.{◌≡◌, refl, sym, ◌∙◌, ap}
 use mathlib.Core.Bool.{true, false}
@@ -12,9 +12,9 @@ use Prim.Native.Nat.{ℕ, zero, suc, ◌<◌, ◌≤◌}
 use native.Mathlib.Decide.{ℕ_discrete}
 use native.Mathlib.Omega.{arith}
 use Rattle.intervals.specs.declared.Entry.TheVariants.{Free, Full}
-use Rattle.intervals.specs.Table.{Table, places, free_at, lookup_in, count_to, held_in, count_in, Sound}
+use Rattle.intervals.specs.Table.{Table, places, free_at, lookup_in, count_to, held_in, count_in}
 use Rattle.intervals.proofs.Probe.{Case, free, here, other, case_of, true_false, lookup_free_is, lookup_full_is}
-use Rattle.intervals.proofs.Held.{some_none, Answer, at, room, full, answer, found_held, full-none}
+use Rattle.intervals.proofs.Held.{Answer, at, room, full, answer, found_some, full-none}
 
 module _ (t : Table) where
   pub count_free : (m : ℕ) → free_at t m ≡ true → count_to t (suc m) ≡ count_to t m
@@ -66,20 +66,14 @@ module _ (t : Table) where
   pub count-places : count_in t ≤ places t
   count-places = count-le (places t)
 
-full_by : (t : Table) → Sound t → (s r : ℕ) → held_in t s r ≡ none → count_in t ≡ places t → Answer t s r
-    → lookup_in t s r ≡ Full
-full_by t ok s r h n (at p v e) = absurd (some_none (found_held t ok s r p v e) h)
-full_by t ok s r h n (room p e) = absurd (let l = free_count t s r p e in omega arith)
-full_by t ok s r h n (full e) = e
+full_by : (t : Table) (s r : ℕ) → held_in t s r ≡ none → count_in t ≡ places t → Answer t s r → lookup_in t s r ≡ Full
+full_by t s r h n (at p v e) = absurd (found_some t s r p v e h)
+full_by t s r h n (room p e) = absurd (let l = free_count t s r p e in omega arith)
+full_by t s r h n (full e) = e
 
--- Full exactly where the key is not held and as many keys are held as the table is long
-pub full_iff : (t : Table) → Sound t → (s r : ℕ)
-    → (lookup_in t s r ≡ Full) ↔ ((held_in t s r ≡ none) × (count_in t ≡ places t))
-full_iff t ok s r = (
-  λ e. (full-none t ok s r e, full-count t s r e),
-  λ w. full_by t ok s r w.0 w.1
-      (answer t s r),
-)
+-- Full exactly where the key is not held and as many places are used as the table is long, whatever the table
+pub full_iff : (t : Table) (s r : ℕ) → (lookup_in t s r ≡ Full) ↔ ((held_in t s r ≡ none) × (count_in t ≡ places t))
+full_iff t s r = (λ e. (full-none t s r e, full-count t s r e), λ w. full_by t s r w.0 w.1 (answer t s r))
 
 pub count_same : (t t' : Table) (m : ℕ) → ((q : ℕ) → q < m → free_at t' q ≡ free_at t q) → count_to t' m ≡ count_to t m
 count_same t t' zero a = count_zero t' ∙ sym (count_zero t)

@@ -9,7 +9,8 @@
 --     enter_in t p s r v                   the table with a key and its interval at a place
 --     clear_in t       the table with every place free
 --     held_in t s r    what is held under a key: it knows nothing of a hash
---     count_in t       how many keys are held; answer_of f: what a lookup answers
+--     count_in t       how many places are used, which is how many keys a sound table holds
+--     answer_of f      what a lookup answers
 use Rattle.std.specs.Prelude.{Bool, true, false, cond, ◌&&◌, List, [], ◌∷◌, ◌≡◌, ℕ, zero, suc, ◌+◌, ◌*◌, ◌/◌, ◌%◌, ◌<◌, min, eqb, Float, length, get_or, set, replicate}
 use Rattle.std.proofs.Math.Option.{Option, none, some}
 use Rattle.std.specs.Float.{nan}
@@ -82,7 +83,7 @@ enter_in t p s r v = table (set t.keys p (s ∷ r ∷ [])) (set t.intervals p v)
 abbrev pub clear_in : Table → Table
 clear_in t = table t.keys (replicate (length t.intervals) 0ᶠ)
 
--- the interval held under a key in the first m places, and how many keys are held there
+-- the interval held under a key in the first m places, and how many of them are used
 unfoldable pub held_to : Table → ℕ → ℕ → ℕ → Option Float
 held_to t s r zero = none
 held_to t s r (suc m) = pick (free_at t m) (key_at t m s r) (held_to t s r m) (some (value_at t m)) (held_to t s r m)

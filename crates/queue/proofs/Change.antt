@@ -1,5 +1,6 @@
--- The first card's key changes: the queue stays sound, and the same cards are queued.
+-- The first card's key changes: the same cards are queued, none twice, whatever their order; and heap order is kept.
 --   Changed, change_law                          what a change of the first card's key leaves
+--   change_ordered                               heap order is kept
 --   rekeyed-first, rekeyed_other, rekeyed-card   the rows with the new key: the first, the others, and each row's card
 --   change-queued                                a change of key leaves the same cards queued
 use mathlib.Core.Path.{◌≡◌, refl, sym, ◌∙◌}
@@ -12,14 +13,15 @@ use native.Mathlib.Omega.{arith}
 use lib.ListN.{get_or, length, length-set}
 use lib.Seq.{get_or-set_same, get_or-set_other}
 use Rattle.queue.specs.Queue.{Queue, key_at, card_index_at, heapify, rekeyed, front_changed}
-use Rattle.queue.specs.Sound.{Sound, queued}
+use Rattle.queue.specs.Sound.{Distinct, HeapOrder, queued}
 use Rattle.queue.proofs.Loops.{change-empty, change_is}
 use Rattle.queue.proofs.Order.{ordered_root}
-use Rattle.queue.proofs.Settled.{Mixed, mixed-none, settled_sound, heapify_settles}
+use Rattle.queue.proofs.Mixed.{mixed-none, mixed_distinct, heapify_mixes}
+use Rattle.queue.proofs.Settled.{heapify_settles}
 use Rattle.queue.proofs.Queued.{stands_here, stands_where, bool_eq, card-same}
 
 pub record Changed (q : Queue) (key : ℕ) (q' : Queue) : Type 0 where
-  pub sound : Sound q'
+  pub distinct : Distinct q'
   pub same : q'.len ≡ q.len
   pub long : length q'.rows ≡ length q.rows
   pub from : (i : ℕ) → i < q.len → (j : ℕ) × (j < q.len) × (get_or (rekeyed q.rows key) j [] ≡ get_or q'.rows i [])
@@ -41,25 +43,22 @@ module _ (q : Queue) (key : ℕ) where
       at (yes e) = rw e (rw (rekeyed-first l))
       at (no e) = rw (rekeyed_other i e)
 
-  module _ (s : Sound q) where
+  module _ (s : Distinct q) where
     change_some : 0 < q.len → Changed q key (front_changed q key)
     change_some some =
         let v = rekeyed q.rows key in
         let room = s.room in
         let card = rekeyed-card (omega arith) in
-        let m : Mixed q.len v v = mixed-none q.len v (simp length-set room)
-        (λ i j li lj e. s.once i j li lj (sym (card i) ∙ e ∙ card j)) in
-        let d = heapify_settles q.len v v m
-        (ordered_root (key_at q.rows) (key_at v) q.len (λ x p u. rw (rekeyed_other x (omega arith)))
-        s.order) in
+        let d = heapify_mixes q.len v v (mixed-none q.len v (simp length-set room)
+        (λ i j li lj e. s.once i j li lj (sym (card i) ∙ e ∙ card j))) in
         rw (← change_is q.rows q.len key some room (heapify v q.len) refl)
         (record {
-          sound = settled_sound q.len v (heapify v q.len) d;
+          distinct = mixed_distinct q.len v (heapify v q.len) d;
           same = refl;
-          long = d.mixed.long ∙ simp length-set;
-          from = d.mixed.from;
-          to = d.mixed.to;
-          beyond = λ i l. d.mixed.beyond i l ∙ rekeyed_other i (omega arith);
+          long = d.long ∙ simp length-set;
+          from = d.from;
+          to = d.to;
+          beyond = λ i l. d.beyond i l ∙ rekeyed_other i (omega arith);
         })
 
     pub change_law : Changed q key (front_changed q key)
@@ -68,7 +67,7 @@ module _ (q : Queue) (key : ℕ) where
         at : Dec (q.len ≡ 0) → Changed q key (front_changed q key)
         at (yes e) = rw (← change-empty q.rows q.len key e)
             (record {
-              sound = s;
+              distinct = s;
               same = refl;
               long = refl;
               from = λ i l. absurd (omega arith);
@@ -77,7 +76,18 @@ module _ (q : Queue) (key : ℕ) where
             })
         at (no e) = change_some (omega arith)
 
-pub change-queued : (q : Queue) (key : ℕ) → Sound q → (c : ℕ) → queued (front_changed q key) c ≡ queued q c
+    pub change_ordered : HeapOrder q → HeapOrder (front_changed q key)
+    change_ordered order = at (ℕ_discrete q.len 0)
+      where
+        at : Dec (q.len ≡ 0) → HeapOrder (front_changed q key)
+        at (yes e) = rw (← change-empty q.rows q.len key e) order
+        at (no e) =
+            let v = rekeyed q.rows key in
+            rw (← change_is q.rows q.len key (omega arith) s.room (heapify v q.len) refl)
+            (heapify_settles q.len v (simp length-set s.room)
+            (ordered_root (key_at q.rows) (key_at v) q.len (λ x p u. rw (rekeyed_other x (omega arith))) order))
+
+pub change-queued : (q : Queue) (key : ℕ) → Distinct q → (c : ℕ) → queued (front_changed q key) c ≡ queued q c
 change-queued q key s c = go (front_changed q key) (change_law q key s)
   where
     go : (q' : Queue) → Changed q key q' → queued q' c ≡ queued q c

@@ -27,8 +27,7 @@ pub fill_none : (k : ℕ → ℕ) (rows₀ : List (List ℕ)) → Filled k rows�
 fill_none k rows₀ = record {
   keyed = record {
     sound = record {
-      room = omega arith;
-      once = λ i j l m e. absurd (omega arith);
+      distinct = record { room = omega arith; once = λ i j l m e. absurd (omega arith) };
       order = λ i p l. absurd (omega arith);
     };
     named = λ i l. absurd (omega arith);
@@ -56,11 +55,11 @@ fill_next k rows₀ n q space few f =
     let space' : q.len < length q.rows = omega (arith, f.count, f.long) in
     let few' : q.len < 2 ^ 32 - 1 = omega (arith, f.count) in
     let new : queued q n ≡ false = f.all n ∙ le-ltb n n (le_refl n) in
-    let p = push_law q n (k n) (omega arith) space' few' f.keyed.sound new in
+    let p = push_law q n (k n) (omega arith) space' few' f.keyed.sound.distinct new in
     record {
       keyed = enqueue n k q f.keyed n (suc n) (omega arith) (omega arith) (omega arith) space' few' new;
       count = p.more ∙ omega (arith, f.count);
-      all = λ c. push-queued q n (k n) (omega arith) space' few' f.keyed.sound new c
+      all = λ c. push-queued q n (k n) (omega arith) space' few' f.keyed.sound.distinct new c
           ∙ rw (f.all c) (one_more c (dec_lt c n) (ℕ_discrete n c));
       long = p.long ∙ f.long;
       beyond = λ i l. p.beyond i (omega (arith, f.count)) ∙ f.beyond i (omega arith);

@@ -2,6 +2,7 @@
 pub mod Loops
 pub mod Order
 pub mod Steps
+pub mod Mixed
 pub mod Settled
 pub mod Queued
 pub mod Change

@@ -1,5 +1,6 @@
--- The first card leaves: the queue stays sound, and no other card leaves.
+-- The first card leaves, and no other, whatever their order; and heap order is kept.
 --   Popped, pop_law        what is left without the first card
+--   pop_ordered            heap order is kept
 --   pop_other, pop-front   the first card leaves, and no other
 use mathlib.Core.Path.{◌≡◌, refl, sym, ap, ◌∙◌}
 use mathlib.Core.List.{List, []}
@@ -11,21 +12,22 @@ use native.Mathlib.Omega.{arith}
 use lib.ListN.{get_or, set, length, length-set}
 use lib.Seq.{get_or-set_same, get_or-set_other}
 use Rattle.queue.specs.Queue.{Queue, key_at, card_index_at, heapify, front, popped}
-use Rattle.queue.specs.Sound.{Sound, queued}
+use Rattle.queue.specs.Sound.{Distinct, HeapOrder, queued}
 use Rattle.queue.proofs.Loops.{pop-empty, pop_is}
 use Rattle.queue.proofs.Order.{ordered_root}
-use Rattle.queue.proofs.Settled.{mixed-none, Settled, settled_sound, heapify_settles}
+use Rattle.queue.proofs.Mixed.{Mixed, mixed-none, mixed_distinct, heapify_mixes}
+use Rattle.queue.proofs.Settled.{heapify_settles}
 use Rattle.queue.proofs.Queued.{stands_here, stands_where, bool_eq, card-same}
 
 pub record Popped (q q' : Queue) : Type 0 where
-  pub sound : Sound q'
+  pub distinct : Distinct q'
   pub less : q'.len ≡ q.len - 1
   pub long : length q'.rows ≡ length q.rows
   pub from : (i : ℕ) → i < q.len - 1 → (j : ℕ) × (0 < j) × (j < q.len) × (get_or q.rows j [] ≡ get_or q'.rows i [])
   pub to : (i : ℕ) → 0 < i → i < q.len → (j : ℕ) × (j < q.len - 1) × (get_or q'.rows j [] ≡ get_or q.rows i [])
   pub beyond : (i : ℕ) → q.len ≤ i → get_or q'.rows i [] ≡ get_or q.rows i []
 
-module _ (q : Queue) (s : Sound q) (some : 0 < q.len) where
+module _ (q : Queue) (s : Distinct q) (some : 0 < q.len) where
   abbrev n : ℕ
   n = q.len - 1
 
@@ -63,40 +65,44 @@ module _ (q : Queue) (s : Sound q) (some : 0 < q.len) where
       at (no p) (yes r) x = absurd (omega (arith, sym ((was i li).5 (omega arith)) ∙ x ∙ (was j lj).4 r))
       at (no p) (no r) x = sym ((was i li).5 (omega arith)) ∙ x ∙ (was j lj).5 (omega arith)
 
-  pop-settled : Settled n v (heapify v n)
-  pop-settled =
-      let room = s.room in
-      heapify_settles n v v (mixed-none n v (simp length-set (omega arith)) once_left)
-      (ordered_root (key_at q.rows) (key_at v) n (λ x p u. rw (other_row x (omega arith)))
-      (λ i p u. s.order i p (omega arith)))
+  pop_mixed : Mixed n v (heapify v n)
+  pop_mixed = let room = s.room in heapify_mixes n v v (mixed-none n v (simp length-set (omega arith)) once_left)
 
   pop_some : Popped q (popped q)
   pop_some =
       let room = s.room in
-      let d = pop-settled in
+      let d = pop_mixed in
       rw (← pop_is q.rows q.len some room (heapify v n) refl)
       (record {
-        sound = settled_sound n v (heapify v n) d;
+        distinct = mixed_distinct n v (heapify v n) d;
         less = refl;
-        long = d.mixed.long ∙ simp length-set;
-        from = λ i l. let t = d.mixed.from i l in let u = was t.0 t.1 in (u.0, u.1, u.2, sym u.3 ∙ t.2);
+        long = d.long ∙ simp length-set;
+        from = λ i l. let t = d.from i l in let u = was t.0 t.1 in (u.0, u.1, u.2, sym u.3 ∙ t.2);
         to = λ i p l. go i p l (ℕ_discrete i n);
-        beyond = λ i l. d.mixed.beyond i (omega arith) ∙ other_row i (omega arith);
+        beyond = λ i l. d.beyond i (omega arith) ∙ other_row i (omega arith);
       })
     where
       go : (i : ℕ) → 0 < i → i < q.len → Dec (i ≡ n)
           → (j : ℕ) × (j < n) × (get_or (heapify v n) j [] ≡ get_or q.rows i [])
-      go i p l (yes e) = let t = pop-settled.mixed.to 0 (omega arith) in
+      go i p l (yes e) = let t = pop_mixed.to 0 (omega arith) in
           (t.0, t.1, t.2 ∙ first_row ∙ ap (λ (x : ℕ). get_or q.rows x []) (sym e))
-      go i p l (no e) = let t = pop-settled.mixed.to i (omega arith) in (t.0, t.1, t.2 ∙ other_row i (omega arith))
+      go i p l (no e) = let t = pop_mixed.to i (omega arith) in (t.0, t.1, t.2 ∙ other_row i (omega arith))
 
-pub pop_law : (q : Queue) → Sound q → Popped q (popped q)
+  some_ordered : HeapOrder q → HeapOrder (popped q)
+  some_ordered order =
+      let room = s.room in
+      rw (← pop_is q.rows q.len some room (heapify v n) refl)
+      (heapify_settles n v (simp length-set (omega arith))
+      (ordered_root (key_at q.rows) (key_at v) n (λ x p u. rw (other_row x (omega arith)))
+      (λ i p u. order i p (omega arith))))
+
+pub pop_law : (q : Queue) → Distinct q → Popped q (popped q)
 pop_law q s = at (ℕ_discrete q.len 0)
   where
     at : Dec (q.len ≡ 0) → Popped q (popped q)
     at (yes e) = rw (← pop-empty q.rows q.len e)
         (record {
-          sound = s;
+          distinct = s;
           less = omega arith;
           long = refl;
           from = λ i l. absurd (omega arith);
@@ -105,7 +111,14 @@ pop_law q s = at (ℕ_discrete q.len 0)
         })
     at (no e) = pop_some q s (omega arith)
 
-module _ (q : Queue) (s : Sound q) where
+pub pop_ordered : (q : Queue) → Distinct q → HeapOrder q → HeapOrder (popped q)
+pop_ordered q s order = at (ℕ_discrete q.len 0)
+  where
+    at : Dec (q.len ≡ 0) → HeapOrder (popped q)
+    at (yes e) = rw (← pop-empty q.rows q.len e) order
+    at (no e) = some_ordered q s (omega arith) order
+
+module _ (q : Queue) (s : Distinct q) where
   pub pop_other : (c : ℕ) → c ≢ front q → queued (popped q) c ≡ queued q c
   pop_other c ne = go (popped q) (pop_law q s)
     where

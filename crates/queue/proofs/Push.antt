@@ -1,5 +1,6 @@
--- A card joins: the queue stays sound, and the card is queued with those before.
+-- A card joins: it is queued with those before, none twice, whatever their order; and heap order is kept.
 --   Pushed, push_law                a card joins as the last row, and what that leaves
+--   push_ordered                    heap order is kept
 --   last-card, last-key, same_row   the last row's card and key, and the rows before it
 --   push-queued                     the card is queued then, and so are those before
 use mathlib.Core.Path.{◌≡◌, refl, sym, ap, ◌∙◌}
@@ -14,14 +15,15 @@ use lib.Dec.{eqb}
 use lib.ListN.{get_or, set, length, length-set}
 use lib.Seq.{get_or-set_same, get_or-set_other}
 use Rattle.queue.specs.Queue.{Queue, key_at, card_index_at, parent, bubble_up, pushed}
-use Rattle.queue.specs.Sound.{Sound, queued}
+use Rattle.queue.specs.Sound.{Distinct, HeapOrder, queued}
 use Rattle.queue.proofs.Loops.{push_is}
 use Rattle.queue.proofs.Order.{Rising}
-use Rattle.queue.proofs.Settled.{mixed-none, settled_sound, bubble_settles}
+use Rattle.queue.proofs.Mixed.{mixed-none, mixed_distinct, bubble_mixes}
+use Rattle.queue.proofs.Settled.{bubble_settles}
 use Rattle.queue.proofs.Queued.{stands_here, stands_where, bool_eq, card-same, key-same}
 
 pub record Pushed (q : Queue) (card key : ℕ) (q' : Queue) : Type 0 where
-  pub sound : Sound q'
+  pub distinct : Distinct q'
   pub more : q'.len ≡ q.len + 1
   pub long : length q'.rows ≡ length q.rows
   pub from : (i : ℕ) → i < q.len + 1
@@ -31,7 +33,7 @@ pub record Pushed (q : Queue) (card key : ℕ) (q' : Queue) : Type 0 where
   pub beyond : (i : ℕ) → q.len < i → get_or q'.rows i [] ≡ get_or q.rows i []
 
 module _ (q : Queue) (card key : ℕ) (fits : card < 2 ^ 32) (space : q.len < length q.rows)
-    (few : q.len < 2 ^ 32 - 1) (s : Sound q) (new : queued q card ≡ false) where
+    (few : q.len < 2 ^ 32 - 1) (s : Distinct q) (new : queued q card ≡ false) where
   abbrev joined : List (List ℕ)
   joined = set q.rows q.len (key ∷ card ∷ [])
 
@@ -66,8 +68,8 @@ module _ (q : Queue) (card key : ℕ) (fits : card < 2 ^ 32) (space : q.len < le
       at (no x) (no y) = s.once i j (omega arith) (omega arith)
           (sym (card-same joined q.rows i i (same_row i x)) ∙ e ∙ card-same joined q.rows j j (same_row j y))
 
-  joined_rising : Rising (key_at joined) (q.len + 1) q.len
-  joined_rising = record { rest = λ i l u ne. far i l u ne; over = λ i l u e p. absurd (omega arith) }
+  joined_rising : HeapOrder q → Rising (key_at joined) (q.len + 1) q.len
+  joined_rising order = record { rest = λ i l u ne. far i l u ne; over = λ i l u e p. absurd (omega arith) }
     where
       far : (i : ℕ) → 0 < i → i < q.len + 1 → i ≢ q.len → key_at joined (parent i) ≤ key_at joined i
       far i l u ne =
@@ -75,22 +77,27 @@ module _ (q : Queue) (card key : ℕ) (fits : card < 2 ^ 32) (space : q.len < le
             arith,
             key-same joined q.rows i i (same_row i ne),
             key-same joined q.rows (parent i) (parent i) (same_row (parent i) (omega arith)),
-            s.order i l (omega arith),
+            order i l (omega arith),
           )
 
   pub push_law : Pushed q card key (pushed q card key)
   push_law =
-      let m = mixed-none (q.len + 1) joined (simp length-set (omega arith)) once_joined in
-      let d = bubble_settles (q.len + 1) joined joined q.len (omega arith) m joined_rising in
+      let d = bubble_mixes (q.len + 1) joined joined q.len (omega arith)
+      (mixed-none (q.len + 1) joined (simp length-set (omega arith)) once_joined) in
       rw (← push_is q.rows q.len card key space few (bubble_up joined q.len) refl)
       (record {
-        sound = settled_sound (q.len + 1) joined (bubble_up joined q.len) d;
+        distinct = mixed_distinct (q.len + 1) joined (bubble_up joined q.len) d;
         more = refl;
-        long = d.mixed.long ∙ simp length-set;
-        from = d.mixed.from;
-        to = d.mixed.to;
-        beyond = λ i l. d.mixed.beyond i (omega arith) ∙ same_row i (omega arith);
+        long = d.long ∙ simp length-set;
+        from = d.from;
+        to = d.to;
+        beyond = λ i l. d.beyond i (omega arith) ∙ same_row i (omega arith);
       })
+
+  pub push_ordered : HeapOrder q → HeapOrder (pushed q card key)
+  push_ordered order =
+      rw (← push_is q.rows q.len card key space few (bubble_up joined q.len) refl)
+      (bubble_settles (q.len + 1) joined q.len (simp length-set (omega arith)) (omega arith) (joined_rising order))
 
   pub push-queued : (c : ℕ) → queued (pushed q card key) c ≡ (eqb card c || queued q c)
   push-queued c = go (pushed q card key) push_law

@@ -14,7 +14,7 @@ use borrow.Author.Tests.{eq-eqb, eqb-true}
 use lib.Dec.{eqb}
 use lib.ListN.{get_or}
 use Rattle.queue.specs.Queue.{Queue, key_at, card_index_at, front}
-use Rattle.queue.specs.Sound.{Sound, stands, queued}
+use Rattle.queue.specs.Sound.{HeapOrder, stands, queued}
 use Rattle.queue.proofs.Order.{root_least}
 
 pub stands_here : (rows : List (List ℕ)) (n c i : ℕ) → i < n → card_index_at rows i ≡ c → stands rows n c ≡ true
@@ -57,5 +57,5 @@ key-same rows rows' i j e = rw e
 pub front-queued : (q : Queue) → 0 < q.len → queued q (front q) ≡ true
 front-queued q some = stands_here q.rows q.len (front q) 0 some refl
 
-pub front-least : (q : Queue) → Sound q → (i : ℕ) → i < q.len → key_at q.rows 0 ≤ key_at q.rows i
-front-least q s i l = root_least (key_at q.rows) q.len i i (le_refl i) l s.order
+pub front-least : (q : Queue) → HeapOrder q → (i : ℕ) → i < q.len → key_at q.rows 0 ≤ key_at q.rows i
+front-least q order i l = root_least (key_at q.rows) q.len i i (le_refl i) l order

@@ -1,15 +1,25 @@
 -- What a queue keeps, and which cards it holds.
---   Sound q                        its cards lie within the list, none twice, in heap order
+--   Distinct q                     its cards lie within the list, none twice
+--   HeapOrder q                    no key is less than its parent's
+--   Sound q                        both
 --   stands rows n c, queued q c    whether a card stands in the first n rows, and in the queue
 --   Keyed cards k q                it is sound, and each card stands with its own key
 use Rattle.std.specs.Prelude.{◌≡◌, Bool, false, ◌||◌, List, ℕ, zero, suc, ◌≤◌, ◌<◌, eqb, length}
 use Rattle.queue.specs.Queue.{Queue, key_at, card_index_at, parent}
 
--- the cards lie within the list, none twice, in heap order
-pub record Sound (q : Queue) : Type 0 where
+-- the cards lie within the list, none twice
+pub record Distinct (q : Queue) : Type 0 where
   pub room : q.len ≤ length q.rows
   pub once : (i j : ℕ) → i < q.len → j < q.len → card_index_at q.rows i ≡ card_index_at q.rows j → i ≡ j
-  pub order : (i : ℕ) → 0 < i → i < q.len → key_at q.rows (parent i) ≤ key_at q.rows i
+
+-- no key is less than its parent's
+abbrev pub HeapOrder : Queue → Type 0
+HeapOrder q = (i : ℕ) → 0 < i → i < q.len → key_at q.rows (parent i) ≤ key_at q.rows i
+
+-- both: who is queued after each operation follows from the first alone, who is first from the second
+pub record Sound (q : Queue) : Type 0 where
+  pub distinct : Distinct q
+  pub order : HeapOrder q
 
 -- card c stands at one of the first n places
 abbrev pub stands : List (List ℕ) → ℕ → ℕ → Bool

@@ -30,7 +30,6 @@ use Rattle.simulation.specs.Demands.{Demands, UnreadParameters, start_of, end_of
 use Rattle.simulation.proofs.Accepted.{accepted}
 use Rattle.simulation.proofs.turn.Stops.{stops_iff}
 use Rattle.simulation.proofs.run.Suits.{suits}
-use Rattle.simulation.proofs.run.Table.{end_sound}
 use Rattle.simulation.proofs.run.Frame.{lists_free, cards_are, beyond_same, lengths_same}
 use Rattle.simulation.proofs.run.DemandThree.{few_turns}
 use Rattle.simulation.proofs.run.Due.{due_after, due_left, never_due}
@@ -55,7 +54,7 @@ stops_exactly : (w : DrawRule) (i : Inputs) (s : State Float) → checked i s �
 stops_exactly w i s e x =
     let R = rules_with w i.config (plain i.parameters) in
     let fit = suits w i s (accepted i s e) in
-    let by = stops_iff w i.config (plain i.parameters) (end_of R i s) (end_sound R fit.slots i s) x in
+    let by = stops_iff w i.config (plain i.parameters) (end_of R i s) x in
     (λ z. by.0 (told_stop R i s fit e x _ z), λ z. stop_told R i s fit e x (by.1 z))
 
 -- the answer tells the stop, and no state of the run has the condition of refusal 9
@@ -66,7 +65,7 @@ no_due_refusal w i s e c p z =
     let R = rules_with w i.config (plain i.parameters) in
     let fit = suits w i s (accepted i s e) in
     let stop : Stop = Err (refusal.DueCount c) in
-    let by = stops_iff w i.config (plain i.parameters) (end_of R i s) (end_sound R fit.slots i s) stop in
+    let by = stops_iff w i.config (plain i.parameters) (end_of R i s) stop in
     never_due R i s (accepted i s e) fit c (by.0 (told_stop R i s fit e stop p z))
 
 -- the condition of a stop leaves only two refusals
@@ -90,8 +89,7 @@ run_refusal : (w : DrawRule) (i : Inputs) (s : State Float) → checked i s ≡ 
 run_refusal w i s e r p z =
     let R = rules_with w i.config (plain i.parameters) in
     let fit = suits w i s (accepted i s e) in
-    let by = stops_iff w i.config (plain i.parameters) (end_of R i s) (end_sound R fit.slots i s)
-    (Err r) in
+    let by = stops_iff w i.config (plain i.parameters) (end_of R i s) (Err r) in
     seven_or_eight R (end_of R i s) r (by.0 (told_stop R i s fit e (Err r) p z))
     (λ c q. no_due_refusal w i s e c p (z ∙ ap (λ (y : Refusal). some (refused y p)) q))
 

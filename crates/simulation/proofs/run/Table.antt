@@ -1,5 +1,5 @@
--- What a run keeps of its interval table: it is sound after every turn, so refusal 8 means what the table's law says;
--- and its two lists keep their lengths.
+-- What a run keeps of its interval table: it is sound after every turn, so each used place holds a key of its own, and
+-- refusal 8 counts keys; and its two lists keep their lengths.
 --   run_tables              what each entry keeps of a table holds after any number of turns
 --   end_sound, end_lengths  of the table that a run comes to
 use mathlib.Core.Bool.{Bool, true, false}

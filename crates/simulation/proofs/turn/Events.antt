@@ -197,7 +197,7 @@ module _ {C : Type 0} (R : Rules C) (cards : ℕ) (fine : RunBounds R.span cards
       (add_due R.span s.due z)) (own-day fs c k' row)
       (due_event cards R.span fs s.queue s.due good.due fs' (front_changed s.queue (key_of k')) c mine
       (else_day fs c k') (else_new fs c k')
-      (λ i ne. change-queued s.queue (key_of k') good.order.keyed.sound i) fine.few
+      (λ i ne. change-queued s.queue (key_of k') good.order.keyed.sound.distinct i) fine.few
       good.lengths.due_long onward)
 
   due_long' : due_days R.span ≤ length (add_due R.span s.due (day_of k'.due))
@@ -261,7 +261,7 @@ module _ {C : Type 0} (R : Rules C) (cards : ℕ) (fine : RunBounds R.span cards
         others = λ i ne. record {
           same-day = else_day fs c k' i ne;
           same_new = else_new fs c k' i ne;
-          same-queued = change-queued s.queue (key_of k') good.order.keyed.sound i;
+          same-queued = change-queued s.queue (key_of k') good.order.keyed.sound.distinct i;
         };
       };
       least = first-is R cards fine ts s good some;
@@ -357,7 +357,7 @@ module _ {C : Type 0} (R : Rules C) (cards : ℕ) (fine : RunBounds R.span cards
         others = λ i ne. record {
           same-day = else_day fs c k' i ne;
           same_new = else_new fs c k' i ne;
-          same-queued = change-queued s.queue (key_of k') good.order.keyed.sound i;
+          same-queued = change-queued s.queue (key_of k') good.order.keyed.sound.distinct i;
         };
       };
       least = first-is R cards fine ts s good some;

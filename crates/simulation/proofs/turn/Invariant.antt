@@ -168,7 +168,7 @@ module _ {C : Type 0} (R : Rules C) (cards : ℕ) (fine : RunBounds R.span cards
           others = λ x ne. record {
             same-day = else_day fs c k' x ne;
             same_new = put-new x;
-            same-queued = change-queued s.queue (key_of k') good.order.keyed.sound x;
+            same-queued = change-queued s.queue (key_of k') good.order.keyed.sound.distinct x;
           };
         };
         least = first-is;
@@ -218,7 +218,7 @@ module _ {C : Type 0} (R : Rules C) (cards : ℕ) (fine : RunBounds R.span cards
     };
     due = due_put cards R.span fs s.queue s.due good.due fs' (front_changed s.queue (key_of k')) c is_card
         (else_day fs c k') (λ x ne. put-new x)
-        (λ x ne. change-queued s.queue (key_of k') good.order.keyed.sound x) fine.few
+        (λ x ne. change-queued s.queue (key_of k') good.order.keyed.sound.distinct x) fine.few
         good.lengths.due_long
         (front-queued s.queue some) (put-new c) (omega (arith, in_span e))
         (put_own_day ∙ day-next d (omega (arith, in_span e, fine.most)) ∙ omega arith);
@@ -246,11 +246,11 @@ module _ {C : Type 0} (R : Rules C) (cards : ℕ) (fine : RunBounds R.span cards
       is_card = is_card;
       is_queued = front-queued s.queue some;
       is_day = refl;
-      does = (refl, pop-front s.queue good.order.keyed.sound);
+      does = (refl, pop-front s.queue good.order.keyed.sound.distinct);
       others = λ x ne. record {
         same-day = refl;
         same_new = refl;
-        same-queued = pop_other s.queue good.order.keyed.sound x ne;
+        same-queued = pop_other s.queue good.order.keyed.sound.distinct x ne;
       };
     };
     least = first-is;
@@ -289,5 +289,5 @@ module _ {C : Type 0} (R : Rules C) (cards : ℕ) (fine : RunBounds R.span cards
     };
     due = due_retire cards R.span fs s.queue s.due good.due fs (popped s.queue) c is_card (λ x ne. refl)
         (λ x ne. refl)
-        (pop_other s.queue good.order.keyed.sound) refl (pop-front s.queue good.order.keyed.sound);
+        (pop_other s.queue good.order.keyed.sound.distinct) refl (pop-front s.queue good.order.keyed.sound.distinct);
   }

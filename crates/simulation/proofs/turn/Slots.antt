@@ -44,10 +44,9 @@ module _ (g : SimulatorConfig) (x : Scalars)
         (in_range_used (x.interval s r g.max_ivl) (fair s r)) ok;
     fulls = λ t t' w p s r e.
         let a = (slot_full_iff t (stability_bucket s) (retention_bucket r)
-        (λ v. certifies (λ d. x.chance d s) s r v g.max_ivl) (x.interval s r g.max_ivl)
-        w.sound).0 e in
+        (λ v. certifies (λ d. x.chance d s) s r v g.max_ivl) (x.interval s r g.max_ivl)).0 e in
         (slot_full_iff t' (stability_bucket s) (retention_bucket r)
-        (λ v. certifies (λ d. x.chance d s) s r v g.max_ivl) (x.interval s r g.max_ivl) w.sound').1
+        (λ v. certifies (λ d. x.chance d s) s r v g.max_ivl) (x.interval s r g.max_ivl)).1
         (sym (w.held (stability_bucket s) (retention_bucket r)) ∙ a.0, omega (arith, a.1, w.count, p));
     same_entries = λ t t' w s r. same_slot t t' w (stability_bucket s) (retention_bucket r)
         (λ v. certifies (λ d. x.chance d s) s r v g.max_ivl) (x.interval s r g.max_ivl)

@@ -1,4 +1,5 @@
--- When the next turn stops the run, and how: `stops_iff` says that it is by x exactly on the `StopCondition` of x.
+-- When the next turn stops the run, and how: `stops_iff` says that it is by x exactly on the `StopCondition` of x, in
+-- any state.
 use mathlib.Core.Path.{◌≡◌, refl, sym, ap, ◌∙◌}
 use mathlib.Core.Bool.{Bool, true, false, cond}
 use mathlib.Core.Logic.{◌↔◌}
@@ -28,7 +29,6 @@ use Rattle.intervals.specs.declared.Slot.TheVariants as slot
 use Rattle.intervals.specs.Schedule.{is_full}
 use Rattle.intervals.specs.Bucket.{stability_bucket, retention_bucket}
 use Rattle.intervals.specs.Table.{places, held_in, count_in}
-use Rattle.intervals.specs.Table.{Sound}
 use Rattle.intervals.proofs.Schedule.{slot_full_iff}
 use Rattle.entry.specs.declared.Refusal.TheVariants as refusal
 use Rattle.simulation.specs.Turn.{Stop}
@@ -64,7 +64,7 @@ module _ (w : DrawRule) (g : SimulatorConfig) (x : Scalars) (k : Card) (d state 
   unfolding event_of event_at reviewing
   chance-refused e = rw e
 
-module _ (w : DrawRule) (g : SimulatorConfig) (x : Scalars) (s : State Float) (ok : Sound s.table) where
+module _ (w : DrawRule) (g : SimulatorConfig) (x : Scalars) (s : State Float) where
   abbrev R : Rules Float
   R = rules_with w g x
 
@@ -85,7 +85,7 @@ module _ (w : DrawRule) (g : SimulatorConfig) (x : Scalars) (s : State Float) (o
   slot_full : (y : Float) (z : Float)
       → (is_full (R.model.slot s.table y z) ≡ true) ↔
       ((held_in s.table (stability_bucket y) (retention_bucket z) ≡ none) × (count_in s.table ≡ places s.table))
-  slot_full y z = slot_full_iff s.table (stability_bucket y) (retention_bucket z) _ _ ok
+  slot_full y z = slot_full_iff s.table (stability_bucket y) (retention_bucket z) _ _
 
   module _ (some : 0 < s.queue.len) where
     slot_tells : (new : Bool) (y : Memory) (t : Slot) → turn_choice R s ≡ event_choice new
