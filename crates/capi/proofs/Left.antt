@@ -6,9 +6,9 @@ use Prim.Native.Nat.{ℕ}
 use lib.Ieee.{Float}
 use Rattle.entry.specs.declared.lists.Lists.{Lists}
 use Rattle.entry.specs.Entry.{Inputs}
-use Rattle.simulation.specs.State.{State, Lent, lent, lent_of}
-use Rattle.simulation.specs.Simulate.{Answer}
-use Rattle.simulation.specs.Demands.{RunContract}
+use Rattle.runs.specs.State.{State, Lent, lent, lent_of}
+use Rattle.runs.specs.Simulate.{Answer}
+use Rattle.runs.specs.Demands.{RunContract}
 use Rattle.retention.specs.Retention.{SearchAnswer, SearchContract}
 
 module _ (x : Lists) {cards : List (List Float)} {counts rows days : List (List ℕ)} {costs memorized : List Float}

@@ -4,13 +4,13 @@
 --   came
 --   CallContract   what `drill_simulate` promises
 use Rattle.std.specs.Prelude.{ℕ, cond, ◌≡◌, eqb, length, Float, Ok, Err}
-use Rattle.simulation.specs.declared.Progress.{Progress}
+use Rattle.runs.specs.declared.Progress.{Progress}
 use Rattle.entry.specs.Refusals.{number_of, second_of}
-use Rattle.simulation.specs.State.{State, Lent}
+use Rattle.runs.specs.State.{State, Lent}
 use Rattle.entry.specs.Entry.{Inputs, short_list}
-use Rattle.simulation.specs.Checked.{lengths_of}
-use Rattle.simulation.specs.Simulate.{Answer}
-use Rattle.simulation.specs.Demands.{RunContract}
+use Rattle.runs.specs.Checked.{lengths_of}
+use Rattle.runs.specs.Simulate.{Answer}
+use Rattle.runs.specs.Demands.{RunContract}
 use Rattle.capi.specs.declared.run.RunNumbers.{RunNumbers}
 
 -- the first list that fails the test of refusal 6

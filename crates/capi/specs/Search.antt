@@ -8,7 +8,7 @@ use Rattle.std.specs.Float.{nan}
 use Rattle.float32.specs.Numbers.{0ᶠ}
 use Rattle.brent.specs.declared.Verdict.{Verdict}
 use Rattle.brent.specs.declared.Verdict.TheVariants as verdict
-use Rattle.simulation.specs.State.{Lent, state}
+use Rattle.runs.specs.State.{Lent, state}
 use Rattle.entry.specs.Entry.{Inputs}
 use Rattle.entry.specs.Refusals.{number_of, second_of}
 use Rattle.retention.specs.Retention.{SearchAnswer, SearchContract}

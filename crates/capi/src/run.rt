@@ -1,5 +1,5 @@
 // The run over lists of numbers.
-ghost use Rattle.simulation.specs.State.{lent, state};
+ghost use Rattle.runs.specs.State.{lent, state};
 ghost use Rattle.entry.specs.Entry.{inputs};
 ghost use Rattle.capi.specs.Answer.{list_in, numbers_of, CallContract};
 ghost use Rattle.std.specs.Prelude.{◌≡◌};

@@ -1,7 +1,7 @@
 // The search over lists of numbers, whole and one trial at a time.
 ghost use Rattle.std.specs.Prelude.{◌≡◌};
 ghost use Rattle.brent.specs.Stepping.{started, next_retention, take_mean, answer};
-ghost use Rattle.simulation.specs.State.{lent};
+ghost use Rattle.runs.specs.State.{lent};
 ghost use Rattle.retention.specs.SampleSize.{sample_size};
 ghost use Rattle.retention.specs.Trials.{search_inputs, total, target, mean_of};
 ghost use Rattle.capi.specs.Search.{numbers_of, SearchCall, asked, verdict_number};

@@ -23,14 +23,14 @@ use Rattle.cards.specs.Cards.{card_at, floats_of, counts_of}
 use Rattle.entry.specs.declared.Refusal.{Refusal}
 use Rattle.entry.specs.declared.Refusal.TheVariants as refusal
 use Rattle.std.specs.Prelude.{Err}
-use Rattle.simulation.specs.declared.Progress.{Progress}
-use Rattle.simulation.specs.State.{State, Lent, state, lists_of}
+use Rattle.runs.specs.declared.Progress.{Progress}
+use Rattle.runs.specs.State.{State, Lent, state, lists_of}
 use Rattle.entry.specs.declared.lists.Settings.{Settings}
 use Rattle.entry.specs.Entry.{Check, passed, Inputs, inputs, first_where, not_ok, fail_if, lengths_ok}
 use Rattle.entry.specs.Entry.{check_first, check_settings}
-use Rattle.simulation.specs.Checked.{lengths_of, lists_ok, checked}
-use Rattle.simulation.specs.Simulate.{Answer, finished, refused, IsResult, progress, rules_for, after_check, simulated_by}
-use Rattle.simulation.specs.Demands.{RunContract}
+use Rattle.runs.specs.Checked.{lengths_of, lists_ok, checked}
+use Rattle.runs.specs.Simulate.{Answer, finished, refused, IsResult, progress, rules_for, after_check, simulated_by}
+use Rattle.runs.specs.Demands.{RunContract}
 use Rattle.entry.proofs.Tests.{SettingsOk, settings_passed}
 use Rattle.card_records.specs.Records.{blank, floats_at, counts_at, float_rows, count_rows, record_bad, has_room}
 use Rattle.card_records.specs.Records.{checked_records, laid, record_inputs, RecordsContract}

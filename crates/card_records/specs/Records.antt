@@ -13,11 +13,11 @@ use Rattle.cards.specs.declared.Card.{Card}
 use Rattle.cards.specs.Cards.{card_of, no_floats, no_counts, floats_of, counts_of}
 use Rattle.entry.specs.declared.lists.Settings.{Settings}
 use Rattle.entry.specs.Entry.{Check, Inputs, inputs, is_bad, check_first, check_settings}
-use Rattle.simulation.specs.declared.Progress.{Progress}
-use Rattle.simulation.specs.State.{State, Lent}
-use Rattle.simulation.specs.Checked.{lists_ok}
-use Rattle.simulation.specs.Simulate.{Answer, finished, IsResult, rules_for, after_check}
-use Rattle.simulation.specs.Demands.{DemandThree}
+use Rattle.runs.specs.declared.Progress.{Progress}
+use Rattle.runs.specs.State.{State, Lent}
+use Rattle.runs.specs.Checked.{lists_ok}
+use Rattle.runs.specs.Simulate.{Answer, finished, IsResult, rules_for, after_check}
+use Rattle.runs.specs.Demands.{DemandThree}
 
 -- what stands past a list's end
 unfoldable pub blank : Card

@@ -10,7 +10,7 @@ ghost use Rattle.float32.specs.Float32.{is_finite};
 ghost use Rattle.entry.specs.declared.Refusal.TheVariants as refusal;
 ghost use Rattle.entry.specs.Entry.{passed, fail_if, first_where, lengths_ok, check_settings};
 ghost use Rattle.entry.specs.Lists.{SameLists};
-ghost use Rattle.simulation.specs.State.{lent_of, state};
+ghost use Rattle.runs.specs.State.{lent_of, state};
 ghost use Rattle.card_records.specs.Records.{has_room, record_bad, record_inputs, RecordsContract};
 
 use cards::{Card, SimulatorConfig};

@@ -15,7 +15,7 @@ use Rattle.listing.specs.Forms.{reading, told}
 use Rattle.report.specs.Lines.{refused_line}
 use Rattle.report.proofs.WriteLaws.{refused-short, cheapest-short}
 use Rattle.entry.specs.Refusals.{number_of, second_of}
-use Rattle.simulation.specs.State.{Lent}
+use Rattle.runs.specs.State.{Lent}
 use Rattle.retention.specs.Trials.{search_inputs}
 use Rattle.retention.specs.Retention.{SearchAnswer, answer_of, SearchContract}
 use Rattle.forecast_text.specs.Settings.{most_span, default_settings, config_of, parameters_of}

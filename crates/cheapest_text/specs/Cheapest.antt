@@ -10,7 +10,7 @@ use Rattle.listing.specs.Forms.{reading, told}
 use Rattle.report.specs.Lines.{refused_line, cheapest_line}
 use Rattle.entry.specs.declared.Refusal.{Refusal}
 use Rattle.entry.specs.Refusals.{number_of, second_of}
-use Rattle.simulation.specs.State.{Lent}
+use Rattle.runs.specs.State.{Lent}
 use Rattle.brent.specs.Search.{Searched}
 use Rattle.retention.specs.Trials.{search_inputs}
 use Rattle.retention.specs.Retention.{SearchAnswer, most_rounds, optimal_retention, answer_of}

@@ -2,6 +2,7 @@
 use Rattle.std.specs.Prelude.{ℕ}
 use Rattle.entry.specs.declared.Refusal.{Refusal}
 use Rattle.entry.specs.declared.Refusal.TheVariants as refusal
+use Rattle.entry.specs.declared.RunRefusal.TheVariants as run
 
 abbrev pub number_of : Refusal → ℕ
 number_of (refusal.Parameters i) = 1
@@ -11,9 +12,9 @@ number_of refusal.Config = 4
 number_of refusal.Lists = 6
 number_of refusal.TooManyCards = 2
 number_of (refusal.ExistingCard i) = 5
-number_of (refusal.ChanceOutOfRange c) = 7
-number_of (refusal.TableFull c) = 8
-number_of (refusal.DueCount c) = 9
+number_of (refusal.Run (run.ChanceOutOfRange c)) = 7
+number_of (refusal.Run (run.TableFull c)) = 8
+number_of (refusal.Run (run.DueCount c)) = 9
 number_of (refusal.NotFound done) = 10
 
 abbrev pub second_of : Refusal → ℕ
@@ -24,7 +25,7 @@ second_of refusal.Config = 0
 second_of refusal.Lists = 0
 second_of refusal.TooManyCards = 1
 second_of (refusal.ExistingCard i) = i
-second_of (refusal.ChanceOutOfRange c) = c
-second_of (refusal.TableFull c) = c
-second_of (refusal.DueCount c) = c
+second_of (refusal.Run (run.ChanceOutOfRange c)) = c
+second_of (refusal.Run (run.TableFull c)) = c
+second_of (refusal.Run (run.DueCount c)) = c
 second_of (refusal.NotFound done) = done

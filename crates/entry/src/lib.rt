@@ -15,6 +15,14 @@ pub mod refusals;
 
 pub use lists::{Learner, Lengths, Lists, Settings};
 
+// Why a run is refused, each with the card that has the turn.
+#[derive(Clone, Copy, Debug, PartialEq, Eq)]
+pub enum RunRefusal {
+    ChanceOutOfRange(u32),
+    TableFull(u32),
+    DueCount(u32),
+}
+
 // Why a call is turned away; `refusals::number_of` and `second_of` give the numbers of each.
 #[derive(Clone, Copy, Debug, PartialEq, Eq)]
 pub enum Refusal {
@@ -25,9 +33,7 @@ pub enum Refusal {
     Lists,
     TooManyCards,
     ExistingCard(u32),
-    ChanceOutOfRange(u32),
-    TableFull(u32),
-    DueCount(u32),
+    Run(RunRefusal),
     NotFound(u32),
 }
 

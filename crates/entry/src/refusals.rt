@@ -2,7 +2,7 @@
 ghost use Rattle.std.specs.Prelude.{◌≡◌};
 ghost use Rattle.entry.specs.Refusals.{number_of, second_of};
 
-use super::Refusal;
+use super::{Refusal, RunRefusal};
 
 pub fn number_of(refusal: Refusal) -> u32
     ensures { result ≡ number_of refusal }
@@ -14,9 +14,9 @@ pub fn number_of(refusal: Refusal) -> u32
         Refusal::Config => 4,
         Refusal::Lists => 6,
         Refusal::ExistingCard(_) => 5,
-        Refusal::ChanceOutOfRange(_) => 7,
-        Refusal::TableFull(_) => 8,
-        Refusal::DueCount(_) => 9,
+        Refusal::Run(RunRefusal::ChanceOutOfRange(_)) => 7,
+        Refusal::Run(RunRefusal::TableFull(_)) => 8,
+        Refusal::Run(RunRefusal::DueCount(_)) => 9,
         Refusal::NotFound(_) => 10,
     }
 }
@@ -27,9 +27,9 @@ pub fn second_of(refusal: Refusal) -> u32
     match refusal {
         Refusal::Parameters(n)
         | Refusal::ExistingCard(n)
-        | Refusal::ChanceOutOfRange(n)
-        | Refusal::TableFull(n)
-        | Refusal::DueCount(n)
+        | Refusal::Run(
+            RunRefusal::ChanceOutOfRange(n) | RunRefusal::TableFull(n) | RunRefusal::DueCount(n),
+        )
         | Refusal::NotFound(n) => n,
         Refusal::TooManyCards => 1,
         Refusal::DeckSize | Refusal::LearnSpan | Refusal::Config | Refusal::Lists => 0,

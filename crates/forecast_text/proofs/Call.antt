@@ -11,10 +11,10 @@ use lib.Ieee.{Float, binary32, of_bits}
 use borrow.Author.Tests.{ltb-false}
 use Rattle.cards.specs.declared.SimulatorConfig.{SimulatorConfig}
 use Rattle.listing.specs.declared.Settings.{Settings}
-use Rattle.simulation.specs.Simulate.{Answer}
-use Rattle.simulation.specs.State.{Lent, state}
+use Rattle.runs.specs.Simulate.{Answer}
+use Rattle.runs.specs.State.{Lent, state}
 use Rattle.entry.specs.Entry.{inputs}
-use Rattle.simulation.specs.Demands.{RunContract}
+use Rattle.runs.specs.Demands.{RunContract}
 use Rattle.forecast_text.specs.Settings.{within, config_of, parameters_of, inputs_of}
 use Rattle.forecast_text.specs.Forecast.{lists, run_with, RunDays}
 

@@ -20,8 +20,8 @@ use Rattle.report.proofs.RowLaws.{days_short}
 use Rattle.entry.specs.declared.Refusal.{Refusal}
 use Rattle.entry.specs.Refusals.{number_of, second_of}
 use Rattle.entry.specs.Entry.{most_cards, most_days, first_where, lengths_ok, check_first, check_settings}
-use Rattle.simulation.specs.Checked.{lists_ok, checked}
-use Rattle.simulation.specs.Simulate.{Answer, simulated_by}
+use Rattle.runs.specs.Checked.{lists_ok, checked}
+use Rattle.runs.specs.Simulate.{Answer, simulated_by}
 use Rattle.forecast_text.specs.Settings.{most_deck, most_span, within, config_of, inputs_of, default_settings}
 use Rattle.forecast_text.specs.Forecast.{lists, lent_lists, run_with, forecast_run, room, answer_text, run_text}
 use Rattle.forecast_text.specs.Forecast.{verdict_text, forecast_text}

@@ -23,9 +23,9 @@ use Rattle.listing.specs.declared.Settings.{Settings}
 use Rattle.listing.specs.declared.Reading.{Reading}
 use Rattle.listing.specs.declared.ReadError.{ReadError}
 use Rattle.listing.specs.Forms.{reading, told}
-use Rattle.simulation.specs.Simulate.{Answer}
-use Rattle.simulation.specs.declared.Refused.{Refused}
-use Rattle.simulation.specs.declared.Progress.{Progress}
+use Rattle.runs.specs.Simulate.{Answer}
+use Rattle.runs.specs.declared.Refused.{Refused}
+use Rattle.runs.specs.declared.Progress.{Progress}
 use Rattle.entry.specs.Refusals.{number_of, second_of}
 use Rattle.forecast_text.specs.Settings.{most_span, within, default_settings, config_of}
 use Rattle.forecast_text.specs.Forecast.{room, Printed, RunDays, forecast_run, answer_text, run_text, verdict_text}

@@ -15,8 +15,8 @@ use Rattle.listing.specs.Forms.{reading, told}
 use Rattle.report.specs.Lines.{forecast_line, refused_line}
 use Rattle.report.specs.Rows.{day_lines}
 use Rattle.entry.specs.Refusals.{number_of, second_of}
-use Rattle.simulation.specs.State.{State, Lent, lent, state}
-use Rattle.simulation.specs.Simulate.{Answer, Outcome, simulated}
+use Rattle.runs.specs.State.{State, Lent, lent, state}
+use Rattle.runs.specs.Simulate.{Answer, Outcome, simulated}
 use Rattle.forecast_text.specs.Settings.{most_deck, most_span, default_settings, config_of, inputs_of}
 
 -- the length of the interval table

@@ -13,7 +13,7 @@ use Rattle.entry.specs.declared.Refusal.{Refusal}
 use Rattle.entry.specs.declared.Refusal.TheVariants as refusal
 use Rattle.entry.specs.Refusals.{number_of, second_of}
 use Rattle.entry.specs.Entry.{Check, passed, fail_if, check_parameters}
-use Rattle.simulation.specs.Checked.{checked}
+use Rattle.runs.specs.Checked.{checked}
 use Rattle.forecast_text.specs.Settings.{most_deck, most_span, config_of, parameters_of, inputs_of}
 use Rattle.forecast_text.specs.Forecast.{room, lent_lists, run_text, forecast_text}
 

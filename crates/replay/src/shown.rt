@@ -33,10 +33,7 @@ pub fn progress_of(answer: Result<Progress, Refused>) -> Progress {
 pub fn has_run(answer: Result<Progress, Refused>) -> bool {
     match answer {
         Ok(_) => true,
-        Err(it) => matches!(
-            it.refusal,
-            Refusal::ChanceOutOfRange(_) | Refusal::TableFull(_) | Refusal::DueCount(_)
-        ),
+        Err(it) => matches!(it.refusal, Refusal::Run(_)),
     }
 }
 

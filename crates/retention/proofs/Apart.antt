@@ -13,12 +13,12 @@ use lib.Seq.{get_or-take}
 use lib.Ieee.{Float, nan}
 use Rattle.draws.specs.Draws.{split_mix}
 use Rattle.entry.specs.declared.Refusal.{Refusal}
-use Rattle.simulation.specs.State.{State, Lent, state, lists_of}
+use Rattle.runs.specs.State.{State, Lent, state, lists_of}
 use Rattle.entry.specs.Entry.{Inputs, passed}
-use Rattle.simulation.specs.Frame.{SameLengths}
-use Rattle.simulation.specs.Simulate.{simulated}
-use Rattle.simulation.proofs.Contract.{lists_and_span}
-use Rattle.simulation.proofs.Demands.{demands}
+use Rattle.runs.specs.Frame.{SameLengths}
+use Rattle.runs.specs.Simulate.{simulated}
+use Rattle.runs.proofs.Accepted.{lists_and_span}
+use Rattle.runs.proofs.Demands.{demands}
 use Rattle.brent.specs.Step.{within}
 use Rattle.retention.specs.Trials.{first_seed, run_inputs, total, target, refusal_in, sampled_as, run_of, trial_of}
 use Rattle.retention.specs.Retention.{checked_search}

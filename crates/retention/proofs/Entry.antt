@@ -17,17 +17,17 @@ use Rattle.turns.proofs.Logic.{both}
 use Rattle.draws.specs.Draws.{split_mix}
 use Rattle.entry.specs.declared.Refusal.{Refusal}
 use Rattle.std.specs.Prelude.{Ok, Err}
-use Rattle.simulation.specs.declared.Progress.{Progress}
-use Rattle.simulation.specs.State.{Lent, state, lists_of}
+use Rattle.runs.specs.declared.Progress.{Progress}
+use Rattle.runs.specs.State.{Lent, state, lists_of}
 use Rattle.entry.specs.Entry.{Check, passed, Inputs, inputs, lengths_ok, check_settings}
-use Rattle.simulation.specs.Checked.{checked_with, checked}
+use Rattle.runs.specs.Checked.{checked_with, checked}
 use Rattle.entry.specs.Refusals.{number_of}
-use Rattle.simulation.specs.Frame.{beyond, SameLengths}
-use Rattle.simulation.specs.Simulate.{Answer, rules_for, simulated}
-use Rattle.simulation.specs.Simulate as Simulate
-use Rattle.simulation.specs.Demands.{end_of}
-use Rattle.simulation.proofs.Demands.{demands}
-use Rattle.simulation.proofs.Contract.{same_tests, setting_ok}
+use Rattle.runs.specs.Frame.{beyond, SameLengths}
+use Rattle.runs.specs.Simulate.{Answer, rules_for, simulated}
+use Rattle.runs.specs.Simulate as Simulate
+use Rattle.runs.specs.Demands.{end_of}
+use Rattle.runs.proofs.Demands.{demands}
+use Rattle.runs.proofs.Accepted.{same_tests, setting_ok}
 use Rattle.brent.specs.Step.{within}
 use Rattle.brent.specs.Search.{Sampled, gives, refuses, ended, search, Lawful}
 use Rattle.brent.proofs.Range.{within_finite}

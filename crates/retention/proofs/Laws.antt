@@ -10,9 +10,9 @@ use lib.ListN.{length}
 use lib.Ieee.{Float, is_nan}
 use Rattle.entry.specs.declared.Refusal.{Refusal}
 use Rattle.std.specs.Prelude.{Ok, Err}
-use Rattle.simulation.specs.State.{Lent}
+use Rattle.runs.specs.State.{Lent}
 use Rattle.entry.specs.Entry.{Check, passed, Inputs}
-use Rattle.simulation.specs.Frame.{SameLengths}
+use Rattle.runs.specs.Frame.{SameLengths}
 use Rattle.brent.specs.Search.{Answer, found, not_found, refused, Searched, ended, search, Each, NotBelow}
 use Rattle.brent.specs.Search.{WasTried, FoundWithin, OneMore, OnlySpent, NeverTen, RefusedBy}
 use Rattle.brent.specs.Step.{within}

@@ -7,7 +7,7 @@ use Prim.Native.Nat.{ℕ, suc, ◌+◌, ◌-◌, ◌≤◌, ◌<◌}
 use native.Mathlib.Omega.{arith}
 use lib.Ieee.{Float}
 use Rattle.entry.specs.declared.Refusal.{Refusal}
-use Rattle.simulation.specs.State.{Lent}
+use Rattle.runs.specs.State.{Lent}
 use Rattle.entry.specs.Entry.{Inputs}
 use Rattle.brent.specs.declared.Stepper.{Stepper}
 use Rattle.std.specs.Prelude.{Option, Some, None, Ok, Err}

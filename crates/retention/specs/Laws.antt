@@ -4,15 +4,15 @@
 use Rattle.std.specs.Prelude.{ℕ, ◌+◌, ◌≤◌, ◌<◌, false, ◌⊎◌, ◌≡◌, T, length, Float, Err}
 use Rattle.std.specs.Float.Ieee.{is_nan}
 use Rattle.entry.specs.declared.Refusal.{Refusal}
-use Rattle.simulation.specs.State.{Lent, state}
+use Rattle.runs.specs.State.{Lent, state}
 use Rattle.entry.specs.Entry.{Inputs, passed}
 use Rattle.entry.specs.Refusals as Refusals
 use Rattle.brent.specs.Step.{within}
 use Rattle.brent.specs.Search.{refused, ended, Each, NotBelow, WasTried, FoundWithin, OneMore, OnlySpent, NeverTen}
 use Rattle.brent.specs.Search.{RefusedBy}
 use Rattle.brent.specs.Stepping.{started, driven}
-use Rattle.simulation.specs.SetUp.{kept_cards, new_card_count}
-use Rattle.simulation.specs.Frame.{beyond, SameLengths}
+use Rattle.runs.specs.SetUp.{kept_cards, new_card_count}
+use Rattle.runs.specs.Frame.{beyond, SameLengths}
 use Rattle.retention.specs.Trials.{run_of, trial_of, sample}
 use Rattle.retention.specs.Retention.{checked_search, optimal_retention, answer_of, number_of}
 

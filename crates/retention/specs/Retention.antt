@@ -9,9 +9,9 @@
 use Rattle.std.specs.Prelude.{ℕ, ◌≤◌, ◌<◌, Bool, ◌&&◌, ◌≡◌, leb, Float, Result, Ok, Err}
 use Rattle.entry.specs.declared.Refusal.{Refusal}
 use Rattle.entry.specs.declared.Refusal.TheVariants as refusal
-use Rattle.simulation.specs.State.{Lent, state}
+use Rattle.runs.specs.State.{Lent, state}
 use Rattle.entry.specs.Entry.{Inputs, Check}
-use Rattle.simulation.specs.Checked.{checked_with}
+use Rattle.runs.specs.Checked.{checked_with}
 use Rattle.entry.specs.Refusals as Refusals
 use Rattle.brent.specs.Search.{Answer, found, not_found, refused, Searched, ended, search}
 use Rattle.retention.specs.declared.Optimum.{Optimum}

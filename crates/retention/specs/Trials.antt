@@ -17,9 +17,9 @@ use Rattle.float32.specs.Ops.{◌+ᶠ◌, ◌/ᶠ◌}
 use Rattle.cards.specs.declared.SimulatorConfig.{SimulatorConfig}
 use Rattle.entry.specs.declared.Refusal.{Refusal}
 use Rattle.entry.specs.declared.lists.Learner.{Learner}
-use Rattle.simulation.specs.State.{Lent, state, lists_of}
+use Rattle.runs.specs.State.{Lent, state, lists_of}
 use Rattle.entry.specs.Entry.{Inputs, inputs}
-use Rattle.simulation.specs.Simulate.{Answer, simulated}
+use Rattle.runs.specs.Simulate.{Answer, simulated}
 use Rattle.brent.specs.Step.{r_min}
 use Rattle.brent.specs.Search.{Sampled, gives, refuses}
 use Rattle.retention.specs.SampleSize.{sample_size}

@@ -5,7 +5,7 @@ ghost use Rattle.std.specs.Prelude.{◌≡◌, ◌≤◌};
 ghost use Rattle.brent.specs.Search.{search};
 ghost use Rattle.brent.specs.Stepping.{told, answer};
 ghost use Rattle.entry.specs.Lists.{SameLists};
-ghost use Rattle.simulation.specs.State.{lent_of};
+ghost use Rattle.runs.specs.State.{lent_of};
 ghost use Rattle.retention.specs.Trials.{search_of, sample};
 ghost use Rattle.retention.specs.Retention.{most_rounds, rounds_ok, answer_of, number_of, second_of};
 ghost use Rattle.retention.specs.Retention.{IsSearched, SearchContract};

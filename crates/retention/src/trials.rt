@@ -2,7 +2,7 @@
 ghost use Rattle.std.specs.Prelude.{◌≡◌, get_or};
 ghost use Rattle.std.specs.Float.{nan};
 ghost use Rattle.entry.specs.Lists.{SameLists};
-ghost use Rattle.simulation.specs.State.{lent_of};
+ghost use Rattle.runs.specs.State.{lent_of};
 ghost use Rattle.retention.specs.Trials.{search_of, total, target, mean_of, run_of, sample};
 ghost use Rattle.retention.specs.Trials.{TrialContract};
 

@@ -1,9 +1,6 @@
 -- THE CONTRACT OF A CALL (`RunContract`): a call that an entry test fails is answered as it came, and one that passes
 -- has the result of `simulated`; where it ends Ok, demand 3 holds of it.
---   same_tests, same_check    the entry's tests do not look at the retention's value, the seed or the draws
 --   refused_is, accepted_is   the contract of a call that is refused at its entry, and of one that is accepted
---   setting_ok                a call that passes has passed the test of its own setting
---   lists_and_span            and a run that passes has lists that are long enough, and a day or more
 use mathlib.Core.Path.{◌≡◌, refl, sym, ap, ◌∙◌, subst}
 use mathlib.Core.Option.{some}
 use mathlib.Core.Bool.{Bool, true}
@@ -20,39 +17,27 @@ use Rattle.entry.specs.declared.Refusal.{Refusal}
 use Rattle.entry.specs.Entry.{Check}
 use Rattle.entry.specs.Entry.{passed}
 use Rattle.std.specs.Prelude.{Err}
-use Rattle.simulation.specs.declared.Progress.{Progress}
-use Rattle.simulation.specs.Simulate.{Answer}
-use Rattle.simulation.specs.Simulate.{finished, refused}
-use Rattle.simulation.specs.State.{State, Lent, lists_of, with_draws}
-use Rattle.simulation.specs.Rules.{rules_of}
+use Rattle.runs.specs.declared.Progress.{Progress}
+use Rattle.runs.specs.Simulate.{Answer}
+use Rattle.runs.specs.Simulate.{finished, refused}
+use Rattle.runs.specs.State.{State, Lent, lists_of, with_draws}
+use Rattle.runs.specs.Rules.{rules_of}
 use Rattle.entry.specs.Entry.{Inputs, inputs}
-use Rattle.simulation.specs.Checked.{lists_ok, checked_with, checked}
-use Rattle.simulation.specs.Simulate.{progress, rules_for, result_from, simulated_by, simulated, IsResult}
+use Rattle.runs.specs.Checked.{lists_ok, checked_with, checked}
+use Rattle.runs.specs.Simulate.{progress, rules_for, result_from, simulated_by, simulated, IsResult}
 use Rattle.simulation.specs.Steps.{InnerContract}
-use Rattle.simulation.specs.Demands.{start_of, RunContract}
-use Rattle.simulation.proofs.Accepted.{accepted}
+use Rattle.runs.specs.Demands.{start_of, RunContract}
+use Rattle.runs.proofs.Accepted.{accepted}
 use Rattle.entry.proofs.Tests.{settings_passed}
-use Rattle.simulation.proofs.run.Suits.{suits}
-use Rattle.simulation.proofs.run.DemandThree.{has_stopped, stops_so}
-use Rattle.simulation.proofs.run.Answers.{ok_demand}
+use Rattle.runs.proofs.run.Suits.{suits}
+use Rattle.runs.proofs.run.DemandThree.{has_stopped, stops_so}
+use Rattle.runs.proofs.run.Answers.{ok_demand}
 use Rattle.turns.proofs.Logic.{not-one}
 
 not_finished : (r : Refusal) (p q : Progress) → refused r p ≡ finished q → ⊥
 not_finished r p q e = not-one cc
 
 module _ (i : Inputs) (s : State Float) where
-  -- the entry's tests look neither at the retention's value, nor at the seed, nor at the draws
-  pub same_tests : (ok : Bool) {c : Check}
-      → c ≡ checked_with ok (inputs i.config i.parameters 0ᶠ 0 i.existing i.existing_counts) (with_draws 0 s)
-      → c ≡ checked_with ok i s
-  same_tests ok e = e
-
-  -- those of a run
-  pub same_check : (ok : Bool) {c : Check} → ok ≡ is_finite i.retention
-      → c ≡ checked_with ok (inputs i.config i.parameters 0ᶠ 0 i.existing i.existing_counts) (with_draws 0 s)
-      → c ≡ checked i s
-  same_check ok f e = same_tests ok e ∙ ap (λ (b : Bool). checked_with b i s) f
-
   pub refused_is : (r : Refusal) → checked i s ≡ Err r
       → RunContract i s (refused r (progress 0 0 0 i.seed)) (lists_of s)
   unfolding simulated_by
@@ -82,13 +67,3 @@ module _ (i : Inputs) (s : State Float) where
       demand_three = λ p f. ok_demand (rules_for i) i s (suits split_mix i s (accepted i s e)) p
           (result.answer ∙ ap some f) l' result.lists;
     }
-
--- a call that passes has passed the test of its own setting
-pub setting_ok : {C : Type 0} (ok : Bool) (i : Inputs) (s : State C) → checked_with ok i s ≡ passed → ok ≡ true
-setting_ok ok i s e =
-    (settings_passed ok (lists_ok i s) i.parameters i.config (length i.existing) _ e).setting_ok
-
--- a run that passes has lists that are long enough, and a day or more
-pub lists_and_span : {C : Type 0} (i : Inputs) (s : State C) → checked i s ≡ passed
-    → (lists_ok i s ≡ true) × (0 < i.config.learn_span)
-lists_and_span i s e = let ok = accepted i s e in (ok.lists_pass, ok.span_some)

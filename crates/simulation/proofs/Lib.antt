@@ -1,4 +1,1 @@
-pub mod Accepted
-pub mod Lent
 pub mod Contract
-pub mod Demands

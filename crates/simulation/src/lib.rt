@@ -1,56 +1,17 @@
-// The run: the types of its answer, and the call. Its parts are the entry's tests (crate `entry`), set_up, turn and run.
+// The run: the call. Its parts are the entry's tests (crate `entry`), set-up (set_up.rt), and the turns (run.rt) that
+// crate `turn` takes; crate `runs` has the types and the definitions.
 #![tactic(auto)]
 
-ghost use Rattle.std.specs.Prelude.{◌≡◌, Err};
-ghost use Rattle.simulation.specs.State.{lent_of, state};
-ghost use Rattle.simulation.specs.Simulate.{progress, refused};
+ghost use Rattle.runs.specs.State.{lent_of, state};
 ghost use Rattle.entry.specs.Lists.{SameLists, inputs_of};
-ghost use Rattle.simulation.specs.Demands.{RunContract};
+ghost use Rattle.runs.specs.Demands.{RunContract};
 
-use entry::{Learner, Lists, Refusal, Settings};
+use entry::{Learner, Lists, Settings};
 
 mod run;
 mod set_up;
-mod turn;
 
-// How far a run came: the turns taken, refused ones left out, the run's cards, how many of them are still queued, and
-// the state of the draws.
-#[derive(Clone, Copy)]
-pub struct Progress {
-    pub turns: u32,
-    pub cards: u32,
-    pub queued: u32,
-    pub draws: u64,
-}
-
-// Why a run was refused, and how far it had come.
-#[derive(Clone, Copy)]
-pub struct Refused {
-    pub refusal: Refusal,
-    pub progress: Progress,
-}
-
-impl Refused {
-    // A call that an entry test turns away has come no further than its seed.
-    pub fn at_entry(refusal: Refusal, seed: u64) -> Refused
-        ensures { Err result ≡ refused refusal (progress 0 0 0 seed) }
-    {
-        let progress = Progress {
-            turns: 0,
-            cards: 0,
-            queued: 0,
-            draws: seed,
-        };
-        Refused { refusal, progress }
-    }
-}
-
-// Where a run stands between two turns: the queue's length and the state of the draws.
-#[derive(Clone, Copy)]
-pub struct Place {
-    pub queued: u32,
-    pub draws: u64,
-}
+pub use runs::{Progress, Refused};
 
 // A run, from its entry to its answer.
 pub fn simulate(

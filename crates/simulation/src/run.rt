@@ -1,24 +1,26 @@
 // The run of a call that the entry accepts: set-up, and turns until one stops.
-ghost use Rattle.std.specs.Prelude.{◌≡◌, suc, ◌*◌, ◌≤◌};
+ghost use Rattle.std.specs.Prelude.{◌≡◌, suc, ◌*◌, ◌≤◌, Some};
 ghost use Rattle.float32.specs.Numbers.{0ᶠ};
 ghost use Rattle.entry.specs.Entry.{most_cards, most_days, passed};
 ghost use Rattle.entry.specs.Lists.{SameLists, inputs_of};
-ghost use Rattle.simulation.specs.State.{lent_of, state, state_at};
-ghost use Rattle.simulation.specs.Rules.{rules_as, rules_of_learner};
+ghost use Rattle.runs.specs.State.{lent_of, state, state_at};
+ghost use Rattle.runs.specs.Rules.{rules_as, rules_of_learner};
 ghost use Rattle.simulation.specs.Steps.{RunTurns, InnerContract};
-ghost use Rattle.simulation.specs.Checked.{checked};
-ghost use Rattle.simulation.specs.SetUp.{set_up};
-ghost use Rattle.simulation.specs.Simulate.{progress, answer_of};
+ghost use Rattle.runs.specs.Checked.{checked};
+ghost use Rattle.runs.specs.SetUp.{set_up};
+ghost use Rattle.runs.specs.Simulate.{progress, answer_of};
+ghost use Rattle.runs.specs.Turn.{Stop};
 
-use super::{Place, Progress, Refused};
-use entry::{Learner, Lists, Refusal, Settings};
+use entry::{Learner, Lists, Refusal, RunRefusal, Settings};
 use events::Rules;
 use model::Fsrs7Runtime;
+use runs::{Place, Progress, Refused};
 
-// What a run of turns came to: whether it ended or was refused, the turns taken, and where it stands.
+// What a run of turns came to: how it halted (ended or refused; None where its bound cut it off), the turns taken, and
+// where it stands.
 #[derive(Clone, Copy)]
 pub(crate) struct RunEnd {
-    pub stop: Result<(), Refusal>,
+    pub halt: Option<Result<(), RunRefusal>>,
     pub turns: u32,
     pub at: Place,
 }
@@ -30,18 +32,18 @@ fn run_turns(lists: &mut Lists<'_>, rules: Rules, from: Place, bound: u32) -> Ru
 {
     let mut at = from;
     for turns in 0..bound {
-        match super::turn::turn(lists, rules, at) {
+        match turn::turn(lists, rules, at) {
             Ok(Some(next)) => at = next,
             Ok(None) => {
                 return RunEnd {
-                    stop: Ok(()),
+                    halt: Some(Ok(())),
                     turns,
                     at,
                 };
             }
             Err(refusal) => {
                 return RunEnd {
-                    stop: Err(refusal),
+                    halt: Some(Err(refusal)),
                     turns,
                     at,
                 };
@@ -49,7 +51,7 @@ fn run_turns(lists: &mut Lists<'_>, rules: Rules, from: Place, bound: u32) -> Ru
         }
     }
     RunEnd {
-        stop: Ok(()),
+        halt: None,
         turns: bound,
         at,
     }
@@ -82,8 +84,10 @@ fn bound_of(len: u32, span: u32) -> u32
     len * (span + 1) + 1
 }
 
+// A run that is cut off has no answer; none is (`Demands.ends_within`).
 fn answer_of(end: RunEnd, cards: u32) -> Result<Progress, Refused>
-    ensures { result ≡ answer_of end.stop (progress end.turns cards end.at.queued end.at.draws) }
+    ensures { (x : Stop) → end.halt ≡ Some x
+        → result ≡ answer_of x (progress end.turns cards end.at.queued end.at.draws) }
 {
     let progress = Progress {
         turns: end.turns,
@@ -91,9 +95,12 @@ fn answer_of(end: RunEnd, cards: u32) -> Result<Progress, Refused>
         queued: end.at.queued,
         draws: end.at.draws,
     };
-    match end.stop {
-        Ok(()) => Ok(progress),
-        Err(refusal) => Err(Refused { refusal, progress }),
+    match end.halt {
+        Some(Err(refusal)) => Err(Refused {
+            refusal: Refusal::Run(refusal),
+            progress,
+        }),
+        Some(Ok(())) | None => Ok(progress),
     }
 }
 

@@ -7,10 +7,10 @@ ghost use Rattle.cards.specs.Cards.{is_kept};
 ghost use Rattle.queue.specs.Queue.{queue, pushed};
 ghost use Rattle.entry.specs.Entry.{most_cards, most_days};
 ghost use Rattle.entry.specs.Lists.{SameLists, inputs_of};
-ghost use Rattle.simulation.specs.State.{lent_of, state};
+ghost use Rattle.runs.specs.State.{lent_of, state};
 ghost use Rattle.simulation.specs.Steps.{deck_of, Joined};
-ghost use Rattle.simulation.specs.SetUp.{filled, new_card, add_card, add_existing_card, add_existing_cards};
-ghost use Rattle.simulation.specs.SetUp.{introduced_before, add_new_cards, new_card_count, set_up};
+ghost use Rattle.runs.specs.SetUp.{filled, new_card, add_card, add_existing_card, add_existing_cards};
+ghost use Rattle.runs.specs.SetUp.{introduced_before, add_new_cards, new_card_count, set_up};
 
 use cards::{Card, SimulatorConfig};
 use entry::{Learner, Lists, Settings};
@@ -27,7 +27,7 @@ fn fill_first<T: Copy>(list: &mut [T], n: usize, x: T)
 }
 
 // The card at place `len` joins the queue of the first `len` of its lent rows. Over the rows alone, for the same reason
-// as turn.rt's `change_front` and `pop`.
+// as crate `turn`'s `change_front` and `pop`.
 fn push(rows: &mut [[u64; 2]], len: u32, key: u64) -> u32
     ensures { queue rows.new result ≡ pushed (queue rows.old len) len key }
 {
@@ -39,7 +39,7 @@ fn push(rows: &mut [[u64; 2]], len: u32, key: u64) -> u32
 fn add_card(lists: &mut Lists<'_>, card: Card, len: u32) -> u32
     ensures joined { Joined (add_card (deck_of lists.old len) card) lists.old result lists.new }
 {
-    let key = super::turn::key_of(card);
+    let key = turn::key_of(card);
     cards::write_floats(lists.cards, len, card);
     cards::write_counts(lists.counts, len, card);
     push(lists.rows, len, key)
@@ -105,7 +105,7 @@ fn new_card(retention: f32, limit: u32, i: u32) -> Card
     }
 }
 
-#[tactic(auto, unfolding(crate::specs::SetUp::new_card_count))]
+#[tactic(auto, unfolding(runs::specs::SetUp::new_card_count))]
 fn new_card_count(config: SimulatorConfig, kept: u32) -> u32
     ensures { result ≡ new_card_count config kept }
 {

@@ -9,7 +9,7 @@ use Rattle.draws.specs.Draws.{advance}
 use Rattle.draws.proofs.Points as draws
 use Rattle.cards.specs.Day.{day_of}
 use Rattle.queue.specs.Key.{priority_of}
-use Rattle.simulation.specs.SetUp.{new_card}
+use Rattle.runs.specs.SetUp.{new_card}
 use Rattle.starred.specs.Points.{Starred}
 
 one_more : (i n : ℕ) → i ≡ n → i + 1 ≡ n + 1

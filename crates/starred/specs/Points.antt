@@ -8,7 +8,7 @@ use Rattle.elementary.specs.Pow.{pow_of}
 use Rattle.draws.specs.Draws.{advance, rating}
 use Rattle.cards.specs.Day.{day_of}
 use Rattle.queue.specs.Key.{priority_of}
-use Rattle.simulation.specs.SetUp.{new_card}
+use Rattle.runs.specs.SetUp.{new_card}
 
 abbrev bits : ℕ → Float
 bits n = of_bits binary32 n

@@ -1,6 +1,6 @@
 -- The tests are those of the contract; where they pass, the records are copied, and the run is the core's on the rows.
 use mathlib.Core.Path.{sym, ◌∙◌}
-use Rattle.simulation.specs.State.{lent_of}
+use Rattle.runs.specs.State.{lent_of}
 use Rattle.card_records.proofs.Call.{when_failed, when_passed}
 use Rattle.card_records.proofs.simulate.Goals as goal
 

@@ -4,7 +4,7 @@ use mathlib.Core.List.{List, []}
 use lib.ListN.{get_or}
 use lib.Ieee.{Float}
 use Rattle.std.proofs.Common.{rules}
-use Rattle.simulation.specs.State.{lent_of}
+use Rattle.runs.specs.State.{lent_of}
 use Rattle.forecast_text.specs.Settings.{parameters_of}
 use Rattle.forecast_text.specs.Forecast.{lists}
 use Rattle.forecast_text.proofs.Call.{run_days, first_parameters}

@@ -1,7 +1,7 @@
 -- A call that an entry test fails is turned away as it came; any other is searched.
 use mathlib.Core.Path.{sym, ◌∙◌}
 use Rattle.std.proofs.lemmas.Result.{err_from_is_err_and}
-use Rattle.simulation.specs.State.{lent_of}
+use Rattle.runs.specs.State.{lent_of}
 use Rattle.retention.specs.Trials.{search_of}
 use Rattle.retention.proofs.Entry.{entry_is, rounds_few, search-refused, search_passed}
 use Rattle.retention.proofs.Laws.{search_contract}

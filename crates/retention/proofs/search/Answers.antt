@@ -1,7 +1,7 @@
 use native.Mathlib.Omega.{arith}
 use Rattle.std.proofs.Common.{rules}
 use Rattle.std.proofs.lemmas.Result.{err_from_is_err_and}
-use Rattle.simulation.specs.State.{lent_of}
+use Rattle.runs.specs.State.{lent_of}
 use Rattle.retention.specs.Trials.{search_of}
 use Rattle.retention.proofs.Rounds.{trying_start, trying_on, trying_ends, trying_stops, trying_spent}
 use Rattle.retention.proofs.search.Goals as goal

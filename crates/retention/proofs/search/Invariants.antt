@@ -1,7 +1,7 @@
 -- The invariant of its loop, `Trying`: after so many trials what is left is the whole search; the lists are those that
 -- were lent.
 use Rattle.entry.specs.Lists.{SameLists}
-use Rattle.simulation.specs.State.{lent_of}
+use Rattle.runs.specs.State.{lent_of}
 use Rattle.retention.specs.Trials.{search_of}
 use Rattle.retention.proofs.Rounds.{Trying}
 use Rattle.retention.proofs.search.Given as goal

@@ -13,10 +13,10 @@ use Rattle.float32.specs.Ops.{◌+ᶠ◌}
 use Rattle.turns.proofs.Logic.{not-one}
 use Rattle.entry.specs.declared.Refusal.{Refusal}
 use Rattle.std.specs.Prelude.{Result, Ok, Err, MatchResult, IsErrAnd}
-use Rattle.simulation.specs.State.{Lent, state}
+use Rattle.runs.specs.State.{Lent, state}
 use Rattle.entry.specs.Entry.{Inputs}
-use Rattle.simulation.specs.Simulate.{Answer}
-use Rattle.simulation.specs.Demands.{RunContract}
+use Rattle.runs.specs.Simulate.{Answer}
+use Rattle.runs.specs.Demands.{RunContract}
 use Rattle.brent.specs.Search.{Sampled, gives, refuses}
 use Rattle.retention.specs.SampleSize.{sample_size}
 use Rattle.retention.specs.Trials.{first_seed, run_inputs, target, refusal_in, sampled_as, run_of, and_then}

@@ -2,10 +2,11 @@
 -- run stops as the whole.
 --   Going R s₀ bound s k    the state after k turns, of at most bound
 --   going_on, going_stops   one more turn, or a stop
+--   going_cut               no more turn may be taken
 --   going_start             no turn yet
 use mathlib.Core.Path.{◌≡◌, refl, sym, ap, ◌∙◌}
 use mathlib.Core.List.{[], ◌∷◌}
-use mathlib.Core.Option.{some}
+use mathlib.Core.Option.{none, some}
 use Prim.Native.Nat.{ℕ, suc, ◌+◌, ◌-◌, ◌≤◌, ◌<◌}
 use native.Mathlib.Omega.{arith}
 use lib.ListN.{length}
@@ -13,13 +14,14 @@ use Rattle.turns.specs.Turns.{Turn}
 use Rattle.turns.specs.Run.{Next, takes, stops, RunState, run, stop_of}
 use Rattle.turns.proofs.Loop.{run_one_more, run_enough, stop_takes, stop_stops}
 use Rattle.events.specs.Drawn.{Drawn}
-use Rattle.std.specs.Prelude.{Result, Ok, Err, Option, Some}
-use Rattle.entry.specs.declared.Refusal.{Refusal}
-use Rattle.simulation.specs.declared.Place.{Place}
-use Rattle.simulation.specs.State.{State, Lent, lists_of, state}
-use Rattle.simulation.specs.Rules.{Rules}
-use Rattle.simulation.specs.Turn.{Stop, next}
-use Rattle.simulation.specs.Steps.{stopped, TurnContract, RunTurns}
+use Rattle.std.specs.Prelude.{Result, Ok, Err, Option, Some, None}
+use Rattle.entry.specs.declared.RunRefusal.{RunRefusal}
+use Rattle.runs.specs.declared.Place.{Place}
+use Rattle.runs.specs.State.{State, Lent, lists_of, state}
+use Rattle.runs.specs.Rules.{Rules}
+use Rattle.runs.specs.Turn.{Stop, next}
+use Rattle.turn.specs.Steps.{stopped, TurnContract}
+use Rattle.simulation.specs.Steps.{halt_of, RunTurns}
 use Rattle.turns.proofs.Logic.{not-one}
 
 -- the state of a state's lists
@@ -32,7 +34,7 @@ stop_took : (x : Stop) (at : Place) → stopped x ≡ Ok (Some at) → ⊥
 stop_took (Ok x) at e = not-one cc
 stop_took (Err r) at e = not-one cc
 
-took_same : (a b : Place) → (let x : Result (Option Place) Refusal = Ok (Some a) in x ≡ Ok (Some b)) → a ≡ b
+took_same : (a b : Place) → (let x : Result (Option Place) RunRefusal = Ok (Some a) in x ≡ Ok (Some b)) → a ≡ b
 took_same a b e = cc
 
 stopped_same : (x y : Stop) → stopped x ≡ stopped y → x ≡ y
@@ -40,9 +42,6 @@ stopped_same (Ok x) (Ok y) e = refl
 stopped_same (Ok x) (Err r) e = absurd (not-one cc)
 stopped_same (Err r) (Ok y) e = absurd (not-one cc)
 stopped_same (Err r) (Err r') e = cc
-
-same_stop : (x y : Stop) → some x ≡ some y → x ≡ y
-same_stop x y e = cc
 
 module _ {C : Type 0} (R : Rules C) (s₀ : State C) (bound : ℕ) where
   abbrev after : ℕ → RunState (Turn Drawn) (State C)
@@ -55,7 +54,7 @@ module _ {C : Type 0} (R : Rules C) (s₀ : State C) (bound : ℕ) where
     pub within : k ≤ bound
     pub left : stop_of (next R) (bound - k) s ≡ stop_of (next R) bound s₀
 
-  module _ {st : State C} {k : ℕ} (i : Going st k) {o : Result (Option Place) Refusal}
+  module _ {st : State C} {k : ℕ} (i : Going st k) {o : Result (Option Place) RunRefusal}
       {l' : Lent C}
       (p : TurnContract (next R st) st o l') (l : k < bound) where
     one_left : bound - k ≡ suc (bound - (k + 1))
@@ -85,12 +84,12 @@ module _ {C : Type 0} (R : Rules C) (s₀ : State C) (bound : ℕ) where
 
     pub going_stops : (z : Stop) → o ≡ stopped z
         → RunTurns R s₀ bound
-        (record { stop = z; turns = k; at = record { queued = st.queue.len; draws = st.draws } }) l'
+        (record { halt = Some z; turns = k; at = record { queued = st.queue.len; draws = st.draws } }) l'
     going_stops z ez = go (next R st) refl p
       where
         go : (x : Next (Turn Drawn) (State C) Stop) → next R st ≡ x → TurnContract x st o l'
             → RunTurns R s₀ bound
-            (record { stop = z; turns = k; at = record { queued = st.queue.len; draws = st.draws } }) l'
+            (record { halt = Some z; turns = k; at = record { queued = st.queue.len; draws = st.draws } }) l'
         go (takes u s') q h = absurd (stop_took z _ (sym ez ∙ h.outcome))
         go (stops x) q h =
             let q' : next R (after k).state ≡ stops x = rw (← i.at) q in
@@ -100,12 +99,27 @@ module _ {C : Type 0} (R : Rules C) (s₀ : State C) (bound : ℕ) where
             let y : stop_of (next R) bound s₀ ≡ some x = sym i.left ∙ ap (λ (z : ℕ). stop_of (next R) z st) one_left
             ∙ stop_stops (next R) (bound - (k + 1)) st x q in
             record {
-              stop_is = λ w ew. stopped_same z x (sym ez ∙ h.outcome) ∙ same_stop x w (sym y ∙ ew);
+              halt = ap (λ (w : Stop). Some w) (stopped_same z x (sym ez ∙ h.outcome)) ∙ sym (ap halt_of y);
               turns = sym (ap (λ (z : RunState (Turn Drawn) (State C)). length z.turns) one ∙ i.many);
               queued = ap (λ (z : State C). z.queue.len) s;
               draws = ap (λ (z : State C). z.draws) s;
               lists = h.lists ∙ ap lists_of s;
             }
+
+  -- a run that is cut off has taken as many turns as it may, and none has stopped it
+  pub going_cut : {st : State C} → Going st bound
+      → RunTurns R s₀ bound
+      (record { halt = None; turns = bound; at = record { queued = st.queue.len; draws = st.draws } }) (lists_of st)
+  going_cut {st = st} i =
+      let e : bound - bound ≡ 0 = omega arith in
+      let y : stop_of (next R) bound s₀ ≡ none = sym i.left ∙ ap (λ (z : ℕ). stop_of (next R) z st) e in
+      record {
+        halt = sym (ap halt_of y);
+        turns = sym i.many;
+        queued = ap (λ (z : State C). z.queue.len) i.at;
+        draws = ap (λ (z : State C). z.draws) i.at;
+        lists = ap lists_of i.at;
+      }
 
 pub going_start : {C : Type 0} (R : Rules C) (bound : ℕ) (s : State C) → Going R s bound s 0
 going_start R bound s =

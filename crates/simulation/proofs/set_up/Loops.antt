@@ -22,8 +22,8 @@ use Rattle.turns.proofs.Sums.{bit_le}
 use Rattle.cards.specs.declared.Card.{Card}
 use Rattle.cards.specs.Day.{day_of, is_new}
 use Rattle.cards.specs.Cards.{card_at, is_kept}
-use Rattle.simulation.specs.SetUp.{Deck, deck, filled, new_card, add_card, add_kept_card, add_existing_card}
-use Rattle.simulation.specs.SetUp.{add_existing_cards, introduced_before, add_new_cards}
+use Rattle.runs.specs.SetUp.{Deck, deck, filled, new_card, add_card, add_kept_card, add_existing_card}
+use Rattle.runs.specs.SetUp.{add_existing_cards, introduced_before, add_new_cards}
 use Rattle.days.specs.Due.{add_due}
 use Rattle.queue.specs.Queue.{Queue}
 use Rattle.simulation.specs.Steps.{deck_of, Joined}

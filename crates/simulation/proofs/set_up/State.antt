@@ -7,10 +7,10 @@ use lib.Ieee.{Float, of_bits, binary32}
 use Rattle.cards.specs.declared.SimulatorConfig.{SimulatorConfig}
 use Rattle.days.specs.Counts.{day_row}
 use Rattle.days.specs.Due.{due_days}
-use Rattle.simulation.specs.State.{State, lent, state}
+use Rattle.runs.specs.State.{State, lent, state}
 use Rattle.entry.specs.Entry.{Inputs, inputs}
-use Rattle.simulation.specs.SetUp.{deck, filled, add_existing_cards, introduced_before, add_new_cards}
-use Rattle.simulation.specs.SetUp.{new_card_count, empty_deck, add_all_cards, set_up}
+use Rattle.runs.specs.SetUp.{deck, filled, add_existing_cards, introduced_before, add_new_cards}
+use Rattle.runs.specs.SetUp.{new_card_count, empty_deck, add_all_cards, set_up}
 
 module _ (g : SimulatorConfig) (w : List Float) (retention : Float) (seed : ℕ) (es : List (List Float))
     (ns : List (List ℕ))

@@ -1,8 +1,9 @@
 -- A call that an entry test fails is turned away as it came; any other is set up and run.
 use mathlib.Core.Path.{sym, ◌∙◌}
 use Rattle.entry.specs.Lists.{inputs_of}
-use Rattle.simulation.specs.State.{lent_of, state}
-use Rattle.simulation.proofs.Contract.{same_check, refused_is, accepted_is}
+use Rattle.runs.specs.State.{lent_of, state}
+use Rattle.runs.proofs.Accepted.{same_check}
+use Rattle.simulation.proofs.Contract.{refused_is, accepted_is}
 use Rattle.simulation.proofs.simulate.Goals as goal
 
 pub simulate_inner-requires : goal.simulate_inner-requires

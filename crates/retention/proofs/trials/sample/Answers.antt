@@ -2,7 +2,7 @@ use mathlib.Core.Path.{ap}
 use Rattle.std.proofs.Common.{rules}
 use Rattle.std.proofs.lemmas.Result.{err_from_is_err_and}
 use Rattle.float32.specs.Ops.{◌/ᶠ◌}
-use Rattle.simulation.specs.State.{lent_of}
+use Rattle.runs.specs.State.{lent_of}
 use Rattle.retention.specs.Trials.{search_of}
 use Rattle.retention.proofs.trials.Runs.{going_on, going_stops, going_spent, sample_is}
 use Rattle.retention.proofs.trials.sample.Goals as goal

@@ -1,7 +1,7 @@
 -- The invariant of its loop, `Going`: after so many runs what is left is the whole trial; the lists are those that were
 -- lent.
 use Rattle.entry.specs.Lists.{SameLists}
-use Rattle.simulation.specs.State.{lent_of}
+use Rattle.runs.specs.State.{lent_of}
 use Rattle.retention.specs.Trials.{search_of}
 use Rattle.retention.proofs.trials.Runs.{Going}
 use Rattle.retention.proofs.trials.sample.Given as goal

@@ -1,8 +1,8 @@
 -- The invariant of its loop, `Going`: after so many turns the lists are the state of `run`, and what is left stops as
 -- the whole does; the lists are those that were lent.
 use Rattle.entry.specs.Lists.{SameLists}
-use Rattle.simulation.specs.Rules.{rules_as}
-use Rattle.simulation.specs.State.{state_at}
+use Rattle.runs.specs.Rules.{rules_as}
+use Rattle.runs.specs.State.{state_at}
 use Rattle.simulation.proofs.run.Loop.{Going}
 use Rattle.simulation.proofs.run.run_turns.Given as goal
 

@@ -1,9 +1,9 @@
 -- Set-up leaves `set_up`, and the turns from there the run; what the entry accepts keeps the bound within a u32.
 use native.Mathlib.Omega.{arith}
-use Rattle.simulation.specs.State.{lent_of, state}
-use Rattle.simulation.specs.Rules.{rules_as}
+use Rattle.runs.specs.State.{lent_of, state}
+use Rattle.runs.specs.Rules.{rules_as}
 use Rattle.entry.specs.Lists.{inputs_of}
-use Rattle.simulation.proofs.Accepted.{accepted}
+use Rattle.runs.proofs.Accepted.{accepted}
 use Rattle.simulation.proofs.run.Answer.{few_cards, inner_is}
 use Rattle.simulation.proofs.run.simulate_inner.Goals as goal
 
@@ -23,7 +23,7 @@ bound_of-bound-requires c =
 pub returns-clause-run : goal.returns-clause-run
 returns-clause-run c =
     let a = c.args in
-    rw (c.answer_of.ensures, ← c.new.ensures)
+    rw (← c.new.ensures)
     (inner_is (rules_as (record { config = a.settings.config; model = c.new.result }))
     (inputs_of a.learner a.settings) (state (lent_of a.lists.now) 0 a.settings.seed)
-    c.set_up-cards.ensures.state c.bound_of-bound.ensures c.run_held-end.ensures.run)
+    c.set_up-cards.ensures.state c.bound_of-bound.ensures c.run_held-end.ensures.run c.answer_of.ensures)

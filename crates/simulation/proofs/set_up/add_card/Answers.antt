@@ -1,5 +1,5 @@
 use mathlib.Core.Path.{refl}
-use Rattle.simulation.specs.SetUp.{add_card}
+use Rattle.runs.specs.SetUp.{add_card}
 use Rattle.simulation.proofs.set_up.Loops.{deck_is}
 use Rattle.simulation.proofs.set_up.add_card.Goals as goal
 

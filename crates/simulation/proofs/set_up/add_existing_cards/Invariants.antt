@@ -1,5 +1,5 @@
 -- The invariant of its loop: the lists are those of the first i existing cards joined.
-use Rattle.simulation.specs.SetUp.{add_existing_cards}
+use Rattle.runs.specs.SetUp.{add_existing_cards}
 use Rattle.simulation.specs.Steps.{deck_of, Joined}
 use Rattle.simulation.proofs.set_up.add_existing_cards.Given as goal
 

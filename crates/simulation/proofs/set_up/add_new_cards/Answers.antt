@@ -1,5 +1,5 @@
 use mathlib.Core.Path.{refl}
-use Rattle.simulation.specs.SetUp.{add_new_cards}
+use Rattle.runs.specs.SetUp.{add_new_cards}
 use Rattle.simulation.proofs.set_up.Loops.{joined_none, joined_then, create_next}
 use Rattle.simulation.proofs.set_up.add_new_cards.Goals as goal
 

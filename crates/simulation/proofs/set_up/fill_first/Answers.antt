@@ -3,7 +3,7 @@ use mathlib.Core.Path.{refl, ap, ◌∙◌}
 use mathlib.Core.List.{List}
 use lib.ListN.{set, length-set}
 use native.Mathlib.Omega.{arith}
-use Rattle.simulation.specs.SetUp.{filled}
+use Rattle.runs.specs.SetUp.{filled}
 use Rattle.simulation.proofs.set_up.Loops.{filled_all, filled_next}
 use Rattle.simulation.proofs.set_up.fill_first.Goals as goal
 

@@ -1,7 +1,7 @@
 -- The invariant of its loop: the first i places are filled.
 use mathlib.Core.Path.{◌≡◌}
 use lib.ListN.{length}
-use Rattle.simulation.specs.SetUp.{filled}
+use Rattle.runs.specs.SetUp.{filled}
 use Rattle.simulation.proofs.set_up.fill_first.Given as goal
 
 abbrev pub invariant-loop-i : goal.invariant-loop-i

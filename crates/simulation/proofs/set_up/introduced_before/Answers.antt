@@ -1,6 +1,6 @@
 use native.Mathlib.Omega.{arith}
 use mathlib.Core.Path.{refl, ◌∙◌}
-use Rattle.simulation.specs.SetUp.{introduced_before}
+use Rattle.runs.specs.SetUp.{introduced_before}
 use Rattle.simulation.proofs.set_up.Loops.{known_next, known_le, bit_is}
 use Rattle.simulation.proofs.set_up.introduced_before.Goals as goal
 

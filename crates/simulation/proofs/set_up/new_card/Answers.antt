@@ -1,7 +1,7 @@
 use mathlib.Core.Path.{◌≡◌, ◌∙◌}
 use Prim.Native.Nat.{◌/◌}
 use lib.Ieee.{of_bits, of_fields}
-use Rattle.simulation.specs.SetUp.{new_card}
+use Rattle.runs.specs.SetUp.{new_card}
 use Rattle.simulation.proofs.set_up.Loops.{quotient_is}
 use Rattle.simulation.proofs.set_up.new_card.Goals as goal
 

@@ -3,7 +3,7 @@ use mathlib.Core.Path.{ap, ◌∙◌}
 use mathlib.Core.List.{List}
 use lib.Ieee.{Float, of_bits, binary32}
 use lib.ListN.{length, replicate}
-use Rattle.simulation.specs.SetUp.{filled}
+use Rattle.runs.specs.SetUp.{filled}
 use Rattle.simulation.proofs.set_up.State.{set_up_is}
 use Rattle.simulation.proofs.set_up.set_up.Goals as goal
 

@@ -1,0 +1,11 @@
+pub mod State
+pub mod Invariant
+pub mod Model
+pub mod Rules
+pub mod Turn
+pub mod RunRefusals
+pub mod Checked
+pub mod SetUp
+pub mod Simulate
+pub mod Frame
+pub mod Demands

@@ -1,6 +1,0 @@
-use Rattle.intervals.specs.Schedule.{slot_of}
-use Rattle.simulation.proofs.turn.slot_for.Goals as goal
-
-pub returns : goal.returns
-unfolding slot_of
-returns c = c.scheduled_interval.ensures
