@@ -8,11 +8,11 @@ use Rattle.std.proofs.Math.Option.{none}
 use Rattle.std.specs.Float.{binary32}
 use Rattle.std.specs.Float.Ieee.{of_int}
 use Rattle.float32.specs.Ops.{◌-ᶠ◌}
-use Rattle.cards.specs.declared.Card.{Card}
-use Rattle.cards.specs.declared.Choice.{Choice}
-use Rattle.cards.specs.declared.Choice.TheVariants as choice
+use Rattle.cards.specs.declared.card.Card.{Card}
+use Rattle.cards.specs.declared.choice.Choice.{Choice}
+use Rattle.cards.specs.declared.choice.Choice.TheVariants as choice
 use Rattle.cards.specs.Day.{day_of, is_new}
-use Rattle.cards.specs.Choices.{choice_of}
+use Rattle.cards.specs.Choices.{today, choice_of}
 use Rattle.days.specs.Counts.{learned_at, reviewed_at}
 use Rattle.days.specs.Sums.{cost_at}
 use Rattle.days.specs.Due.{none_due}
@@ -41,7 +41,7 @@ module _ {C : Type 0} (R : Rules C) (s : State C) where
   abbrev pub turn_choice : Choice
   turn_choice =
       choice_of R.span R.lapse_limit R.limits turn_day turn_card
-      (learned_at s.days turn_day) (reviewed_at s.days turn_day) (cost_at R.costs.none s.costs turn_day)
+      (today (learned_at s.days turn_day) (reviewed_at s.days turn_day) (cost_at R.costs.none s.costs turn_day))
 
   -- 7: the turn of c, the first card, is a review, and its recall chance is NaN or not 0 to 1
   pub record ChanceRefused (c : ℕ) : Type 0 where

@@ -10,12 +10,12 @@ use Rattle.std.specs.Float.{binary32}
 use Rattle.std.specs.Float.Ieee.{add, of_int, to_unsigned}
 use Rattle.turns.specs.Turns.{Kind, put_off, retire, Turn}
 use Rattle.turns.specs.Run.{Next, takes, stops}
-use Rattle.cards.specs.declared.Card.{Card}
-use Rattle.cards.specs.declared.Choice.{Choice}
-use Rattle.cards.specs.declared.Choice.TheVariants as choice
+use Rattle.cards.specs.declared.card.Card.{Card}
+use Rattle.cards.specs.declared.choice.Choice.{Choice}
+use Rattle.cards.specs.declared.choice.Choice.TheVariants as choice
 use Rattle.cards.specs.Day.{day_of, next_due, is_new}
 use Rattle.cards.specs.Cards.{write_floats, write_counts}
-use Rattle.cards.specs.Choices.{choice_of}
+use Rattle.cards.specs.Choices.{today, choice_of}
 use Rattle.days.specs.Counts.{saturating_suc, learned_at, reviewed_at, add_event}
 use Rattle.days.specs.Sums.{cost_at, add_cost, add_forgetting_curve_range}
 use Rattle.days.specs.Due.{add_due, move_due, none_due}
@@ -65,10 +65,6 @@ add_forgetting_curve m memorized k e =
     cond (is_new k.last_date) memorized
     (let from = to_unsigned 32 k.last_date in add_forgetting_curve_range (λ t. m.chance t k.stability) memorized
     (e - from) from k.last_date)
-
-abbrev pub or_else : {A : Type 0} → Bool → A → A → A
-or_else true a b = a
-or_else false a b = b
 
 module _ {C : Type 0} (R : Rules C) where
   -- the first card leaves the queue, memorized to the span's end
@@ -120,7 +116,7 @@ module _ {C : Type 0} (R : Rules C) where
 
   abbrev pub act : State C → ℕ → Card → ℕ → Choice → Next (Turn Drawn) (State C) Stop
   act s c k d choice.Retire = takes (turn_as c d retire) (after_retire s k)
-  act s c k d choice.PutOff = or_else (none_due s.due (is_new k.last_date) d) (refuses (refusal.DueCount c))
+  act s c k d choice.PutOff = cond (none_due s.due (is_new k.last_date) d) (refuses (refusal.DueCount c))
       (takes (turn_as c d put_off) (after_put_off s c k d))
   act s c k d choice.Learn = event_on s c k true d
   act s c k d choice.Review = event_on s c k false d
@@ -128,11 +124,11 @@ module _ {C : Type 0} (R : Rules C) where
   -- the turn of card c, which is k and of day d
   abbrev pub turn_of_card : State C → ℕ → Card → ℕ → Next (Turn Drawn) (State C) Stop
   turn_of_card s c k d = act s c k d
-      (choice_of R.span R.lapse_limit R.limits d k (learned_at s.days d) (reviewed_at s.days d)
-      (cost_at R.costs.none s.costs d))
+      (choice_of R.span R.lapse_limit R.limits d k (today (learned_at s.days d) (reviewed_at s.days d)
+      (cost_at R.costs.none s.costs d)))
 
   -- a turn looks at the queue's first card; the run ends when the queue is empty
   unfoldable pub next : State C → Next (Turn Drawn) (State C) Stop
   next s =
-      or_else (eqb s.queue.len 0) (stops (Ok tt))
+      cond (eqb s.queue.len 0) (stops (Ok tt))
       (let c = front s.queue in let k = card_in s c in turn_of_card s c k (day_of k.due))

@@ -1,9 +1,9 @@
 // A turn: what the queue's first card does, and what that writes. A refusal comes before the turn's first write.
 ghost use Rattle.std.specs.Prelude.{◌≡◌, cond};
 ghost use Rattle.draws.specs.Draws.{split_mix};
-ghost use Rattle.cards.specs.declared.Choice.TheVariants as choice;
+ghost use Rattle.cards.specs.declared.choice.Choice.TheVariants as choice;
 ghost use Rattle.cards.specs.Cards.{card_at};
-ghost use Rattle.cards.specs.Choices.{limits, choice_of};
+ghost use Rattle.cards.specs.Choices.{limits, today, choice_of};
 ghost use Rattle.cards.specs.Day.{day_of, is_new};
 ghost use Rattle.days.specs.Counts.{saturating_suc, learned_at, reviewed_at};
 ghost use Rattle.days.specs.Sums.{cost_at};
@@ -26,7 +26,7 @@ use entry::{Lists, Refusal};
 use events::{Memory, Rules};
 use intervals::Slot;
 use model::Curve;
-use queue::CardPriorityQueue;
+use queue::{CardPriorityQueue, QueueRow};
 
 // ---- what a turn reads of the lists: over `&Lists`, since one call can't borrow two lists of a `&mut Lists` to read
 
@@ -52,8 +52,8 @@ fn first_of(lists: &Lists<'_>) -> First
 // What the counts and the cost of its day let the first card do.
 fn choice_in(lists: &Lists<'_>, rules: Rules, first: First) -> Choice
     ensures { result ≡ choice_of rules.config.learn_span rules.config.suspend_after_lapses
-        (limits rules.config) first.day first.card (learned_at lists.now.days.now first.day)
-        (reviewed_at lists.now.days.now first.day) (cost_at 0ᶠ lists.now.costs.now first.day) }
+        (limits rules.config) first.day first.card (today (learned_at lists.now.days.now first.day)
+        (reviewed_at lists.now.days.now first.day) (cost_at 0ᶠ lists.now.costs.now first.day)) }
 {
     let learned = days::learned_at(lists.days, first.day);
     let reviewed = days::reviewed_at(lists.days, first.day);
@@ -88,14 +88,14 @@ fn slot_for(lists: &Lists<'_>, rules: Rules, stability: f32, retention: f32) -> 
 // Over the rows alone: where a step itself makes a queue of a field of `Lists`, its proof has no lasting name for what
 // that field holds afterwards.
 
-fn change_front(rows: &mut [[u64; 2]], len: u32, key: u64)
+fn change_front(rows: &mut [QueueRow], len: u32, key: u64)
     ensures { queue rows.new len ≡ front_changed (queue rows.old len) key }
 {
     let mut queue = CardPriorityQueue { rows, len };
     queue.change_front(key);
 }
 
-fn pop(rows: &mut [[u64; 2]], len: u32) -> u32
+fn pop(rows: &mut [QueueRow], len: u32) -> u32
     ensures { queue rows.new result ≡ popped (queue rows.old len) }
 {
     let mut queue = CardPriorityQueue { rows, len };

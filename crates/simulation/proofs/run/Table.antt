@@ -2,7 +2,7 @@
 -- and its two lists keep their lengths.
 --   run_tables              what each entry keeps of a table holds after any number of turns
 --   end_sound, end_lengths  of the table that a run comes to
-use mathlib.Core.Bool.{Bool, true, false}
+use mathlib.Core.Bool.{Bool, true, false, cond}
 use mathlib.Core.List.{List, [], ◌∷◌}
 use mathlib.Core.Path.{◌≡◌, refl, ◌∙◌}
 use Prim.Native.Nat.{ℕ}
@@ -13,11 +13,11 @@ use Rattle.float32.specs.Numbers.{0ᶠ}
 use Rattle.turns.specs.Turns.{Turn, put_off}
 use Rattle.turns.specs.Run.{Next, takes, stops, run}
 use Rattle.turns.proofs.Loop.{Keeps, run_keeps}
-use Rattle.cards.specs.declared.Card.{Card}
-use Rattle.cards.specs.declared.Choice.{Choice}
-use Rattle.cards.specs.declared.Choice.TheVariants as choice
+use Rattle.cards.specs.declared.card.Card.{Card}
+use Rattle.cards.specs.declared.choice.Choice.{Choice}
+use Rattle.cards.specs.declared.choice.Choice.TheVariants as choice
 use Rattle.cards.specs.Day.{day_of, is_new}
-use Rattle.cards.specs.Choices.{choice_of}
+use Rattle.cards.specs.Choices.{today, choice_of}
 use Rattle.days.specs.Counts.{learned_at, reviewed_at}
 use Rattle.days.specs.Sums.{cost_at}
 use Rattle.days.specs.Due.{none_due}
@@ -40,7 +40,7 @@ use Rattle.simulation.specs.SetUp.{set_up}
 use Rattle.simulation.specs.Simulate.{bound, run_from}
 use Rattle.simulation.specs.Demands.{start_of, end_of}
 use Rattle.simulation.specs.Turn.{refuses, turn_as, after_put_off, after_retire, after_event, event_with_slot}
-use Rattle.simulation.specs.Turn.{event_with_draw, event_on, or_else, act, turn_of_card, next}
+use Rattle.simulation.specs.Turn.{event_with_draw, event_on, act, turn_of_card, next}
 use Rattle.simulation.proofs.turn.Slots.{Slots}
 
 module _ {C : Type 0} (R : Rules C) (J : Table → Type 0)
@@ -74,7 +74,7 @@ module _ {C : Type 0} (R : Rules C) (J : Table → Type 0)
       act-after c k d choice.PutOff = go (none_due s.due (is_new k.last_date) d)
         where
           go : (b : Bool) → After
-              (or_else b (refuses (refusal.DueCount c)) (takes (turn_as c d put_off) (after_put_off R s c k d)))
+              (cond b (refuses (refusal.DueCount c)) (takes (turn_as c d put_off) (after_put_off R s c k d)))
           go true = tt
           go false = ok
       act-after c k d choice.Learn = event_after c k true d
@@ -93,11 +93,11 @@ module _ {C : Type 0} (R : Rules C) (J : Table → Type 0)
           d : ℕ
           d = day_of k.due
 
-          go : (b : Bool) → After (or_else b (stops (Ok tt)) (turn_of_card R s c k d))
+          go : (b : Bool) → After (cond b (stops (Ok tt)) (turn_of_card R s c k d))
           go true = tt
           go false = act-after c k d
-              (choice_of R.span R.lapse_limit R.limits d k (learned_at s.days d) (reviewed_at s.days d)
-              (cost_at R.costs.none s.costs d))
+              (choice_of R.span R.lapse_limit R.limits d k (today (learned_at s.days d) (reviewed_at s.days d)
+              (cost_at R.costs.none s.costs d)))
 
     -- after any number of turns
     pub run_tables : (n : ℕ) (ts : List (Turn Drawn)) (s : State C) → J s.table

@@ -2,18 +2,18 @@
 -- as long or longer, the second run takes the same turns and comes to the same end; where it is as long, also to the
 -- same refusal.
 use mathlib.Core.Path.{◌≡◌, refl}
-use mathlib.Core.Bool.{Bool, true, false, false≢true}
+use mathlib.Core.Bool.{Bool, true, false, cond, false≢true}
 use mathlib.Core.List.{[]}
 use Prim.Native.Nat.{ℕ}
 use lib.Dec.{eqb}
 use Rattle.turns.specs.Turns.{Turn, put_off}
 use Rattle.turns.specs.Run.{Next, takes, stops, run}
 use Rattle.turns.proofs.Loop.{Follows, Same, run_follows}
-use Rattle.cards.specs.declared.Card.{Card}
-use Rattle.cards.specs.declared.Choice.{Choice}
-use Rattle.cards.specs.declared.Choice.TheVariants as choice
+use Rattle.cards.specs.declared.card.Card.{Card}
+use Rattle.cards.specs.declared.choice.Choice.{Choice}
+use Rattle.cards.specs.declared.choice.Choice.TheVariants as choice
 use Rattle.cards.specs.Day.{day_of, is_new}
-use Rattle.cards.specs.Choices.{choice_of}
+use Rattle.cards.specs.Choices.{today, choice_of}
 use Rattle.days.specs.Counts.{learned_at, reviewed_at}
 use Rattle.days.specs.Sums.{cost_at}
 use Rattle.days.specs.Due.{none_due}
@@ -32,7 +32,7 @@ use Rattle.std.specs.Prelude.{Ok, Err}
 use Rattle.simulation.specs.State.{State, card_in, with_table}
 use Rattle.simulation.specs.Rules.{Rules}
 use Rattle.simulation.specs.Turn.{refuses, turn_as, after_retire, after_put_off, after_event, event_with_slot}
-use Rattle.simulation.specs.Turn.{event_with_draw, event_on, or_else, act, turn_of_card, next}
+use Rattle.simulation.specs.Turn.{event_with_draw, event_on, act, turn_of_card, next}
 use Rattle.simulation.proofs.turn.Slots.{Slots}
 use Rattle.turns.proofs.Logic.{not-one}
 use Rattle.simulation.proofs.turn.Calls.{event_taken, event_full}
@@ -111,8 +111,8 @@ module _ {C : Type 0} (E : Type 0) (R : Rules C) (laws : Slots R.model) where
     act_follows c k d choice.PutOff = go (none_due s.due (is_new k.last_date) d)
       where
         go : (b : Bool) → Follow
-            (or_else b (refuses (refusal.DueCount c)) (takes (turn_as c d put_off) (after_put_off R s c k d)))
-            (or_else b (refuses (refusal.DueCount c)) (takes (turn_as c d put_off) (after_put_off R s' c k d)))
+            (cond b (refuses (refusal.DueCount c)) (takes (turn_as c d put_off) (after_put_off R s c k d)))
+            (cond b (refuses (refusal.DueCount c)) (takes (turn_as c d put_off) (after_put_off R s' c k d)))
         go true = λ z. refl
         go false = (refl, record { same = refl; entries = w; even = ev })
     act_follows c k d choice.Learn = event_follows c k true d
@@ -131,12 +131,12 @@ module _ {C : Type 0} (E : Type 0) (R : Rules C) (laws : Slots R.model) where
         d : ℕ
         d = day_of k.due
 
-        go : (b : Bool) → Follow (or_else b (stops (Ok tt)) (turn_of_card R s c k d))
-            (or_else b (stops (Ok tt)) (turn_of_card R s' c k d))
+        go : (b : Bool) → Follow (cond b (stops (Ok tt)) (turn_of_card R s c k d))
+            (cond b (stops (Ok tt)) (turn_of_card R s' c k d))
         go true = λ z. refl
         go false = act_follows c k d
-            (choice_of R.span R.lapse_limit R.limits d k (learned_at s.days d) (reviewed_at s.days d)
-            (cost_at R.costs.none s.costs d))
+            (choice_of R.span R.lapse_limit R.limits d k (today (learned_at s.days d) (reviewed_at s.days d)
+            (cost_at R.costs.none s.costs d)))
 
   follows : (s s' : State C) → Alike E s s' → Follow (next R s) (next R s')
   follows s s' a = rw a.same (turn_follows s s'.table a.entries a.even)

@@ -14,12 +14,12 @@ use lib.Seq.{set-append_left}
 use lib.Ieee.{Float, to_unsigned}
 use Rattle.turns.specs.Turns.{Turn, put_off, retire}
 use Rattle.turns.specs.Run.{Next, takes, stops}
-use Rattle.cards.specs.declared.Card.{Card}
-use Rattle.cards.specs.declared.Choice.{Choice}
-use Rattle.cards.specs.declared.Choice.TheVariants as choice
+use Rattle.cards.specs.declared.card.Card.{Card}
+use Rattle.cards.specs.declared.choice.Choice.{Choice}
+use Rattle.cards.specs.declared.choice.Choice.TheVariants as choice
 use Rattle.cards.specs.Day.{day_of, is_new}
 use Rattle.cards.specs.Cards.{no_floats, no_counts, card_at, floats_of, counts_of, write_floats, write_counts}
-use Rattle.cards.specs.Choices.{retires, choice_of}
+use Rattle.cards.specs.Choices.{retires, today, choice_of}
 use Rattle.days.specs.Counts.{learned_at, reviewed_at}
 use Rattle.days.specs.Sums.{cost_at, add_forgetting_curve_range}
 use Rattle.days.specs.Due.{due_days, none_due}
@@ -43,7 +43,7 @@ use Rattle.simulation.specs.Model.{Model}
 use Rattle.simulation.specs.Rules.{Rules}
 use Rattle.simulation.specs.Turn.{refuses, turn_as, card_after_put_off, card_after_event, add_forgetting_curve, event_turn}
 use Rattle.simulation.specs.Turn.{after_retire, after_put_off, after_event, event_with_slot, event_with_draw, event_on}
-use Rattle.simulation.specs.Turn.{or_else, act, turn_of_card, next}
+use Rattle.simulation.specs.Turn.{act, turn_of_card, next}
 use Rattle.simulation.specs.Invariant.{RunBounds, StateInvariant}
 use Rattle.simulation.specs.Frame.{extended}
 use Rattle.simulation.proofs.turn.Invariant.{is_card, in_span}
@@ -229,8 +229,8 @@ module _ {C : Type 0} (R : Rules C) (cards : ℕ) (fine : RunBounds R.span cards
       put_framed = rw due_same (go (none_due s.due (is_new k.last_date) d))
         where
           go : (t : Bool) → Framed
-              (or_else t (refuses (refusal.DueCount c)) (takes (turn_as c d put_off) (after_put_off R s c k d)))
-              (or_else t (refuses (refusal.DueCount c)) (takes (turn_as c d put_off) (after_put_off R wide c k d)))
+              (cond t (refuses (refusal.DueCount c)) (takes (turn_as c d put_off) (after_put_off R s c k d)))
+              (cond t (refuses (refusal.DueCount c)) (takes (turn_as c d put_off) (after_put_off R wide c k d)))
           go true = refl
           go false = (ap (takes (turn_as c d put_off)) put-own, put-exact)
 
@@ -241,10 +241,10 @@ module _ {C : Type 0} (R : Rules C) (cards : ℕ) (fine : RunBounds R.span cards
       act_framed choice.Review = event_framed false
 
       -- within the span the rows are read in the first places
-      days_same : choice_of R.span R.lapse_limit R.limits d k (learned_at wide.days d)
-          (reviewed_at wide.days d) (cost_at R.costs.none wide.costs d)
-          ≡ choice_of R.span R.lapse_limit R.limits d k (learned_at s.days d) (reviewed_at s.days d)
-          (cost_at R.costs.none s.costs d)
+      days_same : choice_of R.span R.lapse_limit R.limits d k (today (learned_at wide.days d)
+          (reviewed_at wide.days d) (cost_at R.costs.none wide.costs d))
+          ≡ choice_of R.span R.lapse_limit R.limits d k (today (learned_at s.days d) (reviewed_at s.days d)
+          (cost_at R.costs.none s.costs d))
       days_same =
           rw (
             get_or-append s.days b.days [] d (omega (arith, h, ex.days_are)),
@@ -263,8 +263,8 @@ module _ {C : Type 0} (R : Rules C) (cards : ℕ) (fine : RunBounds R.span cards
             → Framed (turn_of_card R s c k d) (turn_of_card R wide c k d)
         go true e = gone e
         go false e = let h = within e in rw (days_same h)
-            (act_framed h (choice_of R.span R.lapse_limit R.limits d k (learned_at s.days d)
-            (reviewed_at s.days d) (cost_at R.costs.none s.costs d)))
+            (act_framed h (choice_of R.span R.lapse_limit R.limits d k (today (learned_at s.days d)
+            (reviewed_at s.days d) (cost_at R.costs.none s.costs d))))
 
     turn_framed : Framed (turn_of_card R s c k d)
         (turn_of_card R wide (front wide.queue) (card_in wide (front wide.queue))
@@ -276,10 +276,10 @@ module _ {C : Type 0} (R : Rules C) (cards : ℕ) (fine : RunBounds R.span cards
   framed = go (eqb s.queue.len 0) refl
     where
       go : (t : Bool) → eqb s.queue.len 0 ≡ t
-          → Framed (or_else t (stops (Ok tt))
+          → Framed (cond t (stops (Ok tt))
           (turn_of_card R s (front s.queue) (card_in s (front s.queue))
           (day_of (card_in s (front s.queue)).due)))
-          (or_else t (stops (Ok tt))
+          (cond t (stops (Ok tt))
           (turn_of_card R wide (front wide.queue) (card_in wide (front wide.queue))
           (day_of (card_in wide (front wide.queue)).due)))
       go true e = refl

@@ -11,10 +11,10 @@ use lib.Ieee.{Float}
 use Rattle.turns.specs.Turns.{Turn, put_off}
 use Rattle.turns.specs.Run.{Next, takes, stops}
 use Rattle.draws.specs.Draws.{DrawRule, recalled}
-use Rattle.cards.specs.declared.Card.{Card}
-use Rattle.cards.specs.declared.SimulatorConfig.{SimulatorConfig}
-use Rattle.cards.specs.declared.Choice.{Choice}
-use Rattle.cards.specs.declared.Choice.TheVariants as choice
+use Rattle.cards.specs.declared.card.Card.{Card}
+use Rattle.cards.specs.declared.configuration.SimulatorConfig.{SimulatorConfig}
+use Rattle.cards.specs.declared.choice.Choice.{Choice}
+use Rattle.cards.specs.declared.choice.Choice.TheVariants as choice
 use Rattle.cards.specs.Day.{is_new}
 use Rattle.days.specs.Due.{none_due}
 use Rattle.events.specs.declared.Memory.{Memory}
@@ -35,7 +35,7 @@ use Rattle.simulation.specs.Turn.{Stop}
 use Rattle.std.specs.Prelude.{Ok, Err}
 use Rattle.simulation.specs.State.{State}
 use Rattle.simulation.specs.Rules.{Rules, rules_with}
-use Rattle.simulation.specs.Turn.{refuses, turn_as, after_put_off, event_with_slot, event_with_draw, event_on, or_else}
+use Rattle.simulation.specs.Turn.{refuses, turn_as, after_put_off, event_with_slot, event_with_draw, event_on}
 use Rattle.simulation.specs.Turn.{act, turn_of_card, next}
 use Rattle.simulation.specs.RunRefusals.{turn_card, turn_day, turn_choice, event_choice, ChanceRefused, TableRefused}
 use Rattle.simulation.specs.RunRefusals.{DueRefused, StopCondition}
@@ -127,7 +127,7 @@ module _ (w : DrawRule) (g : SimulatorConfig) (x : Scalars) (s : State Float) (o
     act_tells choice.PutOff e = go (none_due s.due (is_new k.last_date) d) refl
       where
         go : (b : Bool) → none_due s.due (is_new k.last_date) d ≡ b
-            → Tells (or_else b (refuses (refusal.DueCount c)) (takes (turn_as c d put_off) (after_put_off R s c k d)))
+            → Tells (cond b (refuses (refusal.DueCount c)) (takes (turn_as c d put_off) (after_put_off R s c k d)))
         go true q = record { queued = some; first = refl; put_off = e; is_none_due = q }
         go false q = tt
     act_tells choice.Learn e = event_tells true e
@@ -137,7 +137,7 @@ module _ (w : DrawRule) (g : SimulatorConfig) (x : Scalars) (s : State Float) (o
   unfolding next
   tells = go (eqb s.queue.len 0) refl
     where
-      go : (b : Bool) → eqb s.queue.len 0 ≡ b → Tells (or_else b (stops (Ok tt)) (turn_of_card R s c k d))
+      go : (b : Bool) → eqb s.queue.len 0 ≡ b → Tells (cond b (stops (Ok tt)) (turn_of_card R s c k d))
       go true e = eqb-true s.queue.len 0 e
       go false e = let ne = eqb-false s.queue.len 0 e in act_tells (omega (arith, ne)) (turn_choice R s) refl
 

@@ -1,4 +1,4 @@
-use Rattle.cards.specs.declared.Choice.TheVariants as choice
+use Rattle.cards.specs.declared.choice.Choice.TheVariants as choice
 use Rattle.simulation.specs.Rules.{rules_as}
 use Rattle.simulation.specs.State.{lent_of}
 use Rattle.simulation.proofs.turn.Calls.{ended_is, acted_is, event_is}
