@@ -33,11 +33,7 @@ fn published(rt: &impl Print) -> io::Result<()> {
 // Words with the indexes that they draw by the weights.
 fn indexes(rt: &impl Print, weights: &[f32], cases: &[(u32, usize)]) -> io::Result<()> {
     for (word, want) in cases {
-        equal(
-            rt,
-            "weighted_index",
-            draws::weighted_index(weights, *word) == *want,
-        )?;
+        equal(rt, "rating", draws::weighted_index(weights, *word) == *want)?;
     }
     Ok(())
 }
