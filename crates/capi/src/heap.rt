@@ -4,7 +4,7 @@ ghost use Rattle.queue.specs.Queue as Queue;
 ghost use Rattle.queue.specs.Queue.{queue, pushed, popped, front, front_changed};
 ghost use Rattle.queue.specs.Key.{card_priority};
 
-use queue::CardPriorityQueue;
+use queue::{CardPriorityQueue, QueueRow};
 
 #[unsafe(no_mangle)]
 pub extern "C" fn drill_card_priority(day: u32, new: bool, difficulty: f32) -> u64
@@ -14,7 +14,7 @@ pub extern "C" fn drill_card_priority(day: u32, new: bool, difficulty: f32) -> u
 }
 
 #[unsafe(no_mangle)]
-pub extern "C" fn drill_push(rows: &mut [[u64; 2]], len: u32, card: u32, key: u64) -> u32
+pub extern "C" fn drill_push(rows: &mut [QueueRow], len: u32, card: u32, key: u64) -> u32
     ensures { queue rows.new result ≡ pushed (queue rows.old len) card key }
 {
     let mut queue = CardPriorityQueue { rows, len };
@@ -24,14 +24,14 @@ pub extern "C" fn drill_push(rows: &mut [[u64; 2]], len: u32, card: u32, key: u6
 
 // The first row's card, whatever the length; C passes `len` as to the others.
 #[unsafe(no_mangle)]
-pub extern "C" fn drill_peek_index(rows: &[[u64; 2]], len: u32) -> u32
+pub extern "C" fn drill_peek_index(rows: &[QueueRow], len: u32) -> u32
     ensures { result ≡ front (queue rows.now len) }
 {
     queue::first_card(rows)
 }
 
 #[unsafe(no_mangle)]
-pub extern "C" fn drill_pop(rows: &mut [[u64; 2]], len: u32) -> u32
+pub extern "C" fn drill_pop(rows: &mut [QueueRow], len: u32) -> u32
     ensures { queue rows.new result ≡ popped (queue rows.old len) }
 {
     let mut queue = CardPriorityQueue { rows, len };
@@ -40,7 +40,7 @@ pub extern "C" fn drill_pop(rows: &mut [[u64; 2]], len: u32) -> u32
 }
 
 #[unsafe(no_mangle)]
-pub extern "C" fn drill_change_front(rows: &mut [[u64; 2]], len: u32, key: u64)
+pub extern "C" fn drill_change_front(rows: &mut [QueueRow], len: u32, key: u64)
     ensures { queue rows.new len ≡ front_changed (queue rows.old len) key }
 {
     let mut queue = CardPriorityQueue { rows, len };

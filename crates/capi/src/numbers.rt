@@ -125,9 +125,9 @@ pub extern "C" fn drill_word(output: u64) -> u32
 
 #[unsafe(no_mangle)]
 pub extern "C" fn drill_weighted_index(weights: &[f32], word: u32) -> usize
-    ensures { result ≡ Draws.rating weights.now word }
+    ensures { result ≡ Draws.weighted_index weights.now word }
 {
-    draws::rating(weights, word)
+    draws::weighted_index(weights, word)
 }
 
 #[unsafe(no_mangle)]

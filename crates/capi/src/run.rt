@@ -4,8 +4,11 @@ ghost use Rattle.entry.specs.Entry.{inputs};
 ghost use Rattle.capi.specs.Answer.{list_in, numbers_of, CallContract};
 ghost use Rattle.std.specs.Prelude.{◌≡◌};
 
-use cards::SimulatorConfig;
+use cards::{CardRow, CountRow, SimulatorConfig};
+use days::DayRow;
 use entry::{Learner, Lists, Settings, refusals};
+use intervals::KeyRow;
+use queue::QueueRow;
 use simulation::{Progress, Refused};
 
 // An answer as numbers: the refusal's number, 0 where the run ended, its second number and, for 6, its list; how far
@@ -53,19 +56,19 @@ fn numbers_of(answer: Result<Progress, Refused>, list: u32) -> RunNumbers
 #[unsafe(no_mangle)]
 pub extern "C" fn drill_simulate(
     parameters: &[f32],
-    existing: &[[f32; 6]],
-    existing_counts: &[[u32; 2]],
+    existing: &[CardRow],
+    existing_counts: &[CountRow],
     config: SimulatorConfig,
     desired_retention: f32,
     seed: u64,
-    cards: &mut [[f32; 6]],
-    counts: &mut [[u32; 2]],
-    queue: &mut [[u64; 2]],
-    days: &mut [[u32; 4]],
+    cards: &mut [CardRow],
+    counts: &mut [CountRow],
+    queue: &mut [QueueRow],
+    days: &mut [DayRow],
     costs: &mut [f32],
     memorized: &mut [f32],
     due: &mut [u32],
-    keys: &mut [[u32; 2]],
+    keys: &mut [KeyRow],
     intervals: &mut [f32],
 ) -> RunNumbers
     ensures { CallContract

@@ -8,8 +8,11 @@ ghost use Rattle.capi.specs.Search.{numbers_of, SearchCall, asked, verdict_numbe
 
 use super::run::list_in;
 use brent::{Stepper, Verdict};
-use cards::SimulatorConfig;
+use cards::{CardRow, CountRow, SimulatorConfig};
+use days::DayRow;
 use entry::{Learner, Lists, Refusal};
+use intervals::KeyRow;
+use queue::QueueRow;
 use retention::Optimum;
 
 // An answer as numbers: the refusal's number, 0 where a retention was found, its second number and, for 6, its list;
@@ -47,18 +50,18 @@ fn numbers_of(answer: Result<Optimum, Refusal>, list: u32) -> SearchNumbers
 #[unsafe(no_mangle)]
 pub extern "C" fn drill_optimal_retention(
     parameters: &[f32],
-    existing: &[[f32; 6]],
-    existing_counts: &[[u32; 2]],
+    existing: &[CardRow],
+    existing_counts: &[CountRow],
     config: SimulatorConfig,
     rounds: u32,
-    cards: &mut [[f32; 6]],
-    counts: &mut [[u32; 2]],
-    queue: &mut [[u64; 2]],
-    days: &mut [[u32; 4]],
+    cards: &mut [CardRow],
+    counts: &mut [CountRow],
+    queue: &mut [QueueRow],
+    days: &mut [DayRow],
     costs: &mut [f32],
     memorized: &mut [f32],
     due: &mut [u32],
-    keys: &mut [[u32; 2]],
+    keys: &mut [KeyRow],
     intervals: &mut [f32],
 ) -> SearchNumbers
     ensures { SearchCall

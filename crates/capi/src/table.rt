@@ -10,6 +10,7 @@ ghost use Rattle.intervals.specs.Bucket.{pattern, bucket_index, stability_bucket
 ghost use Rattle.intervals.specs.Accuracy.{IsLnBucket};
 ghost use Rattle.intervals.specs.Schedule.{certifies, slot_of, interval_of, entered};
 
+use intervals::KeyRow;
 use model::Fsrs7Runtime;
 
 #[unsafe(no_mangle)]
@@ -61,7 +62,7 @@ pub extern "C" fn drill_scheduled_interval(
     stability: f32,
     retention: f32,
     most: f32,
-    keys: &mut [[u32; 2]],
+    keys: &mut [KeyRow],
     intervals: &mut [f32],
 ) -> f32
     ensures value { result ≡ interval_of (slot_of (Model.curve_of w.now) stability retention most

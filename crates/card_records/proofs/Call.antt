@@ -18,7 +18,7 @@ use lib.Seq.{take-suc, take-length, take_at, drop-cons, set_at, length-take-le}
 use Rattle.turns.proofs.Logic.{both, not-one}
 use Rattle.float32.specs.Float32.{is_finite}
 use Rattle.elementary.specs.Filled.{filled}
-use Rattle.cards.specs.declared.Card.{Card}
+use Rattle.cards.specs.declared.card.Card.{Card}
 use Rattle.cards.specs.Cards.{card_at, floats_of, counts_of}
 use Rattle.entry.specs.declared.Refusal.{Refusal}
 use Rattle.entry.specs.declared.Refusal.TheVariants as refusal
@@ -27,7 +27,7 @@ use Rattle.runs.specs.declared.Progress.{Progress}
 use Rattle.runs.specs.State.{State, Lent, state, lists_of}
 use Rattle.entry.specs.declared.lists.Settings.{Settings}
 use Rattle.entry.specs.Entry.{Check, passed, Inputs, inputs, first_where, not_ok, fail_if, lengths_ok}
-use Rattle.entry.specs.Entry.{check_first, check_settings}
+use Rattle.entry.specs.Entry.{check_settings, check_cards}
 use Rattle.runs.specs.Checked.{lengths_of, lists_ok, checked}
 use Rattle.runs.specs.Simulate.{Answer, finished, refused, IsResult, progress, rules_for, after_check, simulated_by}
 use Rattle.runs.specs.Demands.{RunContract}
@@ -118,7 +118,7 @@ module _ (w : List Float) (cs : List Card) (set : Settings) (l : Lent Float) (ro
   counts_in = filled (counts_at cs) (length cs) room-counts
 
   tests_are : tests ≡ checked_records given start (length room) (length room-counts)
-  unfolding checked_records check_first
+  unfolding checked_records check_cards
   tests_are = rw (
     length-map cs floats_of,
     length-map cs counts_of,
@@ -145,7 +145,7 @@ module _ (w : List Float) (cs : List Card) (set : Settings) (l : Lent Float) (ro
         let n = length (float_rows cs) in
         let lists = lists_ok given start in
         let fits = has_room n (length room) (length room-counts) in
-        let cards = check_first (float_rows cs) (count_rows cs) n in
+        let cards = check_cards (float_rows cs) (count_rows cs) n in
         let t = (settings_passed (is_finite set.retention) (lists && fits) w set.config n cards is_passed).lists_pass in
         sym (ap (λ (b : Bool). check_settings (is_finite set.retention) b w set.config n cards)
         (t ∙ sym (both lists fits t).0))

@@ -15,7 +15,7 @@ use lib.Seq.{set_out}
 use Rattle.std.specs.Prelude.{Err, Option, Some, None, MatchOption}
 use Rattle.std.specs.List.{AllWithin, HoldsAt}
 use Rattle.elementary.specs.Filled.{filled}
-use Rattle.cards.specs.declared.Card.{Card}
+use Rattle.cards.specs.declared.card.Card.{Card}
 use Rattle.entry.specs.declared.Refusal.TheVariants as refusal
 use Rattle.entry.specs.Entry.{passed, first_where, is_bad, fail_if}
 use Rattle.entry.proofs.FirstWhere.{first_found, first_none, Found}

@@ -9,10 +9,10 @@
 --   RecordsContract          WHAT A CALL PROMISES
 use Rattle.std.specs.Prelude.{ℕ, ◌≡◌, Bool, ◌&&◌, List, ◌++◌, map, leb, Float, length, get_or, drop, Ok, Err}
 use Rattle.float32.specs.Float32.{is_finite}
-use Rattle.cards.specs.declared.Card.{Card}
+use Rattle.cards.specs.declared.card.Card.{Card}
 use Rattle.cards.specs.Cards.{card_of, no_floats, no_counts, floats_of, counts_of}
 use Rattle.entry.specs.declared.lists.Settings.{Settings}
-use Rattle.entry.specs.Entry.{Check, Inputs, inputs, is_bad, check_first, check_settings}
+use Rattle.entry.specs.Entry.{Check, Inputs, inputs, is_bad, check_settings, check_cards}
 use Rattle.runs.specs.declared.Progress.{Progress}
 use Rattle.runs.specs.State.{State, Lent}
 use Rattle.runs.specs.Checked.{lists_ok}
@@ -49,7 +49,7 @@ unfoldable pub checked_records : Inputs → State Float → ℕ → ℕ → Chec
 checked_records i s floats counts =
     let n = length i.existing in
     check_settings (is_finite i.retention) (lists_ok i s && has_room n floats counts) i.parameters i.config n
-    (check_first i.existing i.existing_counts n)
+    (check_cards i.existing i.existing_counts n)
 
 -- a list with others at its first places where the tests pass, and else as it was
 abbrev pub laid : {A : Type 0} → Check → List A → List A → List A

@@ -13,7 +13,7 @@ ghost use Rattle.entry.specs.Lists.{SameLists};
 ghost use Rattle.runs.specs.State.{lent_of, state};
 ghost use Rattle.card_records.specs.Records.{has_room, record_bad, record_inputs, RecordsContract};
 
-use cards::{Card, SimulatorConfig};
+use cards::{Card, CardRow, CountRow, SimulatorConfig};
 use entry::{Learner, Lengths, Lists, Refusal, Settings};
 use simulation::{Progress, Refused};
 
@@ -65,8 +65,8 @@ fn check_records(
 // them.
 pub fn simulate(
     lists: &mut Lists<'_>,
-    existing: &mut [[f32; 6]],
-    existing_counts: &mut [[u32; 2]],
+    existing: &mut [CardRow],
+    existing_counts: &mut [CountRow],
     parameters: &[f32],
     records: &[Card],
     settings: Settings,

@@ -4,10 +4,10 @@ ghost use Rattle.elementary.specs.Filled.{filled};
 ghost use Rattle.cards.specs.Cards.{card_at};
 ghost use Rattle.card_records.specs.Records.{floats_at, counts_at};
 
-use cards::Card;
+use cards::{Card, CardRow, CountRow};
 
 // The records, each to its row.
-pub(crate) fn copy(records: &[Card], existing: &mut [[f32; 6]], existing_counts: &mut [[u32; 2]])
+pub(crate) fn copy(records: &[Card], existing: &mut [CardRow], existing_counts: &mut [CountRow])
     requires { length records.now < 4294967296 }
     ensures floats { existing.new ≡ filled (floats_at records.now) (length records.now) existing.old }
     ensures counts { existing_counts.new ≡ filled (counts_at records.now) (length records.now) existing_counts.old }
@@ -21,7 +21,7 @@ pub(crate) fn copy(records: &[Card], existing: &mut [[f32; 6]], existing_counts:
 // The first n cards of a run as records, as many as there is room for; `n` is the answer's number of cards. By place,
 // not by a zip of the range with the records: tried, and inside such a loop the proof knows nothing of the records that
 // are written already.
-pub fn read_back(cards: &[[f32; 6]], counts: &[[u32; 2]], records: &mut [Card], n: u32)
+pub fn read_back(cards: &[CardRow], counts: &[CountRow], records: &mut [Card], n: u32)
     ensures { records.new ≡ filled (card_at cards.now counts.now) n records.old }
 {
     for i in 0..n {

@@ -11,7 +11,7 @@ use Rattle.std.specs.Prelude.{ℕ, Bool, false, ◌&&◌, ◌||◌, List, [], �
 use Rattle.std.specs.Float.{nan, binary32}
 use Rattle.std.specs.Float.Ieee.{round, neg, lt, le}
 use Rattle.float32.specs.Float32.{is_finite}
-use Rattle.cards.specs.declared.Card.{Card}
+use Rattle.cards.specs.declared.card.Card.{Card}
 use Rattle.cards.specs.Day.{is_new}
 
 -- the card of a row of floats and a row of counts

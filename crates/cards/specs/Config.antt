@@ -12,7 +12,7 @@ use Rattle.std.specs.Float.Ieee.{lt, le, eq, is_nan}
 use Rattle.float32.specs.Numbers.{0ᶠ, 1ᶠ}
 use Rattle.float32.specs.Float32.{is_finite}
 use Rattle.draws.specs.Draws.{sum_from}
-use Rattle.cards.specs.declared.SimulatorConfig.{SimulatorConfig}
+use Rattle.cards.specs.declared.configuration.SimulatorConfig.{SimulatorConfig}
 use Rattle.cards.specs.Day.{longest_interval}
 
 -- row i of a table whose rows of four stand one after the other

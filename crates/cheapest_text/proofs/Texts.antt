@@ -6,7 +6,7 @@ use mathlib.Core.List.{List, []}
 use lib.ListN.{length, replicate}
 use lib.Ieee.{Float}
 use Rattle.float32.specs.Numbers.{0ᶠ}
-use Rattle.cards.specs.declared.SimulatorConfig.{SimulatorConfig}
+use Rattle.cards.specs.declared.configuration.SimulatorConfig.{SimulatorConfig}
 use Rattle.listing.specs.declared.Settings.{Settings}
 use Rattle.listing.specs.declared.Reading.{Reading}
 use Rattle.std.specs.Prelude.{Result, Ok, Err}

@@ -13,7 +13,9 @@ ghost use Rattle.days.specs.Due.{due_days, add_due, move_due, none_due};
 
 pub use memorized::add_forgetting_curve_range;
 
-// The columns of a day's row, which the C interface lends as four numbers.
+// A day's row of counts, as the C interface lends it; its columns are the four numbers below.
+pub type DayRow = [u32; 4];
+
 const LEARNED: usize = 0;
 
 const REVIEWED: usize = 1;
@@ -23,13 +25,13 @@ const CORRECT: usize = 2;
 const INTRODUCED: usize = 3;
 
 // This and the next differ in the column: with the column as a parameter their callers would be no shorter.
-pub fn learned_at(rows: &[[u32; 4]], d: u32) -> u32
+pub fn learned_at(rows: &[DayRow], d: u32) -> u32
     ensures { result ≡ learned_at rows.now d }
 {
     rows.get(d as usize).map_or(0, |row| row[LEARNED])
 }
 
-pub fn reviewed_at(rows: &[[u32; 4]], d: u32) -> u32
+pub fn reviewed_at(rows: &[DayRow], d: u32) -> u32
     ensures { result ≡ reviewed_at rows.now d }
 {
     rows.get(d as usize).map_or(0, |row| row[REVIEWED])
@@ -37,7 +39,7 @@ pub fn reviewed_at(rows: &[[u32; 4]], d: u32) -> u32
 
 // One more in a column of day d.
 #[tactic(auto, using(crate::proofs::Laws::saturated, std::proofs::lemmas::List::set_past), unfolding(crate::specs::Counts::add_one))]
-fn add_one(rows: &mut [[u32; 4]], column: usize, d: u32)
+fn add_one(rows: &mut [DayRow], column: usize, d: u32)
     requires { column < 4 }
     ensures { rows.new ≡ add_one rows.old column d }
 {
@@ -47,7 +49,7 @@ fn add_one(rows: &mut [[u32; 4]], column: usize, d: u32)
     }
 }
 
-fn add_review(rows: &mut [[u32; 4]], d: u32, recalled: bool)
+fn add_review(rows: &mut [DayRow], d: u32, recalled: bool)
     ensures { rows.new ≡ add_review rows.old d recalled }
 {
     add_one(rows, REVIEWED, d);
@@ -57,7 +59,7 @@ fn add_review(rows: &mut [[u32; 4]], d: u32, recalled: bool)
 }
 
 // On each day from `from` up to `to`, that day left out.
-fn add_introduced_from(rows: &mut [[u32; 4]], from: u32, to: u32)
+fn add_introduced_from(rows: &mut [DayRow], from: u32, to: u32)
     ensures { rows.new ≡ add_introduced_from rows.old (to - from) from }
 {
     for d in from..to {
@@ -66,7 +68,7 @@ fn add_introduced_from(rows: &mut [[u32; 4]], from: u32, to: u32)
 }
 
 #[tactic(auto, unfolding(crate::specs::Counts::add_event))]
-pub fn add_event(rows: &mut [[u32; 4]], span: u32, new: bool, d: u32, recalled: bool)
+pub fn add_event(rows: &mut [DayRow], span: u32, new: bool, d: u32, recalled: bool)
     ensures { rows.new ≡ add_event span rows.old new d recalled }
 {
     if new {

@@ -1,10 +1,10 @@
--- SplitMix64 (Steele, Lea and Flood 2014), and a rating and a recall drawn by one word of it. Definitions only.
+-- SplitMix64 (Steele, Lea and Flood 2014), and an index by weights and a recall drawn by one word of it. Definitions only.
 --     advance s, mix z                    the state of the next draw, and the output of a state
 --     word z          the top 32 bits of an output
 --     DrawRule, split_mix                  a way to draw, and this one
 --     unit w          v, the top 24 bits of a word over 2 ^ 24
---     sum_from s ws, choose target s i p ws                      a running sum, and the choice by it
---     rating ws w     the index that a word chooses among weights
+--     sum_from s ws, index_above target s i p ws                 a running sum, and the index by it
+--     weighted_index ws w   the index that a word chooses among weights
 --     recalled chance w                   whether a word recalls
 use Rattle.std.specs.Prelude.{ℕ, suc, ◌+◌, ◌*◌, ◌/◌, ◌%◌, ◌^◌, Bool, false, cond, List, [], ◌∷◌, pos, bit_xor, Float}
 use Rattle.std.specs.Float.{binary32}
@@ -46,14 +46,14 @@ sum_from s (x ∷ xs) = sum_from (s +ᶠ x) xs
 -- The first index whose running sum is above the target, or the last of a positive weight if none is (0 if there is
 -- none of those either). i is the index of the first weight left, s the sum before it, and p the last index before i
 -- of a positive weight.
-unfoldable pub choose : Float → Float → ℕ → ℕ → List Float → ℕ
-choose target s i p [] = p
-choose target s i p (x ∷ xs) = let rest = choose target (s +ᶠ x) (suc i) (cond (lt 0ᶠ x) i p) xs in cond
+unfoldable pub index_above : Float → Float → ℕ → ℕ → List Float → ℕ
+index_above target s i p [] = p
+index_above target s i p (x ∷ xs) = let rest = index_above target (s +ᶠ x) (suc i) (cond (lt 0ᶠ x) i p) xs in cond
     (lt target (s +ᶠ x)) i rest
 
 -- the index, from 0, of the weight that a word chooses
-unfoldable pub rating : List Float → ℕ → ℕ
-rating weights w = choose (unit w *ᶠ sum_from 0ᶠ weights) 0ᶠ 0 0 weights
+unfoldable pub weighted_index : List Float → ℕ → ℕ
+weighted_index weights w = index_above (unit w *ᶠ sum_from 0ᶠ weights) 0ᶠ 0 0 weights
 
 unfoldable pub recalled : Float → ℕ → Bool
 recalled chance w = lt (unit w) chance

@@ -1,4 +1,4 @@
-// The draws of a run: SplitMix64, a rating by weights, and a recall.
+// The draws of a run: SplitMix64, an index by weights, and a recall.
 #![tactic(auto, unfolding(crate::specs::Draws::advance, crate::specs::Draws::mix, crate::specs::Draws::xor_shift, crate::specs::Draws::word, crate::specs::Draws::recalled))]
 
 ghost use Rattle.std.specs.Prelude.{◌≡◌, ◌<◌};
@@ -78,8 +78,8 @@ pub fn total(weights: &[f32]) -> f32
 }
 
 // The index, from 0, of the weight that a word chooses.
-pub fn rating(weights: &[f32], word: u32) -> usize
-    ensures { result ≡ Draws.rating weights.now word }
+pub fn weighted_index(weights: &[f32], word: u32) -> usize
+    ensures { result ≡ Draws.weighted_index weights.now word }
 {
     let target = unit(word) * total(weights);
     let mut sum = 0.0;

@@ -1,23 +1,22 @@
 -- The tests before that of the cards pass on what follows them, or fail whatever follows.
---   PassesOn f        what f does with the tests that follow
+--   PassesOn f        what f does with the tests that follow; first_on has it of any list of tests
 --   goes_on, stays    what passes with nothing behind it, and what fails
 --   parameters_pass, parameters_fail, settings_pass, settings_fail   so for these tests
 --   raised            a refusal that `?` passes on is the same
 --   passes            one test that passes
 --   SettingsOk, settings_passed   what tests that pass say
---   lists-told        refusal 6 is about no list exactly where the lists pass
+--   lengths_pass      where refusal 6 is about no list, each of its tests passes
 use mathlib.Core.Path.{◌≡◌, refl, sym, ap, ◌∙◌, subst}
-use mathlib.Core.Bool.{Bool, true, false, not, cond, ◌||◌, ◌&&◌}
-use mathlib.Core.List.{List}
+use mathlib.Core.Bool.{Bool, true, false, not}
+use mathlib.Core.List.{List, [], ◌∷◌}
 use Prim.Native.Nat.{ℕ, suc, ◌≤◌, ◌<◌}
 use native.Mathlib.Omega.{arith}
-use borrow.Author.Tests.{eqb-false, ltb-false, ne_eqb, lt-ltb, le-ltb}
-use lib.Dec.{eqb, leb, ltb}
+use borrow.Author.Tests.{eqb-true, eqb-false, ltb-false, lt-ltb, le-ltb}
+use lib.Dec.{eqb, ltb}
 use lib.ListN.{length, take}
 use lib.Ieee.{Float}
-use Rattle.cards.specs.declared.SimulatorConfig.{SimulatorConfig}
+use Rattle.cards.specs.declared.configuration.SimulatorConfig.{SimulatorConfig}
 use Rattle.cards.specs.Config.{config_ok}
-use Rattle.days.specs.Due.{due_days}
 use Rattle.entry.specs.declared.Refusal.{Refusal}
 use Rattle.entry.specs.declared.Refusal.TheVariants as refusal
 use Rattle.std.specs.Prelude.{Ok, Err, IsErrAnd, Option, Some, None, MatchOption}
@@ -27,8 +26,10 @@ use Rattle.std.proofs.lemmas.List.{get_or-take, length-take}
 use Rattle.float32.specs.Float32.{is_finite}
 use Rattle.entry.proofs.FirstWhere.{first_found, first_none, Found}
 use Rattle.entry.specs.declared.lists.Lengths.{Lengths}
-use Rattle.entry.specs.Entry.{Check, passed, first_where, not_finite, fail_if, check_parameters, lengths_ok, check_first, not_ok}
-use Rattle.entry.specs.Entry.{most_cards, most_days, short_list, check_settings}
+use Rattle.entry.specs.Entry.{Check, passed, not_finite, fail_if, first_refusal, parameter_tests}
+use Rattle.entry.specs.Entry.{check_parameters, length_tests, first_failing, short_list, lengths_ok, check_cards, not_ok}
+use Rattle.entry.specs.Entry.{most_cards, most_days, setting_tests, check_settings}
+use Rattle.turns.specs.Turns.{All}
 use Rattle.turns.proofs.Logic.{not-one, both, neither, not-false}
 
 -- what a test, or a chain of tests, does with the tests that follow
@@ -46,6 +47,10 @@ infixr 20 ◌then◌
 (passing p) then (failing r q) = failing r (λ c. p _ ∙ q c)
 (failing r p) then q = failing r (λ c. p _)
 
+first_on : (ts : List (Bool × Refusal)) → PassesOn (first_refusal ts)
+first_on [] = passing (λ c. refl)
+first_on (t ∷ ts) = fail_on t.0 t.1 then first_on ts
+
 not_passed : (r : Refusal) → passed ≡ Err r → ⊥
 not_passed r e = not-one cc
 
@@ -62,9 +67,7 @@ stays (failing r' p) r e next = p next ∙ ap (λ (x : Refusal). Err x) (same_re
 
 parameters_on : (w : List Float) → PassesOn (check_parameters w)
 unfolding check_parameters
-parameters_on w =
-    fail_on (ltb (length w) 34) (refusal.Parameters 34)
-    then fail_on (ltb (first_where (not_finite w) 34 0) 34) (refusal.Parameters (first_where (not_finite w) 34 0))
+parameters_on w = first_on (parameter_tests w)
 
 -- a refusal that `?` passes on is the same
 pub raised : (r : Check) (e : Refusal) → IsErrAnd r (λ x. x ≡ e) → r ≡ Err e
@@ -76,16 +79,19 @@ pub passes : (b : Bool) (r : Refusal) (next : Check) → fail_if b r next ≡ pa
 passes true r next e = absurd (not-one cc)
 passes false r next e = (refl, e)
 
+-- tests that are passed, and what follows them
+all_passed : (ts : List (Bool × Refusal)) (next : Check) → first_refusal ts next ≡ passed
+    → All (λ t. t.0 ≡ false) ts × (next ≡ passed)
+all_passed [] next e = (tt, e)
+all_passed (t ∷ ts) next e =
+    let p = passes t.0 t.1 (first_refusal ts next) e in
+    let q = all_passed ts next p.1 in
+    ((p.0, q.0), q.1)
+
 module _ (ok lists : Bool) (w : List Float) (g : SimulatorConfig) (n : ℕ) where
   settings_on : PassesOn (check_settings ok lists w g n)
   unfolding check_settings
-  settings_on =
-      parameters_on w
-      then (fail_on (eqb g.deck_size 0 || ltb most_cards g.deck_size) refusal.DeckSize
-      then (fail_on (eqb g.learn_span 0 || ltb most_days g.learn_span) refusal.LearnSpan
-      then (fail_on (not (config_ok g && ok)) refusal.Config
-      then (fail_on (not lists) refusal.Lists
-      then fail_on (ltb g.deck_size n) refusal.TooManyCards))))
+  settings_on = parameters_on w then first_on (setting_tests ok lists g n)
 
   pub settings_pass : check_settings ok lists w g n passed ≡ passed → (next : Check)
       → check_settings ok lists w g n next ≡ next
@@ -100,12 +106,8 @@ module _ (ok lists : Bool) (w : List Float) (g : SimulatorConfig) (n : ℕ) wher
   parameters_fail r e = stays (parameters_on w) r e _
 
   -- where the parameters pass, the tests behind them decide
-  pub parameters_pass : check_parameters w passed ≡ passed → check_settings ok lists w g n passed
-      ≡ fail_if (eqb g.deck_size 0 || ltb most_cards g.deck_size) refusal.DeckSize
-      (fail_if (eqb g.learn_span 0 || ltb most_days g.learn_span) refusal.LearnSpan
-      (fail_if (not (config_ok g && ok)) refusal.Config
-      (fail_if (not lists) refusal.Lists
-      (fail_if (ltb g.deck_size n) refusal.TooManyCards passed))))
+  pub parameters_pass : check_parameters w passed ≡ passed
+      → check_settings ok lists w g n passed ≡ first_refusal (setting_tests ok lists g n) passed
   unfolding check_settings
   parameters_pass e = goes_on (parameters_on w) e _
 
@@ -125,27 +127,22 @@ module _ (ok lists : Bool) (w : List Float) (g : SimulatorConfig) (n : ℕ) wher
   pub settings_passed : (next : Check) → check_settings ok lists w g n next ≡ passed → SettingsOk next
   unfolding check_settings check_parameters
   settings_passed next e =
-      let p₁ = passes (ltb (length w) 34) _ _ e in
-      let p₂ = passes (ltb (first_where (not_finite w) 34 0) 34) _ _ p₁.1 in
-      let p₃ = passes (eqb g.deck_size 0 || ltb most_cards g.deck_size) _ _ p₂.1 in
-      let p₄ = passes (eqb g.learn_span 0 || ltb most_days g.learn_span) _ _ p₃.1 in
-      let p₅ = passes (not (config_ok g && ok)) _ _ p₄.1 in
-      let p₆ = passes (not lists) _ _ p₅.1 in
-      let p₇ = passes (ltb g.deck_size n) _ _ p₆.1 in
-      let deck = neither (eqb g.deck_size 0) (ltb most_cards g.deck_size) p₃.0 in
-      let span = neither (eqb g.learn_span 0) (ltb most_days g.learn_span) p₄.0 in
-      let config = both (config_ok g) ok (not-false _ p₅.0) in
+      let p = all_passed (parameter_tests w) (first_refusal (setting_tests ok lists g n) next) e in
+      let s = all_passed (setting_tests ok lists g n) next p.1 in
+      let deck = neither (eqb g.deck_size 0) (ltb most_cards g.deck_size) s.0.0 in
+      let span = neither (eqb g.learn_span 0) (ltb most_days g.learn_span) s.0.1.0 in
+      let config = both (config_ok g) ok (not-false _ s.0.1.1.0) in
       record {
-        parameters_long = ltb-false (length w) 34 p₁.0;
+        parameters_long = ltb-false (length w) 34 p.0.0;
         deck_some = positive g.deck_size deck.0;
         deck_most = ltb-false most_cards g.deck_size deck.1;
         span_some = positive g.learn_span span.0;
         span_most = ltb-false most_days g.learn_span span.1;
         config_passes = config.0;
         setting_ok = config.1;
-        lists_pass = not-false lists p₆.0;
-        existing_few = ltb-false g.deck_size n p₇.0;
-        next_passes = p₇.1;
+        lists_pass = not-false lists s.0.1.1.1.0;
+        existing_few = ltb-false g.deck_size n s.0.1.1.1.1.0;
+        next_passes = s.1;
       }
     where
       positive : (m : ℕ) → eqb m 0 ≡ false → 0 < m
@@ -185,38 +182,26 @@ finite_in w n (Some i) l h =
     )
 
 pub cards_bad : (es : List (List Float)) (ns : List (List ℕ)) (n i : ℕ) → Found (not_ok es ns) n (Some i)
-    → check_first es ns n ≡ Err (refusal.ExistingCard i)
-unfolding check_first
+    → check_cards es ns n ≡ Err (refusal.ExistingCard i)
+unfolding check_cards
 cards_bad es ns n i f =
     let e = first_found (not_ok es ns) n i f.1 f.2 (λ k h. f.3 k (omega arith) h) in
     rw (e, lt-ltb i n f.1)
 
 pub cards_ok : (es : List (List Float)) (ns : List (List ℕ)) (n : ℕ) → Found (not_ok es ns) n None
-    → check_first es ns n ≡ passed
-unfolding check_first
+    → check_cards es ns n ≡ passed
+unfolding check_cards
 cards_ok es ns n f =
     let e = first_none (not_ok es ns) n (λ k h. f k (omega arith) h) in
     rw (e, le-ltb n n (omega arith))
 
-told : (b : Bool) (k : ℕ) {rest : Bool} (n : ℕ) → rest ≡ eqb n 0 → (b && rest) ≡ eqb (cond (not b) (suc k) n) 0
-told true k n e = e
-told false k n e = sym (ne_eqb (suc k) 0 (λ z. omega (arith, z)))
+-- none fails: each passes
+all_pass : (i : ℕ) (bs : List Bool) → first_failing (suc i) bs ≡ 0 → All (λ b. b ≡ true) bs
+all_pass i [] e = tt
+all_pass i (true ∷ bs) e = (refl, all_pass (suc i) bs e)
+all_pass i (false ∷ bs) e = absurd (omega (arith, e))
 
-pub lists-told : (g : SimulatorConfig) (n m : ℕ) (x : Lengths) → lengths_ok g n m x ≡ eqb (short_list g n m x) 0
+pub lengths_pass : (g : SimulatorConfig) (n m : ℕ) (x : Lengths) → lengths_ok g n m x ≡ true
+    → All (λ b. b ≡ true) (length_tests g n m x)
 unfolding lengths_ok short_list
-lists-told g n m x =
-    let deck = g.deck_size in
-    let span = g.learn_span in
-    told (eqb n m) 0 _
-    (told (eqb x.keys x.intervals) 1 _
-    (told (eqb x.cards x.counts) 2 _
-    (told (leb deck x.cards) 3 _
-    (told (leb deck x.rows) 4 _
-    (told (leb span x.days) 5 _
-    (told (leb span x.costs) 6 _
-    (told (leb span x.memorized) 7 _
-    (last (leb (due_days span) x.due)))))))))
-  where
-    last : (b : Bool) → b ≡ eqb (cond (not b) 9 0) 0
-    last true = refl
-    last false = refl
+lengths_pass g n m x e = all_pass 0 (length_tests g n m x) (eqb-true _ 0 e)

@@ -5,7 +5,7 @@
 ghost use Rattle.std.specs.Prelude.{◌≡◌, ◌==◌, ◌||◌, nat_lt};
 ghost use Rattle.float32.specs.Numbers.{0ᶠ};
 ghost use Rattle.entry.specs.Entry.{inputs, is_bad, passed};
-ghost use Rattle.entry.specs.Entry.{check_parameters, lengths_ok, short_list, check_first};
+ghost use Rattle.entry.specs.Entry.{check_parameters, lengths_ok, short_list, check_cards};
 ghost use Rattle.entry.specs.Entry.{check_settings, check_entry};
 
 use cards::{Card, SimulatorConfig};
@@ -67,7 +67,7 @@ pub fn is_bad(card: Card) -> bool
 // Refusal 5 tells the first of the first n existing cards that is kept and not as it must be.
 // A card lies in two lists, neither known to be as long as the other, so it is read by its number.
 fn check_cards(learner: Learner<'_>, n: u32) -> Result<(), Refusal>
-    ensures { result ≡ check_first learner.entry.existing.now learner.entry.existing_counts.now n }
+    ensures { result ≡ check_cards learner.entry.existing.now learner.entry.existing_counts.now n }
 {
     match (0..n).find(|i| is_bad(cards::card_at(learner.existing, learner.existing_counts, *i))) {
         Some(i) => Err(Refusal::ExistingCard(i)),
@@ -76,6 +76,7 @@ fn check_cards(learner: Learner<'_>, n: u32) -> Result<(), Refusal>
 }
 
 // The existing cards' two lengths are no fields of `Lengths`: over records both are the number of records.
+#[tactic(auto, unfolding(crate::specs::Entry::lengths_ok))]
 pub fn lists_ok(
     config: SimulatorConfig,
     existing: usize,

@@ -2,21 +2,24 @@
 ghost use Rattle.std.specs.Prelude.{◌≡◌};
 ghost use Rattle.entry.specs.Lists.{lengths_of_lists};
 
-use cards::SimulatorConfig;
+use cards::{CardRow, CountRow, SimulatorConfig};
+use days::DayRow;
+use intervals::KeyRow;
+use queue::QueueRow;
 
 // The lists that a call writes, all lent: rows of cards and of their counts, of the queue and of days' counts, the
 // days' costs, what is memorized on each, the due counts, and the interval table. Cards and counts, days and costs, keys
 // and intervals lie side by side, as C lends them.
 #[derive(Drop)]
 pub struct Lists<'a> {
-    pub cards: &'a mut [[f32; 6]],
-    pub counts: &'a mut [[u32; 2]],
-    pub rows: &'a mut [[u64; 2]],
-    pub days: &'a mut [[u32; 4]],
+    pub cards: &'a mut [CardRow],
+    pub counts: &'a mut [CountRow],
+    pub rows: &'a mut [QueueRow],
+    pub days: &'a mut [DayRow],
     pub costs: &'a mut [f32],
     pub memorized: &'a mut [f32],
     pub due: &'a mut [u32],
-    pub keys: &'a mut [[u32; 2]],
+    pub keys: &'a mut [KeyRow],
     pub intervals: &'a mut [f32],
 }
 
@@ -38,8 +41,8 @@ pub struct Lengths {
 #[derive(Clone, Copy)]
 pub struct Learner<'a> {
     pub parameters: &'a [f32],
-    pub existing: &'a [[f32; 6]],
-    pub existing_counts: &'a [[u32; 2]],
+    pub existing: &'a [CardRow],
+    pub existing_counts: &'a [CountRow],
 }
 
 // What a run is set to, besides.

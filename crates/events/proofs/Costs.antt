@@ -8,8 +8,8 @@ use lib.Ieee.{Float}
 use Rattle.std.specs.Prelude.{Option, Some, None}
 use Rattle.float32.specs.Ops.{◌+ᶠ◌}
 use Rattle.draws.specs.Draws.{DrawRule, recalled}
-use Rattle.cards.specs.declared.SimulatorConfig.{SimulatorConfig}
-use Rattle.cards.specs.declared.Card.{Card}
+use Rattle.cards.specs.declared.configuration.SimulatorConfig.{SimulatorConfig}
+use Rattle.cards.specs.declared.card.Card.{Card}
 use Rattle.cards.specs.Config.{row_of}
 use Rattle.events.specs.declared.ShortTerm.{ShortTerm}
 use Rattle.events.specs.declared.Memory.{Memory}

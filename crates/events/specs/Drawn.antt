@@ -11,8 +11,8 @@ use Rattle.float32.specs.Ops.{◌+ᶠ◌}
 use Rattle.float32.specs.Numbers.{0ᶠ}
 use Rattle.draws.specs.Draws.{DrawRule, recalled}
 use Rattle.turns.specs.Turns.{Kind, learn, review, put_off, retire, CostRule}
-use Rattle.cards.specs.declared.SimulatorConfig.{SimulatorConfig}
-use Rattle.cards.specs.declared.Card.{Card}
+use Rattle.cards.specs.declared.configuration.SimulatorConfig.{SimulatorConfig}
+use Rattle.cards.specs.declared.card.Card.{Card}
 use Rattle.cards.specs.Config.{row_of}
 use Rattle.events.specs.declared.ShortTerm.{ShortTerm}
 use Rattle.events.specs.Scalars.{Scalars}

@@ -16,10 +16,10 @@ use Rattle.std.specs.Float.Ieee.{of_int, le}
 use Rattle.float32.specs.Float32.{clamp}
 use Rattle.float32.specs.Ops.{◌+ᶠ◌, ◌-ᶠ◌}
 use Rattle.float32.specs.Numbers.{0ᶠ, 1ᶠ}
-use Rattle.draws.specs.Draws.{DrawRule, rating, recalled}
+use Rattle.draws.specs.Draws.{DrawRule, weighted_index, recalled}
 use Rattle.model.specs.Constants.{s_min, s_max, d_min, d_max}
-use Rattle.cards.specs.declared.SimulatorConfig.{SimulatorConfig}
-use Rattle.cards.specs.declared.Card.{Card}
+use Rattle.cards.specs.declared.configuration.SimulatorConfig.{SimulatorConfig}
+use Rattle.cards.specs.declared.card.Card.{Card}
 use Rattle.cards.specs.Config.{row_of}
 use Rattle.events.specs.declared.ShortTerm.{ShortTerm}
 use Rattle.events.specs.declared.Memory.{Memory}
@@ -44,7 +44,7 @@ module _ (w : DrawRule) (x : Scalars) (transitions costs : List Float) where
   -- a short-term step: a rating drawn by the row of the last one, and what it does
   unfoldable pub short_step : ShortTerm → ShortTerm
   short_step t =
-      let r = rating_of (rating (row_of transitions (t.rating - 1)) (w.word t.draws)) in
+      let r = rating_of (weighted_index (row_of transitions (t.rating - 1)) (w.word t.draws)) in
       record {
         stability = x.short_term t.stability t.difficulty r;
         difficulty = x.next_difficulty t.difficulty r;
@@ -87,7 +87,7 @@ module _ (w : DrawRule) (g : SimulatorConfig) (x : Scalars) where
   -- the first rating of a learning, and what it leaves
   abbrev pub first_of : ℕ → ShortTerm
   first_of state =
-      let r = rating_of (rating g.first_rating_prob (w.word state)) in
+      let r = rating_of (weighted_index g.first_rating_prob (w.word state)) in
       record {
         stability = x.init_stability r;
         difficulty = clamp (x.init_difficulty r) d_min d_max;
@@ -107,7 +107,7 @@ module _ (w : DrawRule) (g : SimulatorConfig) (x : Scalars) where
 
   -- a review that was recalled: a rating of 2 to 4
   abbrev pub success_rating : ℕ → ℕ
-  success_rating state = recalled_rating_of (rating g.review_rating_prob (w.word state))
+  success_rating state = recalled_rating_of (weighted_index g.review_rating_prob (w.word state))
 
   unfoldable pub success : Card → Float → ℕ → Memory
   success k chance state =

@@ -2,7 +2,7 @@
 #![tactic(auto)]
 
 ghost use Rattle.std.specs.Prelude.{◌≡◌, ◌+◌, ◌-◌, ◌≤◌, ◌<◌, min};
-ghost use Rattle.draws.specs.Draws.{word, rating, split_mix};
+ghost use Rattle.draws.specs.Draws.{word, weighted_index, split_mix};
 ghost use Rattle.events.specs.Scalars.{kept};
 ghost use Rattle.events.specs.Events.{of_rating, consecutive_after, short_step, short_steps, memory_of};
 ghost use Rattle.events.specs.Events.{learning_limit, learning, success, lapse, chance_ok, reviewing, event_at};
@@ -50,9 +50,9 @@ pub struct ShortTerm {
 // One of the last N ratings, drawn by their weights: of all four, or of the three that a recall can get.
 fn drawn_rating<const N: usize>(weights: [f32; N], output: u64) -> u32
     requires { (1 ≤ N) × (N ≤ 4) }
-    ensures { result ≡ min (rating weights.entry (word output)) (N - 1) + (5 - N) }
+    ensures { result ≡ min (weighted_index weights.entry (word output)) (N - 1) + (5 - N) }
 {
-    (draws::rating(&weights, draws::word(output)).min(N - 1) + (5 - N)) as u32
+    (draws::weighted_index(&weights, draws::word(output)).min(N - 1) + (5 - N)) as u32
 }
 
 fn of_rating(row: [f32; 4], rating: u32) -> f32

@@ -9,13 +9,13 @@ use lib.Seq.{take_all}
 use lib.Dec.{ltb}
 use lib.Ieee.{Float, binary32, of_bits}
 use borrow.Author.Tests.{ltb-false}
-use Rattle.cards.specs.declared.SimulatorConfig.{SimulatorConfig}
+use Rattle.cards.specs.declared.configuration.SimulatorConfig.{SimulatorConfig}
 use Rattle.listing.specs.declared.Settings.{Settings}
 use Rattle.runs.specs.Simulate.{Answer}
 use Rattle.runs.specs.State.{Lent, state}
 use Rattle.entry.specs.Entry.{inputs}
 use Rattle.runs.specs.Demands.{RunContract}
-use Rattle.forecast_text.specs.Settings.{within, config_of, parameters_of, inputs_of}
+use Rattle.forecast_text.specs.Settings.{config_of, parameters_of, inputs_of, zero_above}
 use Rattle.forecast_text.specs.Forecast.{lists, run_with, RunDays}
 
 pub run_days : (s : Settings) (days : List (List ℕ)) (costs memorized : List Float)
@@ -45,8 +45,8 @@ pub few_parameters : (b : Bool) (n : ℕ) → n ≡ cond b 34 0 → n ≤ 34
 few_parameters true n e = omega (arith, e)
 few_parameters false n e = omega (arith, e)
 
-pub within-short : (most n r : ℕ) → r ≡ within most n → r ≤ most
-within-short most n r = go (ltb most n) refl
+pub zero_above-le : (most n r : ℕ) → r ≡ zero_above most n → r ≤ most
+zero_above-le most n r = go (ltb most n) refl
   where
     go : (b : Bool) → ltb most n ≡ b → r ≡ cond b 0 n → r ≤ most
     go true e f = omega (arith, f)

@@ -19,14 +19,14 @@ use Rattle.report.proofs.WriteLaws.{forecast-short, refused-short}
 use Rattle.report.proofs.RowLaws.{days_short}
 use Rattle.entry.specs.declared.Refusal.{Refusal}
 use Rattle.entry.specs.Refusals.{number_of, second_of}
-use Rattle.entry.specs.Entry.{most_cards, most_days, first_where, lengths_ok, check_first, check_settings}
+use Rattle.entry.specs.Entry.{most_cards, most_days, first_where, lengths_ok, check_settings, short_list, check_cards}
 use Rattle.runs.specs.Checked.{lists_ok, checked}
 use Rattle.runs.specs.Simulate.{Answer, simulated_by}
-use Rattle.forecast_text.specs.Settings.{most_deck, most_span, within, config_of, inputs_of, default_settings}
+use Rattle.forecast_text.specs.Settings.{most_deck, most_span, config_of, inputs_of, default_settings, zero_above}
 use Rattle.forecast_text.specs.Forecast.{lists, lent_lists, run_with, forecast_run, room, answer_text, run_text}
 use Rattle.forecast_text.specs.Forecast.{verdict_text, forecast_text}
 use Rattle.forecast_text.specs.Laws.{entry_of, RunLaws, TextLaws}
-use Rattle.forecast_text.proofs.Call.{within-short}
+use Rattle.forecast_text.proofs.Call.{zero_above-le}
 
 -- ---- the entry
 
@@ -36,7 +36,7 @@ or-true false = refl
 
 -- a number above its limit is refused as 0 is, and one within it by the run's own test
 limit_is : (most larger n : ℕ) → most ≤ larger
-    → (eqb (within most n) 0 || ltb larger (within most n)) ≡ (eqb n 0 || ltb most n)
+    → (eqb (zero_above most n) 0 || ltb larger (zero_above most n)) ≡ (eqb n 0 || ltb most n)
 limit_is most larger n h = go (ltb most n) refl
   where
     go : (b : Bool) → ltb most n ≡ b
@@ -45,25 +45,25 @@ limit_is most larger n h = go (ltb most n) refl
     go false e = rw (le-ltb larger n (omega (arith, h, ltb-false most n e)))
 
 lists-long : (s : Settings) → lists_ok (inputs_of s) (lent_lists s) ≡ true
-unfolding lengths_ok inputs_of config_of lists
+unfolding lengths_ok short_list inputs_of config_of lists
 lists-long s =
-    let deck : within most_deck s.deck ≤ most_deck = within-short most_deck s.deck _ refl in
-    let span : within most_span s.span ≤ most_span = within-short most_span s.span _ refl in
-    let due : within most_span s.span + within most_span s.span / 2 ≤ 1095 = omega arith in
+    let deck : zero_above most_deck s.deck ≤ most_deck = zero_above-le most_deck s.deck _ refl in
+    let span : zero_above most_span s.span ≤ most_span = zero_above-le most_span s.span _ refl in
+    let due : zero_above most_span s.span + zero_above most_span s.span / 2 ≤ 1095 = omega arith in
     rw (
-      le-leb (within most_deck s.deck) most_deck deck,
-      le-leb (within most_span s.span) most_span span,
-      le-leb (within most_span s.span + within most_span s.span / 2) 1095 due,
+      le-leb (zero_above most_deck s.deck) most_deck deck,
+      le-leb (zero_above most_span s.span) most_span span,
+      le-leb (zero_above most_span s.span + zero_above most_span s.span / 2) 1095 due,
     )
 
 pub entry_is : (s : Settings) → checked (inputs_of s) (lent_lists s) ≡ entry_of s
-unfolding check_settings entry_of inputs_of config_of check_first first_where
+unfolding check_settings entry_of inputs_of config_of check_cards first_where
 entry_is s =
     rw (
       lists-long s,
       limit_is most_deck most_cards s.deck (omega arith),
       limit_is most_span most_days s.span (omega arith),
-      le-ltb (within most_deck s.deck) 0 (omega arith),
+      le-ltb (zero_above most_deck s.deck) 0 (omega arith),
     )
 
 entry-refused : (s : Settings) (r : Refusal) → entry_of s ≡ Err r
@@ -92,8 +92,8 @@ unfolding verdict_text run_text config_of
 verdict_fits (Err e) s = omega (arith, refused-short 11 (told e))
 verdict_fits (Ok u) s =
     let r = forecast_run s in
-    answer_fits (within most_span s.span) r.answer r.state.days r.state.costs r.state.memorized
-    (within-short most_span s.span _ refl)
+    answer_fits (zero_above most_span s.span) r.answer r.state.days r.state.costs r.state.memorized
+    (zero_above-le most_span s.span _ refl)
 
 text_fits : (text : List ℕ) → length (forecast_text text) ≤ room
 unfolding forecast_text

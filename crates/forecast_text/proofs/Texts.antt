@@ -27,7 +27,7 @@ use Rattle.runs.specs.Simulate.{Answer}
 use Rattle.runs.specs.declared.Refused.{Refused}
 use Rattle.runs.specs.declared.Progress.{Progress}
 use Rattle.entry.specs.Refusals.{number_of, second_of}
-use Rattle.forecast_text.specs.Settings.{most_span, within, default_settings, config_of}
+use Rattle.forecast_text.specs.Settings.{most_span, zero_above, default_settings, config_of}
 use Rattle.forecast_text.specs.Forecast.{room, Printed, RunDays, forecast_run, answer_text, run_text, verdict_text}
 use Rattle.forecast_text.specs.Forecast.{forecast_text, printed, left}
 
@@ -103,7 +103,7 @@ module _ (out : List ℕ) (days : List (List ℕ)) (costs memorized : List Float
 
 module _ (s : Settings) (a : Answer) (days : List (List ℕ)) (costs memorized : List Float)
     (run : RunDays (forecast_run s) a days costs memorized) where
-  pub finished_text : (p : Progress) (span : ℕ) → a ≡ Ok p → span ≡ within most_span s.span
+  pub finished_text : (p : Progress) (span : ℕ) → a ≡ Ok p → span ≡ zero_above most_span s.span
       → run_text s ≡ forecast_line span p.turns p.cards ++ day_lines days costs memorized 0 span
   unfolding run_text answer_text config_of
   finished_text p span e f =

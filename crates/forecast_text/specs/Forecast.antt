@@ -20,14 +20,14 @@ use Rattle.runs.specs.Simulate.{Answer, Outcome, simulated}
 use Rattle.forecast_text.specs.Settings.{most_deck, most_span, default_settings, config_of, inputs_of}
 
 -- the length of the interval table
-abbrev pub places : ℕ
-places = 4096
+abbrev pub table_places : ℕ
+table_places = 4096
 
 -- the lists lent to the run, as long as the limits ask; what they hold plays no part (simulation's `Demands.same_run`)
 unfoldable pub lists : List (List ℕ) → List Float → List Float → Lent Float
 lists days costs memorized =
     lent (replicate most_deck (replicate 6 0ᶠ)) (replicate most_deck (replicate 2 0)) (replicate most_deck (replicate 2 0))
-    days costs memorized (replicate 1095 0) (replicate places (replicate 2 0)) (replicate places 0ᶠ)
+    days costs memorized (replicate 1095 0) (replicate table_places (replicate 2 0)) (replicate table_places 0ᶠ)
 
 -- the run of settings, with these lists of days
 unfoldable pub run_with : List (List ℕ) → List Float → List Float → Settings → Outcome Float

@@ -2,7 +2,7 @@
 --   entry_of s       the entry's refusals that a text can meet, in their order, by the program's own limits
 --   RunLaws s       what is printed of settings that the entry turns away, and that no list is too short
 --   TextLaws text   the room that a text's answer takes
-use Rattle.std.specs.Prelude.{ℕ, ◌≤◌, ◌≡◌, not, ◌&&◌, ◌||◌, List, length, eqb, ltb, Err}
+use Rattle.std.specs.Prelude.{ℕ, ◌≤◌, ◌≡◌, not, ◌&&◌, ◌||◌, List, [], ◌∷◌, length, eqb, ltb, Err}
 use Rattle.std.specs.Float.{binary32}
 use Rattle.std.specs.Float.Ieee.{of_bits}
 use Rattle.float32.specs.Float32.{is_finite}
@@ -12,7 +12,7 @@ use Rattle.report.specs.Lines.{refused_line}
 use Rattle.entry.specs.declared.Refusal.{Refusal}
 use Rattle.entry.specs.declared.Refusal.TheVariants as refusal
 use Rattle.entry.specs.Refusals.{number_of, second_of}
-use Rattle.entry.specs.Entry.{Check, passed, fail_if, check_parameters}
+use Rattle.entry.specs.Entry.{Check, passed, fail_if, check_parameters, first_refusal}
 use Rattle.runs.specs.Checked.{checked}
 use Rattle.forecast_text.specs.Settings.{most_deck, most_span, config_of, parameters_of, inputs_of}
 use Rattle.forecast_text.specs.Forecast.{room, lent_lists, run_text, forecast_text}
@@ -21,10 +21,11 @@ use Rattle.forecast_text.specs.Forecast.{room, lent_lists, run_text, forecast_te
 unfoldable pub entry_of : Settings → Check
 entry_of s =
     check_parameters (parameters_of s)
-    (fail_if (eqb s.deck 0 || ltb most_deck s.deck) refusal.DeckSize
-    (fail_if (eqb s.span 0 || ltb most_span s.span) refusal.LearnSpan
-    (fail_if (not (config_ok (config_of s) && is_finite (of_bits binary32 s.retention))) refusal.Config
-    passed)))
+    (first_refusal
+    ((eqb s.deck 0 || ltb most_deck s.deck, refusal.DeckSize)
+    ∷ (eqb s.span 0 || ltb most_span s.span, refusal.LearnSpan)
+    ∷ (not (config_ok (config_of s) && is_finite (of_bits binary32 s.retention)), refusal.Config)
+    ∷ []) passed)
 
 pub record RunLaws (s : Settings) : Type 0 where
   -- the run's entry tests are these

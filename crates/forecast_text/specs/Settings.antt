@@ -9,7 +9,7 @@ use Rattle.std.specs.Prelude.{ℕ, true, false, cond, List, [], map, get_or, rep
 use Rattle.std.specs.Float.{binary32}
 use Rattle.std.specs.Float.Ieee.{round, to_bits, of_bits}
 use Rattle.model.specs.Defaults as Defaults
-use Rattle.cards.specs.declared.SimulatorConfig.{SimulatorConfig}
+use Rattle.cards.specs.declared.configuration.SimulatorConfig.{SimulatorConfig}
 use Rattle.listing.specs.declared.Settings.{Settings}
 use Rattle.entry.specs.Entry.{Inputs, inputs}
 
@@ -67,13 +67,13 @@ abbrev pub most_span : ℕ
 most_span = 730
 
 -- a number above its limit is handed on as 0, which the run refuses as 2 or 3, in the order of its refusals
-abbrev pub within : ℕ → ℕ → ℕ
-within most n = cond (ltb most n) 0 n
+abbrev pub zero_above : ℕ → ℕ → ℕ
+zero_above most n = cond (ltb most n) 0 n
 
 unfoldable pub config_of : Settings → SimulatorConfig
 config_of s = record {
-  deck_size = within most_deck s.deck;
-  learn_span = within most_span s.span;
+  deck_size = zero_above most_deck s.deck;
+  learn_span = zero_above most_span s.span;
   max_cost_perday = of_bits binary32 s.maxcost;
   max_ivl = default_config.max_ivl;
   first_rating_prob = floats_of s.first;

@@ -8,6 +8,7 @@ ghost use Rattle.forecast_text.specs.Settings.{most_span};
 ghost use Rattle.forecast_text.specs.Forecast.{RunDays, Printed, run_with, room, run_text};
 ghost use Rattle.forecast_text.specs.Forecast.{forecast_text, printed, left};
 
+use days::DayRow;
 use entry::{Learner, Lists, refusals};
 use listing::Settings;
 use report::Rows;
@@ -18,7 +19,7 @@ pub mod settings;
 // The run of settings, its days in the lent lists. The other lists stand here as in cheapest_text: one function that
 // lends them all was tried, and its borrows are not proved.
 fn run(
-    days: &mut [[u32; 4]],
+    days: &mut [DayRow],
     costs: &mut [f32],
     memorized: &mut [f32],
     set: Settings,

@@ -1,7 +1,7 @@
 // The values that missing forms take, and settings as a run's inputs.
 ghost use Rattle.std.specs.Prelude.{◌≡◌, false, cond, length, get_or};
 ghost use Rattle.forecast_text.specs.Settings.{default_config, bits_of, floats_of, default_settings, most_span};
-ghost use Rattle.forecast_text.specs.Settings.{within, config_of};
+ghost use Rattle.forecast_text.specs.Settings.{zero_above, config_of};
 
 use cards::SimulatorConfig;
 use listing::Settings;
@@ -74,8 +74,8 @@ pub fn default_settings() -> Settings
 }
 
 // n, or 0 where it is above `most`: the run itself then refuses it, in the order of its refusals.
-fn at_most(most: u32, n: u32) -> u32
-    ensures { result ≡ within most n }
+fn zero_above(most: u32, n: u32) -> u32
+    ensures { result ≡ zero_above most n }
 {
     if most < n { 0 } else { n }
 }
@@ -85,7 +85,7 @@ pub fn config_of(set: Settings) -> SimulatorConfig
     ensures { result ≡ config_of set }
 {
     SimulatorConfig {
-        deck_size: at_most(512, set.deck),
+        deck_size: zero_above(512, set.deck),
         learn_span: span_of(set),
         max_cost_perday: float32::from_bits(set.maxcost),
         first_rating_prob: floats_of(&set.first),
@@ -97,9 +97,9 @@ pub fn config_of(set: Settings) -> SimulatorConfig
 }
 
 pub fn span_of(set: Settings) -> u32
-    ensures { result ≡ within most_span set.span }
+    ensures { result ≡ zero_above most_span set.span }
 {
-    at_most(730, set.span)
+    zero_above(730, set.span)
 }
 
 // How many of the parameters are there: 34, or none where their form is missing.

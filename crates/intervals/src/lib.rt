@@ -20,6 +20,9 @@ ghost use Rattle.model.specs.Runtime as Runtime;
 
 use model::{Curve, Fsrs7Runtime};
 
+// A row of the table's keys, as the C interface lends it: the buckets of a stability and of a retention.
+pub type KeyRow = [u32; 2];
+
 // The steps of the buckets, and how far inside its rounding range an interval is tested.
 const LOG_S_STEP: f32 = 0.001;
 
@@ -102,13 +105,13 @@ fn after(n: usize, p: usize) -> usize
 }
 
 #[tactic(auto, unfolding(crate::specs::Table::same_key))]
-fn is_key(key: [u32; 2], s: u32, r: u32) -> bool
+fn is_key(key: KeyRow, s: u32, r: u32) -> bool
     ensures { result ≡ same_key (get_or key 0 0) (get_or key 1 0) s r }
 {
     key == [s, r]
 }
 
-pub fn lookup(keys: &[[u32; 2]], intervals: &[f32], s: u32, r: u32) -> Entry
+pub fn lookup(keys: &[KeyRow], intervals: &[f32], s: u32, r: u32) -> Entry
     ensures { LookupContract (table keys.now intervals.now) s r result }
 {
     let n = keys.len().min(intervals.len());
@@ -199,7 +202,7 @@ pub fn scheduled_interval(
     stability: f32,
     retention: f32,
     most: f32,
-    keys: &[[u32; 2]],
+    keys: &[KeyRow],
     intervals: &[f32],
 ) -> Slot
     ensures { result ≡ slot_of (Runtime.curve_of model) stability retention most
@@ -231,7 +234,7 @@ fn put<T: Copy>(list: &mut [T], place: usize, x: T)
 }
 
 // A key with its interval is put at a place that the lookup of the key gave.
-pub fn enter(keys: &mut [[u32; 2]], intervals: &mut [f32], place: usize, s: u32, r: u32, v: f32)
+pub fn enter(keys: &mut [KeyRow], intervals: &mut [f32], place: usize, s: u32, r: u32, v: f32)
     ensures { table keys.new intervals.new
         ≡ enter_in (table keys.old intervals.old) place s r v }
 {
@@ -257,7 +260,7 @@ pub fn interval_in(slot: Slot) -> f32
 }
 
 // What a slot asks to be entered is entered.
-pub fn enter_slot(keys: &mut [[u32; 2]], intervals: &mut [f32], slot: Slot)
+pub fn enter_slot(keys: &mut [KeyRow], intervals: &mut [f32], slot: Slot)
     ensures { table keys.new intervals.new
         ≡ entered (table keys.old intervals.old) slot }
 {

@@ -30,10 +30,10 @@ fn published(rt: &impl Print) -> io::Result<()> {
     Ok(())
 }
 
-// Words with the ratings that they draw by the weights.
-fn ratings(rt: &impl Print, weights: &[f32], cases: &[(u32, usize)]) -> io::Result<()> {
+// Words with the indexes that they draw by the weights.
+fn indexes(rt: &impl Print, weights: &[f32], cases: &[(u32, usize)]) -> io::Result<()> {
     for (word, want) in cases {
-        equal(rt, "rating", draws::rating(weights, *word) == *want)?;
+        equal(rt, "rating", draws::weighted_index(weights, *word) == *want)?;
     }
     Ok(())
 }
@@ -41,11 +41,11 @@ fn ratings(rt: &impl Print, weights: &[f32], cases: &[(u32, usize)]) -> io::Resu
 pub fn run(rt: &impl Print) -> io::Result<()> {
     published(rt)?;
     let even = [(0, 0), (1073741823, 0), (1073741824, 1), (4294967295, 3)];
-    ratings(rt, &[1.0, 1.0, 1.0, 1.0], &even)?;
+    indexes(rt, &[1.0, 1.0, 1.0, 1.0], &even)?;
     let three = [(2147483647, 0), (2147483648, 1), (4294967295, 2)];
-    ratings(rt, &[0.5, 0.25, 0.25], &three)?;
+    indexes(rt, &[0.5, 0.25, 0.25], &three)?;
     // v * total is total: no running sum is greater
-    ratings(
+    indexes(
         rt,
         &[0.0, float32::from_bits(1), 0.0, 0.0],
         &[(4294967295, 1)],

@@ -9,6 +9,9 @@ ghost use Rattle.queue.specs.Queue.{front_changed, card_index_at};
 ghost use Rattle.turns.specs.Sums.{bit};
 ghost use Rattle.queue.specs.Key.{shifted, card_priority};
 
+// A row of the queue, as the C interface lends it: an order key, and a card's place.
+pub type QueueRow = [u64; 2];
+
 fn shifted(priority: i32) -> u64
     ensures { (result ≡ shifted priority) × (result < 2 ^ 32) }
 {
@@ -24,7 +27,7 @@ pub fn card_priority(day: u32, new: bool, difficulty: f32) -> u64
 }
 
 // The row put at place `from` rises to its place: the greater rows above it move down.
-fn bubble_up(rows: &mut [[u64; 2]], from: usize, row: [u64; 2])
+fn bubble_up(rows: &mut [QueueRow], from: usize, row: QueueRow)
     requires { from < length rows.old }
     ensures { rows.new ≡ bubble_up (set rows.old from row) from }
 {
@@ -42,7 +45,7 @@ fn bubble_up(rows: &mut [[u64; 2]], from: usize, row: [u64; 2])
 }
 
 // The end of the sinking, where the row put at pos has at most one child.
-fn only_child(rows: &mut [[u64; 2]], n: usize, pos: usize, left: usize, row: [u64; 2])
+fn only_child(rows: &mut [QueueRow], n: usize, pos: usize, left: usize, row: QueueRow)
     requires { (left ≡ 2 * pos + 1) × (n ≤ left + 1) × (pos < length rows.old) × (n ≤ length rows.old) }
     ensures { rows.new ≡ sink n (set rows.old pos row) n pos }
 {
@@ -57,7 +60,7 @@ fn only_child(rows: &mut [[u64; 2]], n: usize, pos: usize, left: usize, row: [u6
 // The row put at the root of the first n sinks to its place: the lesser rows below it move up. While both children are
 // there, one comparison a level tells which of them has the lesser key, and one whether the row rests.
 // Each child has its own branch: with the lesser one as a value the sinking took a fifth longer.
-fn heapify(rows: &mut [[u64; 2]], n: usize, row: [u64; 2])
+fn heapify(rows: &mut [QueueRow], n: usize, row: QueueRow)
     requires { (0 < length rows.old) × (n ≤ length rows.old) }
     ensures { rows.new ≡ heapify (set rows.old 0 row) n }
 {
@@ -91,7 +94,7 @@ fn heapify(rows: &mut [[u64; 2]], n: usize, row: [u64; 2])
 
 // The card number of the first of a queue's rows: what a reader of lent rows asks. 0 where there is none, not None, since
 // C's drill_peek_index tells a number.
-pub fn first_card(rows: &[[u64; 2]]) -> u32
+pub fn first_card(rows: &[QueueRow]) -> u32
     ensures { result ≡ card_index_at rows.now 0 }
 {
     rows.first().map_or(0, |row| (row[1] % 4294967296) as u32)
@@ -100,7 +103,7 @@ pub fn first_card(rows: &[[u64; 2]]) -> u32
 // The queued cards: their rows are the first `len` places of the list, whose other places the caller has lent too.
 #[derive(Drop)]
 pub struct CardPriorityQueue<'a> {
-    pub rows: &'a mut [[u64; 2]],
+    pub rows: &'a mut [QueueRow],
     pub len: u32,
 }
 

@@ -30,7 +30,7 @@ pub fn of_numbers(r: Record) -> u32 {
         9 => to_bits(float32::mul_add(x, y, z)),
         10 => float32::to_u32(x),
         11 => drawn(join(r.a, r.b)),
-        12 => draws::rating(&[x, y, z], r.d).min(3) as u32,
+        12 => draws::weighted_index(&[x, y, z], r.d).min(3) as u32,
         13 => u32::from(draws::recalled(x, r.b)),
         14 => intervals::stability_bucket(x),
         15 => intervals::retention_bucket(x),

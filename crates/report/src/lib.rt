@@ -7,6 +7,7 @@ ghost use Rattle.report.specs.Lines.{word, placed, written, day_line, forecast_l
 ghost use Rattle.report.specs.Rows.{Covers, day_at, days_placed, days_written, span_placed, span_written};
 
 use arrayvec::ArrayVec;
+use days::DayRow;
 use itoa::Buffer;
 
 mod digits;
@@ -159,7 +160,7 @@ pub fn write_cheapest(
 // A run's rows: learned, reviewed, correct and introduced of each day, its cost, and what is held on it.
 #[derive(Clone, Copy)]
 pub struct Rows<'a> {
-    pub days: &'a [[u32; 4]],
+    pub days: &'a [DayRow],
     pub costs: &'a [f32],
     pub memorized: &'a [f32],
 }

@@ -19,7 +19,7 @@ use Rattle.entry.specs.declared.Refusal.{Refusal}
 use Rattle.std.specs.Prelude.{Ok, Err}
 use Rattle.runs.specs.declared.Progress.{Progress}
 use Rattle.runs.specs.State.{Lent, state, lists_of}
-use Rattle.entry.specs.Entry.{Check, passed, Inputs, inputs, lengths_ok, check_settings}
+use Rattle.entry.specs.Entry.{Check, passed, Inputs, inputs, lengths_ok, check_settings, short_list}
 use Rattle.runs.specs.Checked.{checked_with, checked}
 use Rattle.entry.specs.Refusals.{number_of}
 use Rattle.runs.specs.Frame.{beyond, SameLengths}
@@ -66,7 +66,7 @@ module _ (i : Inputs) (rounds : ℕ) (l : Lent Float) where
 same_lengths : (ok : Bool) (i j : Inputs) (a a' b b' : ℕ) (l l' : Lent Float) → j.config ≡ i.config
     → j.parameters ≡ i.parameters → j.existing ≡ i.existing → j.existing_counts ≡ i.existing_counts
     → SameLengths l l' → checked_with ok j (state l' a' b') ≡ checked_with ok i (state l a b)
-unfolding check_settings lengths_ok
+unfolding check_settings lengths_ok short_list
 same_lengths ok i j a a' b b' l l' p q r s h =
     rw (p, q, r, s, h.cards, h.counts, h.rows, h.days, h.costs, h.memorized, h.due, h.keys, h.intervals)
 

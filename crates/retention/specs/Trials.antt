@@ -14,7 +14,7 @@ use Rattle.std.specs.Float.{binary32, nan}
 use Rattle.std.specs.Float.Ieee.{neg, of_int}
 use Rattle.float32.specs.Numbers.{0ᶠ}
 use Rattle.float32.specs.Ops.{◌+ᶠ◌, ◌/ᶠ◌}
-use Rattle.cards.specs.declared.SimulatorConfig.{SimulatorConfig}
+use Rattle.cards.specs.declared.configuration.SimulatorConfig.{SimulatorConfig}
 use Rattle.entry.specs.declared.Refusal.{Refusal}
 use Rattle.entry.specs.declared.lists.Learner.{Learner}
 use Rattle.runs.specs.State.{Lent, state, lists_of}

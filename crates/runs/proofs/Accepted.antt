@@ -8,7 +8,7 @@ use mathlib.Core.Bool.{Bool, true, false, not, ◌&&◌, false≢true}
 use Prim.Native.Nat.{ℕ, ◌≤◌, ◌<◌}
 use native.Mathlib.Omega.{arith}
 use borrow.Author.Tests.{eqb-true, leb-true, ltb-false}
-use lib.Dec.{eqb, leb, ltb}
+use lib.Dec.{ltb}
 use lib.ListN.{length}
 use Rattle.float32.specs.Float32.{is_finite}
 use Rattle.cards.specs.Cards.{card_at, is_kept, card_ok}
@@ -19,9 +19,9 @@ use Rattle.float32.specs.Numbers.{0ᶠ}
 use Rattle.entry.specs.Entry.{Check, passed, inputs}
 use Rattle.runs.specs.State.{State, with_draws}
 use Rattle.entry.proofs.FirstWhere.{none_before}
-use Rattle.entry.proofs.Tests.{passes, settings_passed}
-use Rattle.entry.specs.Entry.{most_cards, most_days, Inputs, first_where, not_ok, lengths_ok, check_first}
-use Rattle.runs.specs.Checked.{lists_ok, checked_with, checked}
+use Rattle.entry.proofs.Tests.{passes, settings_passed, lengths_pass}
+use Rattle.entry.specs.Entry.{most_cards, most_days, Inputs, first_where, not_ok, lengths_ok, check_cards}
+use Rattle.runs.specs.Checked.{lists_ok, checked_with, checked, lengths_of}
 use Rattle.turns.proofs.Logic.{both, not-false}
 
 pub record Accepted {C : Type 0} (i : Inputs) (s : State C) : Type 0 where
@@ -51,37 +51,16 @@ kept-ok : (a b : Bool) → (a && not b) ≡ false → a ≡ true → b ≡ true
 kept-ok true b e k = not-false b e
 kept-ok false b e k = absurd (false≢true k)
 
--- what refusal 6 asks, written out
-abbrev lists_test : {C : Type 0} → Inputs → State C → Bool
-lists_test i s =
-    let deck = i.config.deck_size in
-    let span = i.config.learn_span in
-    eqb (length i.existing) (length i.existing_counts)
-    && (eqb (length s.table.keys) (length s.table.intervals)
-    && (eqb (length s.cards) (length s.counts)
-    && (leb deck (length s.cards)
-    && (leb deck (length s.queue.rows)
-    && (leb span (length s.days)
-    && (leb span (length s.costs)
-    && (leb span (length s.memorized)
-    && leb (due_days span) (length s.due))))))))
-
 pub accepted : {C : Type 0} (i : Inputs) (s : State C) → checked i s ≡ passed → Accepted i s
-unfolding check_first lengths_ok
+unfolding check_cards
 accepted i s e =
     let g = i.config in
     let n = length i.existing in
-    let p = settings_passed (is_finite i.retention) (lists_test i s) i.parameters g n _ e in
+    let p = settings_passed (is_finite i.retention) (lists_ok i s) i.parameters g n _ e in
     let c = passes (ltb (first_where (not_ok i.existing i.existing_counts) n 0) n) _ _ p.next_passes in
-    let l₁ = both (eqb n (length i.existing_counts)) _ p.lists_pass in
-    let l₂ = both (eqb (length s.table.keys) (length s.table.intervals)) _ l₁.1 in
-    let l₃ = both (eqb (length s.cards) (length s.counts)) _ l₂.1 in
-    let l₄ = both (leb g.deck_size (length s.cards)) _ l₃.1 in
-    let l₅ = both (leb g.deck_size (length s.queue.rows)) _ l₄.1 in
-    let l₆ = both (leb g.learn_span (length s.days)) _ l₅.1 in
-    let l₇ = both (leb g.learn_span (length s.costs)) _ l₆.1 in
-    let l₈ = both (leb g.learn_span (length s.memorized)) _ l₇.1 in
-    let even = eqb-true (length s.cards) (length s.counts) l₃.0 in
+    let l = lengths_pass g n (length i.existing_counts) (lengths_of s) p.lists_pass in
+    let even = eqb-true (length s.cards) (length s.counts) l.1.1.0 in
+    let cards_long = leb-true g.deck_size (length s.cards) l.1.1.1.0 in
     record {
       parameters_long = p.parameters_long;
       deck_some = p.deck_some;
@@ -91,16 +70,16 @@ accepted i s e =
       config_passes = p.config_passes;
       retention_ok = p.setting_ok;
       lists_pass = p.lists_pass;
-      existing_even = eqb-true n (length i.existing_counts) l₁.0;
-      table_even = eqb-true (length s.table.keys) (length s.table.intervals) l₂.0;
+      existing_even = eqb-true n (length i.existing_counts) l.0;
+      table_even = eqb-true (length s.table.keys) (length s.table.intervals) l.1.0;
       cards_even = even;
-      cards_long = leb-true g.deck_size (length s.cards) l₄.0;
-      counts_long = omega (arith, even, leb-true g.deck_size (length s.cards) l₄.0);
-      queue_long = leb-true g.deck_size (length s.queue.rows) l₅.0;
-      days_long = leb-true g.learn_span (length s.days) l₆.0;
-      costs_long = leb-true g.learn_span (length s.costs) l₇.0;
-      due_long = leb-true (due_days g.learn_span) (length s.due) l₈.1;
-      memorized_long = leb-true g.learn_span (length s.memorized) l₈.0;
+      cards_long = cards_long;
+      counts_long = omega (arith, even, cards_long);
+      queue_long = leb-true g.deck_size (length s.queue.rows) l.1.1.1.1.0;
+      days_long = leb-true g.learn_span (length s.days) l.1.1.1.1.1.0;
+      costs_long = leb-true g.learn_span (length s.costs) l.1.1.1.1.1.1.0;
+      due_long = leb-true (due_days g.learn_span) (length s.due) l.1.1.1.1.1.1.1.1.0;
+      memorized_long = leb-true g.learn_span (length s.memorized) l.1.1.1.1.1.1.1.0;
       existing_few = p.existing_few;
       cards_ok = λ j l k. kept-ok (is_kept (card_at i.existing i.existing_counts j))
           (card_ok (card_at i.existing i.existing_counts j))

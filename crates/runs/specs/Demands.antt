@@ -6,13 +6,12 @@
 --   RunContract                    what `simulate` promises
 --   Demands                        all else that is claimed, whatever is drawn
 --   UnreadParameters               which parameters play no part
-use Rattle.std.specs.Prelude.{ℕ, suc, ◌+◌, ◌*◌, ◌≤◌, ◌≡◌, true, ◌↔◌, ◌≢◌, ◌⊎◌, List, [], Float, length, Err}
+use Rattle.std.specs.Prelude.{ℕ, ◌+◌, ◌≤◌, ◌≡◌, true, ◌↔◌, ◌≢◌, ◌⊎◌, List, [], Float, length, Err}
 use Rattle.std.proofs.Math.Option.{some}
 use Rattle.turns.specs.Sums.{sum_to}
-use Rattle.turns.specs.Turns.{Turn, Demand, Rows}
+use Rattle.turns.specs.Turns.{Turn, turn_bound, Demand, Rows}
 use Rattle.turns.specs.Run.{run}
-use Rattle.days.specs.Counts.{learned_at, reviewed_at, correct_at, introduced_at}
-use Rattle.days.specs.Sums.{cost_at}
+use Rattle.days.specs.Sums.{rows_by_day}
 use Rattle.intervals.specs.Table.{held_in}
 use Rattle.draws.specs.Draws.{DrawRule}
 use Rattle.model.specs.Runtime.{SameRead}
@@ -61,8 +60,7 @@ module _ {C : Type 0} (R : Rules C) (i : Inputs) (s : State C) where
   RowsOf l =
       Rows R.span (introduced_before i.existing i.existing_counts (length i.existing))
       (sum_to cards_of (lapses_in start_of.counts)) (sum_to cards_of (lapses_in l.counts))
-      R.costs (learned_at l.days) (reviewed_at l.days) (correct_at l.days) (introduced_at l.days)
-      (cost_at R.costs.none l.costs) turns_of
+      R.costs (rows_by_day R.costs.none l.days l.costs) turns_of
 
 -- A second call's lists: of any contents and long enough, with an interval table at least as long
 pub record LongerTable {C : Type 0} (i : Inputs) (s s' : State C) : Type 0 where
@@ -125,7 +123,7 @@ pub record Demands {C : Type 0} (R : Rules C) (i : Inputs) (s : State C) : Type 
       → DemandThree R i s p (lists_of (simulated_by R i s).state)
   -- of every accepted call, refused in the run or not: it comes to its end or to a refusal within cards × (span + 1)
   -- turns, so its bound never shows
-  pub ends_within : checked i s ≡ passed → length (turns_of R i s) ≤ cards_of R i s * suc R.span
+  pub ends_within : checked i s ≡ passed → length (turns_of R i s) ≤ turn_bound (cards_of R i s) R.span
   -- of every accepted call, after any number of turns: on each day that is counted the due count is at most the cards,
   -- so it never comes to the top, and at least the queued cards with a last date whose day it is
   pub due_counts : checked i s ≡ passed → (n : ℕ) → DueBounds (cards_of R i s) R.span (state_after R i s n)

@@ -4,8 +4,8 @@
 --   curve_for   a card's forgetting curve
 use Rattle.std.specs.Prelude.{ℕ, Bool, Float, Option}
 use Rattle.draws.specs.Draws.{DrawRule}
-use Rattle.cards.specs.declared.SimulatorConfig.{SimulatorConfig}
-use Rattle.cards.specs.declared.Card.{Card}
+use Rattle.cards.specs.declared.configuration.SimulatorConfig.{SimulatorConfig}
+use Rattle.cards.specs.declared.card.Card.{Card}
 use Rattle.model.specs.declared.parameters.Fsrs7Runtime.{Fsrs7Runtime}
 use Rattle.model.specs.declared.forgetting_curve.Curve.{Curve}
 use Rattle.model.specs.Model as Plain

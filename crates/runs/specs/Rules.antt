@@ -5,7 +5,7 @@
 use Rattle.std.specs.Prelude.{ℕ, Float}
 use Rattle.draws.specs.Draws.{DrawRule, split_mix}
 use Rattle.turns.specs.Turns.{CostRule, Limits}
-use Rattle.cards.specs.declared.SimulatorConfig.{SimulatorConfig}
+use Rattle.cards.specs.declared.configuration.SimulatorConfig.{SimulatorConfig}
 use Rattle.cards.specs.Choices.{limits}
 use Rattle.model.specs.Runtime as Runtime
 use Rattle.events.specs.declared.Rules as events

@@ -9,8 +9,8 @@ use Rattle.std.specs.Float.{inf, binary32}
 use Rattle.std.specs.Float.Ieee.{of_int}
 use Rattle.float32.specs.Numbers.{0ᶠ}
 use Rattle.turns.specs.Sums.{bit}
-use Rattle.cards.specs.declared.SimulatorConfig.{SimulatorConfig}
-use Rattle.cards.specs.declared.Card.{Card}
+use Rattle.cards.specs.declared.configuration.SimulatorConfig.{SimulatorConfig}
+use Rattle.cards.specs.declared.card.Card.{Card}
 use Rattle.cards.specs.Day.{day_of, is_new}
 use Rattle.cards.specs.Cards.{card_at, write_floats, write_counts, is_kept}
 use Rattle.days.specs.Due.{due_days, add_due}
@@ -20,9 +20,9 @@ use Rattle.runs.specs.State.{State, key_of}
 use Rattle.entry.specs.Entry.{Inputs}
 
 -- a list with x at each of its first n places
-unfoldable pub filled : {A : Type 0} → A → ℕ → List A → List A
-filled x zero l = l
-filled x (suc n) l = set (filled x n l) n x
+unfoldable pub filled_with : {A : Type 0} → A → ℕ → List A → List A
+filled_with x zero l = l
+filled_with x (suc n) l = set (filled_with x n l) n x
 
 -- new card i, from 0 (its id in the Rust is −i), is due on day i / learn_limit
 unfoldable pub new_card : Float → ℕ → ℕ → Card
@@ -100,7 +100,7 @@ empty_deck i s = record {
   cards = s.cards;
   counts = s.counts;
   queue = queue s.queue.rows 0;
-  due = filled 0 (due_days i.config.learn_span) s.due;
+  due = filled_with 0 (due_days i.config.learn_span) s.due;
 }
 
 -- the existing cards that are kept, and then the new ones
@@ -121,9 +121,9 @@ set_up none i s =
       cards = deck.cards;
       counts = deck.counts;
       queue = deck.queue;
-      days = filled (first_day_counts i) i.config.learn_span s.days;
-      costs = filled none i.config.learn_span s.costs;
-      memorized = filled 0ᶠ i.config.learn_span s.memorized;
+      days = filled_with (first_day_counts i) i.config.learn_span s.days;
+      costs = filled_with none i.config.learn_span s.costs;
+      memorized = filled_with 0ᶠ i.config.learn_span s.memorized;
       due = deck.due;
       table = clear_in s.table;
       draws = i.seed;

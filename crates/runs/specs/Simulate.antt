@@ -5,9 +5,9 @@
 --   bound, run_from, result_from   a run from a state
 --   simulated_by R i s, simulated i s   a call, by any rules and by its own
 --   IsResult x r l               what a call says and leaves is the result x
-use Rattle.std.specs.Prelude.{ℕ, suc, ◌*◌, [], ◌≡◌, length, Float, Result, Ok, Err}
+use Rattle.std.specs.Prelude.{ℕ, suc, [], ◌≡◌, length, Float, Result, Ok, Err}
 use Rattle.std.proofs.Math.Option.{Option, none, some}
-use Rattle.turns.specs.Turns.{Turn}
+use Rattle.turns.specs.Turns.{Turn, turn_bound}
 use Rattle.turns.specs.Run.{RunState, run, stop_of}
 use Rattle.events.specs.Scalars.{plain}
 use Rattle.events.specs.Drawn.{Drawn}
@@ -56,7 +56,7 @@ rules_for i = rules_of i.config (plain i.parameters)
 module _ {C : Type 0} (R : Rules C) where
   -- one turn more than is ever taken (`ends_within`)
   abbrev pub bound : State C → ℕ
-  bound s = suc (s.queue.len * suc R.span)
+  bound s = suc (turn_bound s.queue.len R.span)
 
   -- the turns, latest first, and the state that they lead to
   unfoldable pub run_from : State C → RunState (Turn Drawn) (State C)

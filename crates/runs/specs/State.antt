@@ -5,7 +5,7 @@
 --   key_of k, card_in s c       a card's order key; the card at place c
 --   with_cards, with_queue, ..  a state with one part written anew
 use Rattle.std.specs.Prelude.{ℕ, List, Float}
-use Rattle.cards.specs.declared.Card.{Card}
+use Rattle.cards.specs.declared.card.Card.{Card}
 use Rattle.cards.specs.Day.{day_of, is_new}
 use Rattle.cards.specs.Cards.{card_at}
 use Rattle.queue.specs.Key.{card_priority}

@@ -12,12 +12,12 @@ use Rattle.std.specs.Float.{binary32}
 use Rattle.std.specs.Float.Ieee.{add, of_int, to_unsigned}
 use Rattle.turns.specs.Turns.{Kind, put_off, retire, Turn}
 use Rattle.turns.specs.Run.{Next, takes, stops}
-use Rattle.cards.specs.declared.Card.{Card}
-use Rattle.cards.specs.declared.Choice.{Choice}
-use Rattle.cards.specs.declared.Choice.TheVariants as choice
+use Rattle.cards.specs.declared.card.Card.{Card}
+use Rattle.cards.specs.declared.choice.Choice.{Choice}
+use Rattle.cards.specs.declared.choice.Choice.TheVariants as choice
 use Rattle.cards.specs.Day.{day_of, next_due, is_new}
 use Rattle.cards.specs.Cards.{write_floats, write_counts}
-use Rattle.cards.specs.Choices.{choice_of}
+use Rattle.cards.specs.Choices.{today, choice_of}
 use Rattle.days.specs.Counts.{saturating_suc, learned_at, reviewed_at, add_event}
 use Rattle.days.specs.Sums.{cost_at, add_cost, add_forgetting_curve_range}
 use Rattle.days.specs.Due.{add_due, move_due, none_due}
@@ -65,10 +65,6 @@ add_forgetting_curve m memorized k e =
     cond (is_new k.last_date) memorized
     (let from = to_unsigned 32 k.last_date in add_forgetting_curve_range (λ t. m.chance t k.stability) memorized
     (e - from) from k.last_date)
-
-abbrev pub or_else : {A : Type 0} → Bool → A → A → A
-or_else true a b = a
-or_else false a b = b
 
 -- the card at a place has the turn, on a day
 abbrev pub first_at : ℕ → Card → ℕ → First
@@ -133,19 +129,19 @@ module _ {C : Type 0} (R : Rules C) where
 
   abbrev pub act : State C → First → Choice → Next (Turn Drawn) (State C) Stop
   act s f choice.Retire = takes (turn_as f retire) (after_retire s f)
-  act s f choice.PutOff = or_else (none_due s.due (is_new f.card.last_date) f.day) (refuses (refusal.DueCount f.place))
+  act s f choice.PutOff = cond (none_due s.due (is_new f.card.last_date) f.day) (refuses (refusal.DueCount f.place))
       (takes (turn_as f put_off) (after_put_off s f))
   act s f choice.Learn = event_on s f true
   act s f choice.Review = event_on s f false
 
   -- what the limits, and the counts and the cost of its day so far, let it do
   abbrev pub turn_choice : State C → First → Choice
-  turn_choice s f = choice_of R.span R.lapse_limit R.limits f.day f.card (learned_at s.days f.day)
-      (reviewed_at s.days f.day) (cost_at R.costs.none s.costs f.day)
+  turn_choice s f = choice_of R.span R.lapse_limit R.limits f.day f.card
+      (today (learned_at s.days f.day) (reviewed_at s.days f.day) (cost_at R.costs.none s.costs f.day))
 
   abbrev pub turn_of : State C → First → Next (Turn Drawn) (State C) Stop
   turn_of s f = act s f (turn_choice s f)
 
   -- a turn is of the queue's first card; the run ends when the queue is empty
   unfoldable pub next : State C → Next (Turn Drawn) (State C) Stop
-  next s = or_else (eqb s.queue.len 0) (stops (Ok tt)) (turn_of s (first s))
+  next s = cond (eqb s.queue.len 0) (stops (Ok tt)) (turn_of s (first s))

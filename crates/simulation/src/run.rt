@@ -1,5 +1,6 @@
 // The run of a call that the entry accepts: set-up, and turns until one stops.
 ghost use Rattle.std.specs.Prelude.{◌≡◌, suc, ◌*◌, ◌≤◌, Some};
+ghost use Rattle.turns.specs.Turns.{turn_bound};
 ghost use Rattle.float32.specs.Numbers.{0ᶠ};
 ghost use Rattle.entry.specs.Entry.{most_cards, most_days, passed};
 ghost use Rattle.entry.specs.Lists.{SameLists, inputs_of};
@@ -79,7 +80,7 @@ fn run_held(lists: &mut Lists<'_>, rules: Rules, from: Place, bound: u32) -> Run
 
 fn bound_of(len: u32, span: u32) -> u32
     requires { (len ≤ most_cards) × (span ≤ most_days) }
-    ensures { result ≡ suc (len * suc span) }
+    ensures { result ≡ suc (turn_bound len span) }
 {
     len * (span + 1) + 1
 }

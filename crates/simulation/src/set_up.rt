@@ -9,17 +9,16 @@ ghost use Rattle.entry.specs.Entry.{most_cards, most_days};
 ghost use Rattle.entry.specs.Lists.{SameLists, inputs_of};
 ghost use Rattle.runs.specs.State.{lent_of, state};
 ghost use Rattle.simulation.specs.Steps.{deck_of, Joined};
-ghost use Rattle.runs.specs.SetUp.{filled, new_card, add_card, add_existing_card, add_existing_cards};
-ghost use Rattle.runs.specs.SetUp.{introduced_before, add_new_cards, new_card_count, set_up};
+ghost use Rattle.runs.specs.SetUp.{new_card, add_card, add_existing_card, add_existing_cards, introduced_before, add_new_cards, new_card_count, set_up, filled_with};
 
 use cards::{Card, SimulatorConfig};
 use entry::{Learner, Lists, Settings};
-use queue::CardPriorityQueue;
+use queue::{CardPriorityQueue, QueueRow};
 
 // The first n places of a list, or all of a shorter one, become x.
 // A loop: std's `fill` asks for a `clone` that can't fail, which `T: Copy` doesn't promise.
 fn fill_first<T: Copy>(list: &mut [T], n: usize, x: T)
-    ensures { list.new ≡ filled x n list.old }
+    ensures { list.new ≡ filled_with x n list.old }
 {
     for i in 0..n.min(list.len()) {
         list[i] = x;
@@ -28,7 +27,7 @@ fn fill_first<T: Copy>(list: &mut [T], n: usize, x: T)
 
 // The card at place `len` joins the queue of the first `len` of its lent rows. Over the rows alone, for the same reason
 // as crate `turn`'s `change_front` and `pop`.
-fn push(rows: &mut [[u64; 2]], len: u32, key: u64) -> u32
+fn push(rows: &mut [QueueRow], len: u32, key: u64) -> u32
     ensures { queue rows.new result ≡ pushed (queue rows.old len) len key }
 {
     let mut queue = CardPriorityQueue { rows, len };

@@ -5,7 +5,7 @@ use Rattle.std.specs.Float.Ieee.{of_bits}
 use Rattle.float32.specs.Float32 as Float32
 use Rattle.elementary.specs.Exp.{exp_of}
 use Rattle.elementary.specs.Pow.{pow_of}
-use Rattle.draws.specs.Draws.{advance, rating}
+use Rattle.draws.specs.Draws.{advance, weighted_index}
 use Rattle.cards.specs.Day.{day_of}
 use Rattle.queue.specs.Key.{priority_of}
 use Rattle.runs.specs.SetUp.{new_card}
@@ -18,11 +18,11 @@ weights a b c d = bits a ∷ bits b ∷ bits c ∷ bits d ∷ []
 
 pub record Starred : Type 0 where
   -- weights 0, 0, 0, 1, every word: rating 4; a rating is one more than its index
-  pub rating_4 : (word : ℕ) → word < 2 ^ 32 → rating (weights 0 0 0 0x3F80_0000) word + 1 ≡ 4
+  pub rating_4 : (word : ℕ) → word < 2 ^ 32 → weighted_index (weights 0 0 0 0x3F80_0000) word + 1 ≡ 4
   -- 1, 1, 1, 1 with word 80000000: 3
-  pub rating_3 : rating (weights 0x3F80_0000 0x3F80_0000 0x3F80_0000 0x3F80_0000) 0x8000_0000 + 1 ≡ 3
+  pub rating_3 : weighted_index (weights 0x3F80_0000 0x3F80_0000 0x3F80_0000 0x3F80_0000) 0x8000_0000 + 1 ≡ 3
   -- 0, 1, 0, 0 with word 0: 2
-  pub rating_2 : rating (weights 0 0x3F80_0000 0 0) 0 + 1 ≡ 2
+  pub rating_2 : weighted_index (weights 0 0x3F80_0000 0 0) 0 + 1 ≡ 2
   -- difficulty 5.5: 550; minus infinity: −2147483648
   pub difficulty_550 : priority_of (bits 0x40B0_0000) ≡ pos 550
   pub difficulty_lowest : priority_of (inf true) ≡ negsuc 2147483647

@@ -14,12 +14,12 @@ use Prim.Native.Nat.{ℕ}
 use lib.Ieee.{Float}
 use Rattle.std.specs.Prelude.{Result, Ok, Err, Option, Some, None}
 use Rattle.turns.specs.Run.{takes}
-use Rattle.cards.specs.declared.Card.{Card}
-use Rattle.cards.specs.declared.Choice.{Choice}
-use Rattle.cards.specs.declared.Choice.TheVariants as choice
+use Rattle.cards.specs.declared.card.Card.{Card}
+use Rattle.cards.specs.declared.choice.Choice.{Choice}
+use Rattle.cards.specs.declared.choice.Choice.TheVariants as choice
 use Rattle.cards.specs.Day.{day_of, is_new}
 use Rattle.cards.specs.Cards.{card_at, write_floats, write_counts}
-use Rattle.cards.specs.Choices.{retires, blocked, choose, choice_of}
+use Rattle.cards.specs.Choices.{retires, blocked, choose, today, choice_of}
 use Rattle.days.specs.Counts.{learned_at, reviewed_at, add_event}
 use Rattle.days.specs.Sums.{cost_at, add_cost}
 use Rattle.days.specs.Due.{add_due, move_due, none_due}
@@ -164,5 +164,6 @@ module _ (R : Rules Float) (l : Lent Float) (len draws : ℕ) where
         let d = f.day in
         let n = is_new k.last_date in
         let a = retires R.span R.lapse_limit k in
-        let b = blocked R.limits d n (learned_at l.days d) (reviewed_at l.days d) (cost_at R.costs.none l.costs d) in
+        let b = blocked R.limits d n
+            (today (learned_at l.days d) (reviewed_at l.days d) (cost_at R.costs.none l.costs d)) in
         rw (next_is ∙ ap (act R st f) eh ∙ event_by a b n (rw eh at h)) p

@@ -3,7 +3,7 @@
 
 ghost use Rattle.std.specs.Prelude.{◌≡◌, cond};
 ghost use Rattle.draws.specs.Draws.{split_mix};
-ghost use Rattle.cards.specs.declared.Choice.TheVariants as choice;
+ghost use Rattle.cards.specs.declared.choice.Choice.TheVariants as choice;
 ghost use Rattle.cards.specs.Day.{is_new};
 ghost use Rattle.days.specs.Counts.{saturating_suc};
 ghost use Rattle.days.specs.Due.{none_due};
@@ -25,7 +25,7 @@ use entry::{Lists, RunRefusal};
 use events::{Memory, Rules};
 use intervals::Slot;
 use model::Curve;
-use queue::CardPriorityQueue;
+use queue::{CardPriorityQueue, QueueRow};
 use runs::{First, Place};
 
 // ---- what a turn reads of the lists: over `&Lists`, since one call can't borrow two lists of a `&mut Lists` to read
@@ -76,14 +76,14 @@ fn slot_for(lists: &Lists<'_>, rules: Rules, stability: f32, retention: f32) -> 
 // Over the rows alone: where a step itself makes a queue of a field of `Lists`, its proof has no lasting name for what
 // that field holds afterwards.
 
-fn change_front(rows: &mut [[u64; 2]], len: u32, key: u64)
+fn change_front(rows: &mut [QueueRow], len: u32, key: u64)
     ensures { queue rows.new len ≡ front_changed (queue rows.old len) key }
 {
     let mut queue = CardPriorityQueue { rows, len };
     queue.change_front(key);
 }
 
-fn pop(rows: &mut [[u64; 2]], len: u32) -> u32
+fn pop(rows: &mut [QueueRow], len: u32) -> u32
     ensures { queue rows.new result ≡ popped (queue rows.old len) }
 {
     let mut queue = CardPriorityQueue { rows, len };

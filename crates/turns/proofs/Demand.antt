@@ -16,7 +16,7 @@ use Rattle.turns.proofs.Chain.{Chain, chain_map, chain_each, chain_all}
 use Rattle.turns.proofs.Moves.{View, Moves, MoveSteps, few_turns, event_in_span, Does}
 use Rattle.turns.proofs.Once.{one_event_a_day}
 use Rattle.turns.proofs.Order.{Least, Orderly, days_never_fall, reviews_come_first}
-use Rattle.turns.proofs.Within.{Within, days_ok, each_paid, Allowed}
+use Rattle.turns.proofs.Within.{Within, days_ok, costs_within, Allowed}
 use Rattle.turns.proofs.Columns.{Columns, Writes, SetUp, Keeps, rows, cost_row}
 
 module _ {E S C : Type 0} (v : View S) (cards span : ℕ) (b : CostRule E C)
@@ -33,17 +33,17 @@ module _ {E S C : Type 0} (v : View S) (cards span : ℕ) (b : CostRule E C)
         both_within = λ d. (days_ok b l d ts w f).both;
         reviews_first = f;
         once = λ c d. one_event_a_day v c d m;
-        paid = each_paid b l ts w;
+        cost_within = costs_within b l ts w;
         in_span = chain_all (λ ts s t s' x q. event_in_span v x q) m;
         days_rise = days_never_fall v r;
-        few = few_turns v cards span m;
+        turns_within = few_turns v cards span m;
       }
 
 -- the tests that a turn of each kind on day d passes, on the rows of the state
 abbrev pub Tests : {E S C : Type 0} → Columns S C → Limits C → Kind E → ℕ → S → Type 0
-Tests k l (learn e) d s = (k.learned s d < l.learns d)
-    × (l.counted d ≡ true → k.learned s d + k.reviewed s d < l.reviews d) × (l.over d (k.cost s d) ≡ false)
-Tests k l (review r e) d s = (k.reviewed s d < l.reviews d) × (l.over d (k.cost s d) ≡ false)
+Tests k l (learn e) d s = ((k.rows s).learned d < l.learns d)
+    × (l.learns_are_counted d ≡ true → (k.rows s).learned d + (k.rows s).reviewed d < l.reviews d) × (l.is_over d ((k.rows s).cost d) ≡ false)
+Tests k l (review r e) d s = ((k.rows s).reviewed d < l.reviews d) × (l.is_over d ((k.rows s).cost d) ≡ false)
 Tests k l put_off d s = Unit {0}
 Tests k l retire d s = Unit {0}
 
@@ -65,13 +65,12 @@ module _ {E S C : Type 0} (v : View S) (k : Columns S C) (b : CostRule E C) (l :
       → Step v k b l cards span ts s t s' → Within b l t ts
   within_step ts s t s' r x = go t.kind x.tests x.moves.does
     where
-      w : Rows span introduced₀ (sum_to cards (k.lapses s₀)) (sum_to cards (k.lapses s)) b (k.learned s)
-          (k.reviewed s) (k.correct s) (k.introduced s) (k.cost s) ts
+      w : Rows span introduced₀ (sum_to cards (k.lapses s₀)) (sum_to cards (k.lapses s)) b (k.rows s) ts
       w = rows v k b cards span introduced₀ z (keeps r)
 
-      paid : t.day < span → l.over t.day (k.cost s t.day) ≡ false
-          → l.over t.day (cost_on b t.day ts) ≡ false
-      paid h q = ap (l.over t.day) (sym (cost_row v k b cards span introduced₀ z (keeps r) t.day h)) ∙ q
+      paid : t.day < span → l.is_over t.day ((k.rows s).cost t.day) ≡ false
+          → l.is_over t.day (cost_on b t.day ts) ≡ false
+      paid h q = ap (l.is_over t.day) (sym (cost_row v k b cards span introduced₀ z (keeps r) t.day h)) ∙ q
 
       go : (κ : Kind E) → Tests k l κ t.day s → Does v span κ t.card t.day s s' → Allowed b l κ t.day ts
       go (learn e) y m = (
@@ -88,6 +87,5 @@ module _ {E S C : Type 0} (v : View S) (k : Columns S C) (b : CostRule E C) (l :
       (chain_each within_step r)
 
   pub run-rows : {ts : List (Turn E)} {s : S} → Chain (Step v k b l cards span) s₀ ts s
-      → Rows span introduced₀ (sum_to cards (k.lapses s₀)) (sum_to cards (k.lapses s)) b (k.learned s) (k.reviewed s)
-      (k.correct s) (k.introduced s) (k.cost s) ts
+      → Rows span introduced₀ (sum_to cards (k.lapses s₀)) (sum_to cards (k.lapses s)) b (k.rows s) ts
   run-rows r = rows v k b cards span introduced₀ z (keeps r)

@@ -9,7 +9,7 @@
 --   onward, event_in_span       its card leaves or goes on, and an event lies in the span
 --   MoveSteps v cards span      turns as steps of a chain
 --   few_turns                   the bound on turns
-use Prim.Native.Nat.{ℕ, suc, ◌*◌, ◌≤◌, ◌<◌}
+use Prim.Native.Nat.{ℕ, suc, ◌≤◌, ◌<◌}
 use native.Mathlib.Omega.{arith}
 use native.Mathlib.Decide.{ℕ_discrete}
 use mathlib.Core.Bool.{Bool, true, false, false≢true}
@@ -19,7 +19,7 @@ use mathlib.Core.Path.{◌≡◌, sym, ◌∙◌}
 use lib.Dec.{eqb}
 use lib.ListN.{length}
 use Rattle.turns.proofs.Sums.{sum-le, at_same, at_ne}
-use Rattle.turns.specs.Turns.{Kind, learn, review, put_off, retire, Turn, count, is_event}
+use Rattle.turns.specs.Turns.{Kind, learn, review, put_off, retire, Turn, count, is_event, turn_bound}
 use Rattle.turns.proofs.Counting.{count-all, count-length}
 use Rattle.turns.proofs.Chain.{Steps, Chain, start, more, chain_all}
 
@@ -117,7 +117,7 @@ module _ {E S : Type 0} (v : View S) where
 
   -- THE BOUND ON TURNS, from any state and in any order of the queue
   pub few_turns : (cards span : ℕ) {s₀ : S} {ts : List (Turn E)} {s : S} → Chain (MoveSteps cards span) s₀ ts s
-      → length ts ≤ cards * suc span
+      → length ts ≤ turn_bound cards span
   few_turns cards span {ts = ts} r =
       omega (
         arith,

@@ -4,7 +4,7 @@
 --   First t before                               nothing was learned before a review on its day
 --   Allowed b l kind d ts, Within b l t before   what a turn needs of the turns before it
 --   DayOK b l d ts, days_ok                      a day keeps its limits
---   each_paid                                    at no event was the cost of its day so far above the maximum
+--   costs_within                                    at no event was the cost of its day so far above the maximum
 use Prim.Native.Nat.{ℕ, ◌+◌, ◌≤◌, ◌<◌}
 use native.Mathlib.Omega.{arith}
 use native.Mathlib.Decide.{ℕ_discrete}
@@ -28,8 +28,8 @@ module _ {E C : Type 0} (b : CostRule E C) (l : Limits C) where
   -- what a turn of each kind on day d needs of the turns before it
   abbrev pub Allowed : Kind E → ℕ → List (Turn E) → Type 0
   Allowed (learn e) d ts = (learned_on d ts < l.learns d)
-      × (l.counted d ≡ true → learned_on d ts + reviewed_on d ts < l.reviews d) × (l.over d (cost_on b d ts) ≡ false)
-  Allowed (review r e) d ts = (reviewed_on d ts < l.reviews d) × (l.over d (cost_on b d ts) ≡ false)
+      × (l.learns_are_counted d ≡ true → learned_on d ts + reviewed_on d ts < l.reviews d) × (l.is_over d (cost_on b d ts) ≡ false)
+  Allowed (review r e) d ts = (reviewed_on d ts < l.reviews d) × (l.is_over d (cost_on b d ts) ≡ false)
   Allowed put_off d ts = Unit {0}
   Allowed retire d ts = Unit {0}
 
@@ -40,7 +40,7 @@ module _ {E C : Type 0} (b : CostRule E C) (l : Limits C) where
   pub record DayOK (d : ℕ) (ts : List (Turn E)) : Type 0 where
     pub learned : learned_on d ts ≤ l.learns d
     pub reviewed : reviewed_on d ts ≤ l.reviews d
-    pub both : l.counted d ≡ true → learned_on d ts + reviewed_on d ts ≤ l.reviews d
+    pub both : l.learns_are_counted d ≡ true → learned_on d ts + reviewed_on d ts ≤ l.reviews d
 
   day_same : (k : Kind E) (c d : ℕ) (ts : List (Turn E)) → Allowed k d ts → (is_review k ≡ true → learned_on d ts ≡ 0)
       → DayOK d ts → DayOK d (record { card = c; day = d; kind = k } ∷ ts)
@@ -85,12 +85,12 @@ module _ {E C : Type 0} (b : CostRule E C) (l : Limits C) where
       go (yes e) o = rw (← e) (day_same t.kind t.card t.day ts w.0 f.0 (rw (← e) at o))
       go (no e) o = day_other d t ts e o
 
-  pub each_paid : (ts : List (Turn E)) → Each Within ts
-      → Each (λ t before. is_event t.kind ≡ true → l.over t.day (cost_on b t.day before) ≡ false) ts
-  each_paid = each_map (λ t ts. go t.kind t.day ts)
+  pub costs_within : (ts : List (Turn E)) → Each Within ts
+      → Each (λ t before. is_event t.kind ≡ true → l.is_over t.day (cost_on b t.day before) ≡ false) ts
+  costs_within = each_map (λ t ts. go t.kind t.day ts)
     where
       go : (k : Kind E) (d : ℕ) (ts : List (Turn E)) → Allowed k d ts → is_event k ≡ true
-          → l.over d (cost_on b d ts) ≡ false
+          → l.is_over d (cost_on b d ts) ≡ false
       go (learn e) d ts a q = a.2
       go (review r e) d ts a q = a.1
       go put_off d ts a q = absurd (false≢true q)

@@ -10,8 +10,10 @@
 --   handled_on c d ts                                  the events of a card on a day
 --   CostRule E C, cost_on b d ts                       how costs are added, and the cost of a day
 --   Limits C                                          the limits in force on each day
+--   turn_bound cards span                             the most turns that a run takes
 --   Demand cards span b l ts                          what is claimed of the turns
---   Rows span introduced₀ lapses₀ lapses b .. ts      what is claimed of the rows that a run writes
+--   DayRows C                                         what the rows say of each day
+--   Rows span introduced₀ lapses₀ lapses b rows ts    what is claimed of the rows that a run writes
 use Rattle.std.specs.Prelude.{ℕ, suc, ◌+◌, ◌*◌, ◌≤◌, ◌<◌, Bool, true, false, not, ◌&&◌, cond, List, [], ◌∷◌, ◌≡◌, eqb, length}
 use Rattle.turns.specs.Sums.{bit, sum_to}
 
@@ -107,28 +109,40 @@ cost_on b d (t ∷ ts) =
 pub record Limits (C : Type 0) : Type 0 where
   pub learns : ℕ → ℕ
   pub reviews : ℕ → ℕ
-  pub counted : ℕ → Bool
-  pub over : ℕ → C → Bool
+  pub learns_are_counted : ℕ → Bool
+  pub is_over : ℕ → C → Bool
+
+-- the most turns of a run of `cards` cards over `span` days: one of each card on each day, and one to retire it
+abbrev pub turn_bound : ℕ → ℕ → ℕ
+turn_bound cards span = cards * suc span
 
 -- DEMAND 3, of the list of turns of a run of `cards` cards over `span` days
 pub record Demand {E C : Type 0} (cards span : ℕ) (b : CostRule E C) (l : Limits C) (ts : List (Turn E)) : Type 0 where
   pub learned_within : (d : ℕ) → learned_on d ts ≤ l.learns d
   pub reviewed_within : (d : ℕ) → reviewed_on d ts ≤ l.reviews d
-  pub both_within : (d : ℕ) → l.counted d ≡ true → learned_on d ts + reviewed_on d ts ≤ l.reviews d
+  pub both_within : (d : ℕ) → l.learns_are_counted d ≡ true → learned_on d ts + reviewed_on d ts ≤ l.reviews d
   pub reviews_first : Each (λ t before. is_review t.kind ≡ true → learned_on t.day before ≡ 0) ts
   pub once : (c d : ℕ) → handled_on c d ts ≤ 1
-  pub paid : Each (λ t before. is_event t.kind ≡ true → l.over t.day (cost_on b t.day before) ≡ false) ts
+  pub cost_within : Each (λ t before. is_event t.kind ≡ true → l.is_over t.day (cost_on b t.day before) ≡ false) ts
   pub in_span : All (λ t. is_event t.kind ≡ true → t.day < span) ts
   pub days_rise : Each (λ t before. All (λ u. u.day ≤ t.day) before) ts
-  pub few : length ts ≤ cards * suc span
+  pub turns_within : length ts ≤ turn_bound cards span
 
--- and of the rows that the run writes, by day: `introduced₀` cards had a last date at set-up, and all cards' lapses
--- were `lapses₀` at set-up and are `lapses` now
-pub record Rows {E C : Type 0} (span introduced₀ lapses₀ lapses : ℕ) (b : CostRule E C)
-    (learned reviewed correct introduced : ℕ → ℕ) (cost : ℕ → C) (ts : List (Turn E)) : Type 0 where
-  pub learned_is : (d : ℕ) → d < span → learned d ≡ learned_on d ts
-  pub reviewed_is : (d : ℕ) → d < span → reviewed d ≡ reviewed_on d ts
-  pub correct_is : (d : ℕ) → d < span → correct d ≡ correct_on d ts
-  pub introduced_is : (d : ℕ) → d < span → introduced d ≡ introduced₀ + sum_to (suc d) learned
-  pub cost_is : (d : ℕ) → d < span → cost d ≡ cost_on b d ts
-  pub lapses_are : sum_to span reviewed + lapses₀ ≡ sum_to span correct + lapses
+-- what a run's rows say of each day
+pub record DayRows (C : Type 0) : Type 0 where
+  pub learned : ℕ → ℕ
+  pub reviewed : ℕ → ℕ
+  pub correct : ℕ → ℕ
+  pub introduced : ℕ → ℕ
+  pub cost : ℕ → C
+
+-- and of the rows that the run writes: `introduced₀` cards had a last date at set-up, and all cards' lapses were
+-- `lapses₀` at set-up and are `lapses` now
+pub record Rows {E C : Type 0} (span introduced₀ lapses₀ lapses : ℕ) (b : CostRule E C) (rows : DayRows C)
+    (ts : List (Turn E)) : Type 0 where
+  pub learned_is : (d : ℕ) → d < span → rows.learned d ≡ learned_on d ts
+  pub reviewed_is : (d : ℕ) → d < span → rows.reviewed d ≡ reviewed_on d ts
+  pub correct_is : (d : ℕ) → d < span → rows.correct d ≡ correct_on d ts
+  pub introduced_is : (d : ℕ) → d < span → rows.introduced d ≡ introduced₀ + sum_to (suc d) rows.learned
+  pub cost_is : (d : ℕ) → d < span → rows.cost d ≡ cost_on b d ts
+  pub lapses_are : sum_to span rows.reviewed + lapses₀ ≡ sum_to span rows.correct + lapses

@@ -1,13 +1,13 @@
 use native.Mathlib.Omega.{arith}
 use Rattle.forecast_text.specs.Settings.{most_span}
 use Rattle.forecast_text.specs.Forecast.{forecast_run}
-use Rattle.forecast_text.proofs.Call.{within-short}
+use Rattle.forecast_text.proofs.Call.{zero_above-le}
 use Rattle.forecast_text.proofs.Texts.{finished_text, refused_text, refused-printed}
 use Rattle.forecast_text.proofs.forecast_settings.Goals as goal
 
 pub write_run-requires : goal.write_run-requires
 write_run-requires c =
-    let short = within-short most_span c.args.set.span c.span_of-span.result
+    let short = zero_above-le most_span c.args.set.span c.span_of-span.result
     c.span_of-span.ensures in (
       c.requires,
       (

@@ -6,11 +6,11 @@
 use mathlib.Core.Path.{◌≡◌, subst}
 use mathlib.Core.List.{[]}
 use mathlib.Core.Option.{some}
-use Prim.Native.Nat.{ℕ, suc, ◌*◌, ◌≤◌}
+use Prim.Native.Nat.{ℕ, ◌≤◌}
 use native.Mathlib.Omega.{arith}
 use lib.ListN.{length}
 use Rattle.turns.specs.Run.{stops, stop_of}
-use Rattle.turns.specs.Turns.{Demand}
+use Rattle.turns.specs.Turns.{Demand, turn_bound}
 use Rattle.turns.proofs.Loop.{stop_is}
 use Rattle.turns.proofs.Columns.{SetUp}
 use Rattle.runs.specs.Turn.{Stop}
@@ -51,10 +51,10 @@ module _ {C : Type 0} (R : Rules C) (i : Inputs) (s : State C) (ok : Accepted i 
   unfolding run_from
   has_stopped = ends R (cards_of R i s) run_bounds fit.slots (start_of R i s) start-good
 
-  pub few_turns : length (turns_of R i s) ≤ cards_of R i s * suc R.span
+  pub few_turns : length (turns_of R i s) ≤ turn_bound (cards_of R i s) R.span
   unfolding run_from
   few_turns = (turns_demand R (cards_of R i s) run_bounds fit.slots _ (start_of R i s) begins start-good
-      (bound R (start_of R i s))).few
+      (bound R (start_of R i s))).turns_within
 
   -- how it stops is told by what it comes to
   pub stops_so : (y : Stop) → next R (end_of R i s) ≡ stops y

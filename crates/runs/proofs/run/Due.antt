@@ -10,7 +10,7 @@ use borrow.Author.Tests.{eqb-true}
 use lib.Dec.{eqb}
 use lib.ListN.{get_or}
 use Rattle.turns.specs.Sums.{bit}
-use Rattle.cards.specs.declared.Choice.TheVariants as choice
+use Rattle.cards.specs.declared.choice.Choice.TheVariants as choice
 use Rattle.cards.specs.Cards.{card_at}
 use Rattle.cards.specs.Choices.{choose, choice_of}
 use Rattle.days.specs.Due.{none_due}

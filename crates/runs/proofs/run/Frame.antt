@@ -11,11 +11,11 @@ use mathlib.Core.Bool.{true}
 use mathlib.Core.List.{List, [], ◌++◌}
 use mathlib.Core.Option.{some}
 use mathlib.Core.Logic.{inl, inr}
-use Prim.Native.Nat.{ℕ, suc, ◌+◌, ◌*◌, ◌≤◌}
+use Prim.Native.Nat.{ℕ, suc, ◌+◌, ◌≤◌}
 use native.Mathlib.Omega.{arith}
 use lib.ListN.{length, drop, length-append, length-drop}
 use lib.Seq.{take_at, drop_at}
-use Rattle.turns.specs.Turns.{Turn}
+use Rattle.turns.specs.Turns.{Turn, turn_bound}
 use Rattle.turns.specs.Run.{Next, takes, stops, run}
 use Rattle.turns.proofs.Loop.{Follows, Same, run_follows}
 use Rattle.days.specs.Due.{due_days}
@@ -155,14 +155,14 @@ module _ {C : Type 0} (R : Rules C) (i : Inputs) (fit : Suits R i) (s s' : State
 
   -- each run is that of the own places
   abbrev steps : ℕ
-  steps = suc (cards * suc R.span)
+  steps = suc (turn_bound cards R.span)
 
   own_here : (x : Stop) → next R (end_of R i s) ≡ stops x
       → Same (InFront R cards fine fit.slots (beyond cards R.span s)) (next R) (run_from R (start_of R i s))
       (run (next R) steps [] f) x
   unfolding run_from
   own_here x q =
-      let b : bound R (start_of R i s) ≡ steps = ap (λ (z : ℕ). suc (z * suc R.span)) cards_here in
+      let b : bound R (start_of R i s) ≡ steps = ap (λ (z : ℕ). suc (turn_bound z R.span)) cards_here in
       subst (λ (n : ℕ). Same (InFront R cards fine fit.slots (beyond cards R.span s)) (next R)
       (run (next R) n [] (start_of R i s)) (run (next R) steps [] f) x) (sym b)
       (run_own R cards fine fit.slots (beyond cards R.span s) steps (start_of R i s) f front_here x
@@ -173,7 +173,7 @@ module _ {C : Type 0} (R : Rules C) (i : Inputs) (fit : Suits R i) (s s' : State
       (run (next R) steps [] f') x
   unfolding run_from
   own_there x q =
-      let b : bound R (start_of R i s') ≡ steps = ap (λ (z : ℕ). suc (z * suc R.span)) cards_there in
+      let b : bound R (start_of R i s') ≡ steps = ap (λ (z : ℕ). suc (turn_bound z R.span)) cards_there in
       subst (λ (n : ℕ). Same (InFront R cards fine fit.slots (beyond cards R.span s')) (next R)
       (run (next R) n [] (start_of R i s')) (run (next R) steps [] f') x) (sym b)
       (run_own R cards fine fit.slots (beyond cards R.span s') steps (start_of R i s') f' front_there x

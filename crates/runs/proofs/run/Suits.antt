@@ -10,7 +10,7 @@ use Rattle.float32.proofs.Cmp as cmp
 use Rattle.draws.specs.Draws.{DrawRule}
 use Rattle.model.specs.Model.{Curves, curve_of, scheduled}
 use Rattle.model.proofs.Laws.{scheduled_between}
-use Rattle.cards.specs.declared.SimulatorConfig.{SimulatorConfig}
+use Rattle.cards.specs.declared.configuration.SimulatorConfig.{SimulatorConfig}
 use Rattle.cards.specs.Config.{row_of, three_of, weights_ok, transitions_ok, costs_ok, interval_ok, config_ok}
 use Rattle.cards.proofs.Later.{one_is}
 use Rattle.events.specs.Scalars.{plain}

@@ -2,7 +2,7 @@
 -- refusal 8 counts keys; and its two lists keep their lengths.
 --   run_tables              what each entry keeps of a table holds after any number of turns
 --   end_sound, end_lengths  of the table that a run comes to
-use mathlib.Core.Bool.{Bool, true, false}
+use mathlib.Core.Bool.{Bool, true, false, cond}
 use mathlib.Core.List.{List, [], ◌∷◌}
 use mathlib.Core.Path.{◌≡◌, refl, ◌∙◌}
 use Prim.Native.Nat.{ℕ}
@@ -13,11 +13,11 @@ use Rattle.float32.specs.Numbers.{0ᶠ}
 use Rattle.turns.specs.Turns.{Turn, put_off}
 use Rattle.turns.specs.Run.{Next, takes, stops, run}
 use Rattle.turns.proofs.Loop.{Keeps, run_keeps}
-use Rattle.cards.specs.declared.Card.{Card}
-use Rattle.cards.specs.declared.Choice.{Choice}
-use Rattle.cards.specs.declared.Choice.TheVariants as choice
+use Rattle.cards.specs.declared.card.Card.{Card}
+use Rattle.cards.specs.declared.choice.Choice.{Choice}
+use Rattle.cards.specs.declared.choice.Choice.TheVariants as choice
 use Rattle.cards.specs.Day.{day_of, is_new}
-use Rattle.cards.specs.Choices.{choice_of}
+use Rattle.cards.specs.Choices.{today, choice_of}
 use Rattle.days.specs.Counts.{learned_at, reviewed_at}
 use Rattle.days.specs.Sums.{cost_at}
 use Rattle.days.specs.Due.{none_due}
@@ -41,8 +41,7 @@ use Rattle.entry.specs.Entry.{Inputs}
 use Rattle.runs.specs.SetUp.{set_up}
 use Rattle.runs.specs.Simulate.{bound, run_from}
 use Rattle.runs.specs.Demands.{start_of, end_of}
-use Rattle.runs.specs.Turn.{refuses, turn_as, after_put_off, after_retire, after_event, event_with_slot}
-use Rattle.runs.specs.Turn.{event_with_draw, event_on, or_else, act, turn_of, next}
+use Rattle.runs.specs.Turn.{refuses, turn_as, after_put_off, after_retire, after_event, event_with_slot, event_with_draw, event_on, act, turn_of, next}
 use Rattle.runs.proofs.turn.Slots.{Slots}
 
 module _ {C : Type 0} (R : Rules C) (J : Table → Type 0)
@@ -76,7 +75,7 @@ module _ {C : Type 0} (R : Rules C) (J : Table → Type 0)
       act-after f choice.PutOff = go (none_due s.due (is_new f.card.last_date) f.day)
         where
           go : (b : Bool) → After
-              (or_else b (refuses (refusal.DueCount f.place)) (takes (turn_as f put_off) (after_put_off R s f)))
+              (cond b (refuses (refusal.DueCount f.place)) (takes (turn_as f put_off) (after_put_off R s f)))
           go true = tt
           go false = ok
       act-after f choice.Learn = event_after f true
@@ -86,7 +85,7 @@ module _ {C : Type 0} (R : Rules C) (J : Table → Type 0)
       unfolding next
       turn-after = go (eqb s.queue.len 0)
         where
-          go : (b : Bool) → After (or_else b (stops (Ok tt)) (turn_of R s (first s)))
+          go : (b : Bool) → After (cond b (stops (Ok tt)) (turn_of R s (first s)))
           go true = tt
           go false = act-after (first s) (turn_choice R s (first s))
 

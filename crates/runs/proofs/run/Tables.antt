@@ -2,18 +2,18 @@
 -- as long or longer, the second run takes the same turns and comes to the same end; where it is as long, also to the
 -- same refusal.
 use mathlib.Core.Path.{◌≡◌, refl}
-use mathlib.Core.Bool.{Bool, true, false, false≢true}
+use mathlib.Core.Bool.{Bool, true, false, cond, false≢true}
 use mathlib.Core.List.{[]}
 use Prim.Native.Nat.{ℕ}
 use lib.Dec.{eqb}
 use Rattle.turns.specs.Turns.{Turn, put_off}
 use Rattle.turns.specs.Run.{Next, takes, stops, run}
 use Rattle.turns.proofs.Loop.{Follows, Same, run_follows}
-use Rattle.cards.specs.declared.Card.{Card}
-use Rattle.cards.specs.declared.Choice.{Choice}
-use Rattle.cards.specs.declared.Choice.TheVariants as choice
+use Rattle.cards.specs.declared.card.Card.{Card}
+use Rattle.cards.specs.declared.choice.Choice.{Choice}
+use Rattle.cards.specs.declared.choice.Choice.TheVariants as choice
 use Rattle.cards.specs.Day.{day_of, is_new}
-use Rattle.cards.specs.Choices.{choice_of}
+use Rattle.cards.specs.Choices.{today, choice_of}
 use Rattle.days.specs.Counts.{learned_at, reviewed_at}
 use Rattle.days.specs.Sums.{cost_at}
 use Rattle.days.specs.Due.{none_due}
@@ -33,8 +33,7 @@ use Rattle.runs.specs.declared.First.{First}
 use Rattle.std.specs.Prelude.{Ok, Err}
 use Rattle.runs.specs.State.{State, card_in, with_table}
 use Rattle.runs.specs.Rules.{Rules}
-use Rattle.runs.specs.Turn.{refuses, turn_as, after_retire, after_put_off, after_event, event_with_slot}
-use Rattle.runs.specs.Turn.{event_with_draw, event_on, or_else, act, turn_of, next}
+use Rattle.runs.specs.Turn.{refuses, turn_as, after_retire, after_put_off, after_event, event_with_slot, event_with_draw, event_on, act, turn_of, next}
 use Rattle.runs.proofs.turn.Slots.{Slots}
 use Rattle.turns.proofs.Logic.{not-one}
 use Rattle.runs.proofs.turn.Stops.{event_full, event_taken}
@@ -113,8 +112,8 @@ module _ {C : Type 0} (E : Type 0) (R : Rules C) (laws : Slots R.model) where
     act_follows f choice.PutOff = go (none_due s.due (is_new f.card.last_date) f.day)
       where
         go : (b : Bool) → Follow
-            (or_else b (refuses (refusal.DueCount f.place)) (takes (turn_as f put_off) (after_put_off R s f)))
-            (or_else b (refuses (refusal.DueCount f.place)) (takes (turn_as f put_off) (after_put_off R s' f)))
+            (cond b (refuses (refusal.DueCount f.place)) (takes (turn_as f put_off) (after_put_off R s f)))
+            (cond b (refuses (refusal.DueCount f.place)) (takes (turn_as f put_off) (after_put_off R s' f)))
         go true = λ z. refl
         go false = (refl, record { same = refl; entries = w; even = ev })
     act_follows f choice.Learn = event_follows f true
@@ -124,8 +123,8 @@ module _ {C : Type 0} (E : Type 0) (R : Rules C) (laws : Slots R.model) where
     unfolding next
     turn_follows = go (eqb s.queue.len 0)
       where
-        go : (b : Bool) → Follow (or_else b (stops (Ok tt)) (turn_of R s (first s)))
-            (or_else b (stops (Ok tt)) (turn_of R s' (first s')))
+        go : (b : Bool) → Follow (cond b (stops (Ok tt)) (turn_of R s (first s)))
+            (cond b (stops (Ok tt)) (turn_of R s' (first s')))
         go true = λ z. refl
         go false = act_follows (first s) (turn_choice R s (first s))
 

@@ -12,7 +12,7 @@ use lib.ListN.{get_or, length}
 use lib.Ieee.{Float}
 use Rattle.turns.specs.Sums.{bit, sum_to}
 use Rattle.turns.proofs.Sums.{sum_same, and-le, here_le}
-use Rattle.cards.specs.declared.Card.{Card}
+use Rattle.cards.specs.declared.card.Card.{Card}
 use Rattle.cards.specs.Day.{day_of, is_new}
 use Rattle.cards.specs.Cards.{write_floats}
 use Rattle.days.specs.Due.{due_days, add_due}

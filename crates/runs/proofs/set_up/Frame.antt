@@ -16,8 +16,8 @@ use lib.Seq.{set_at, append_snoc, drop-cons}
 use lib.Ieee.{Float}
 use Rattle.turns.specs.Sums.{bit}
 use Rattle.turns.proofs.Sums.{bit_le}
-use Rattle.cards.specs.declared.Card.{Card}
-use Rattle.cards.specs.declared.SimulatorConfig.{SimulatorConfig}
+use Rattle.cards.specs.declared.card.Card.{Card}
+use Rattle.cards.specs.declared.configuration.SimulatorConfig.{SimulatorConfig}
 use Rattle.cards.specs.Day.{day_of}
 use Rattle.cards.specs.Cards.{card_at, floats_of, counts_of, write_floats, write_counts, is_kept}
 use Rattle.days.specs.Due.{due_days, add_due}
@@ -32,9 +32,7 @@ use Rattle.runs.specs.Frame.{beyond, extended}
 use Rattle.runs.proofs.turn.Frame.{Exact}
 use Rattle.entry.specs.Entry.{Inputs}
 use Rattle.runs.proofs.Accepted.{Accepted}
-use Rattle.runs.specs.SetUp.{filled, new_card, Deck, add_card, add_kept_card, add_existing_card, add_existing_cards}
-use Rattle.runs.specs.SetUp.{kept_count, add_new_cards, new_card_count, empty_deck, add_all_cards, first_day_counts}
-use Rattle.runs.specs.SetUp.{set_up}
+use Rattle.runs.specs.SetUp.{new_card, Deck, add_card, add_kept_card, add_existing_card, add_existing_cards, kept_count, add_new_cards, new_card_count, empty_deck, add_all_cards, first_day_counts, set_up, filled_with}
 
 -- the deck `own` in front of what is left of the lists of s₀
 abbrev pub in_front : Deck → Deck → Deck
@@ -237,8 +235,8 @@ module _ (span deck : ℕ) (s₀ s₀' : Deck) (room : Room deck s₀) (room' : 
       (own_new_all retention limit n kept s s' (omega (arith, h)) p))
 
 -- ---- the deck of a call
-filled_is : {A : Type 0} (x : A) (n : ℕ) (l : List A) → n ≤ length l → filled x n l ≡ replicate n x ++ drop n l
-unfolding filled
+filled_is : {A : Type 0} (x : A) (n : ℕ) (l : List A) → n ≤ length l → filled_with x n l ≡ replicate n x ++ drop n l
+unfolding filled_with
 filled_is x zero l h = refl
 filled_is x (suc n) l h =
     let one : n + 1 ≡ suc n = omega arith in

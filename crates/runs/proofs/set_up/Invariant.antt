@@ -28,7 +28,7 @@ use Rattle.turns.specs.Sums.{bit, sum_to}
 use Rattle.turns.proofs.Sums.{sum_same}
 use Rattle.turns.specs.Turns.{CostRule}
 use Rattle.turns.proofs.Columns.{SetUp}
-use Rattle.cards.specs.declared.Card.{Card}
+use Rattle.cards.specs.declared.card.Card.{Card}
 use Rattle.cards.specs.Day.{day_of, is_new}
 use Rattle.cards.specs.Cards.{card_at, write_floats, write_counts, is_kept, farthest, most_lapses, date_ok, history_ok, card_ok}
 use Rattle.cards.proofs.Later.{day_cut, whole_le}
@@ -40,9 +40,7 @@ use Rattle.intervals.specs.Table.{Table, places, free_at, clear_in}
 use Rattle.events.specs.Drawn.{Drawn}
 use Rattle.runs.specs.State.{State}
 use Rattle.entry.specs.Entry.{Inputs}
-use Rattle.runs.specs.SetUp.{Deck, filled, new_card, add_card, add_kept_card, add_existing_card, add_existing_cards}
-use Rattle.runs.specs.SetUp.{introduced_before, add_new_cards, new_card_count, empty_deck, add_all_cards}
-use Rattle.runs.specs.SetUp.{first_day_counts, set_up}
+use Rattle.runs.specs.SetUp.{Deck, new_card, add_card, add_kept_card, add_existing_card, add_existing_cards, introduced_before, add_new_cards, new_card_count, empty_deck, add_all_cards, first_day_counts, set_up, filled_with}
 use Rattle.runs.specs.Invariant.{day_in, new_in, key_in, lapses_in, DueCounts, StateInvariant}
 use Rattle.runs.proofs.turn.Views.{columns}
 use Rattle.runs.proofs.turn.Invariant.{write-long, else_key, else_day, else_new, own-day, own_new, own_key}
@@ -52,19 +50,19 @@ use Rattle.runs.proofs.Accepted.{Accepted}
 use Rattle.turns.proofs.Logic.{both}
 
 -- ---- a list with its first places filled
-pub filled-long : {A : Type 0} (x : A) (n : ℕ) (l : List A) → length (filled x n l) ≡ length l
-unfolding filled
+pub filled-long : {A : Type 0} (x : A) (n : ℕ) (l : List A) → length (filled_with x n l) ≡ length l
+unfolding filled_with
 filled-long x zero l = refl
-filled-long x (suc n) l = length-set (filled x n l) n x ∙ filled-long x n l
+filled-long x (suc n) l = length-set (filled_with x n l) n x ∙ filled-long x n l
 
-pub filled_at : {A : Type 0} (x d : A) (n : ℕ) (l : List A) (i : ℕ) → i < n → n ≤ length l → get_or (filled x n l) i d ≡ x
-unfolding filled
+pub filled_at : {A : Type 0} (x d : A) (n : ℕ) (l : List A) (i : ℕ) → i < n → n ≤ length l → get_or (filled_with x n l) i d ≡ x
+unfolding filled_with
 filled_at x d zero l i h u = absurd (omega arith)
 filled_at x d (suc n) l i h u = go (ℕ_discrete i n) (filled_at x d n l i)
   where
-    go : Dec (i ≡ n) → (i < n → n ≤ length l → get_or (filled x n l) i d ≡ x) → get_or (set (filled x n l) n x) i d ≡ x
-    go (yes e) ih = rw e (get_or-set_same (filled x n l) n x d (omega (arith, filled-long x n l)))
-    go (no e) ih = get_or-set_other (filled x n l) n i x d e ∙ ih (omega (arith, e)) (omega arith)
+    go : Dec (i ≡ n) → (i < n → n ≤ length l → get_or (filled_with x n l) i d ≡ x) → get_or (set (filled_with x n l) n x) i d ≡ x
+    go (yes e) ih = rw e (get_or-set_same (filled_with x n l) n x d (omega (arith, filled-long x n l)))
+    go (no e) ih = get_or-set_other (filled_with x n l) n i x d e ∙ ih (omega (arith, e)) (omega arith)
 
 -- ---- the days of cards at set-up
 number : (x : Float) (n : ℕ) → HasValue x false n 1 → is_nan x ≡ false
@@ -358,10 +356,10 @@ module _ {C : Type 0} (b : CostRule Drawn C) (i : Inputs) (s : State C) (ok : Ac
   len_is : s₁.queue.len ≡ all_joined.cards
   len_is = all_joined.joining.fill.count
 
-  row_at : (d : ℕ) → d < span → get_or (filled (first_day_counts i) span s.days) d [] ≡ first_day_counts i
+  row_at : (d : ℕ) → d < span → get_or (filled_with (first_day_counts i) span s.days) d [] ≡ first_day_counts i
   row_at d h = filled_at (first_day_counts i) [] span s.days d h ok.days_long
 
-  costs_at : (d : ℕ) → d < span → get_or (filled b.none span s.costs) d b.none ≡ b.none
+  costs_at : (d : ℕ) → d < span → get_or (filled_with b.none span s.costs) d b.none ≡ b.none
   costs_at d h = filled_at b.none b.none span s.costs d h ok.costs_long
 
   -- every place of the emptied table is free
@@ -415,6 +413,6 @@ module _ {C : Type 0} (b : CostRule Drawn C) (i : Inputs) (s : State C) (ok : Ac
       }
     where
       news : (d : ℕ) → d < span
-          → get_or (get_or (filled (first_day_counts i) span s.days) d []) 3 0 + sum_to s₁.queue.len
+          → get_or (get_or (filled_with (first_day_counts i) span s.days) d []) 3 0 + sum_to s₁.queue.len
           (λ c. bit (new_in s₁.cards c)) ≤ s₁.queue.len
       news d h = rw len_is (omega (arith, ap (λ (l : List ℕ). get_or l 3 0) (row_at d h), all_joined.joining.news))

@@ -21,7 +21,7 @@ use Rattle.turns.specs.Sums.{bit, sum_to}
 use Rattle.turns.specs.Turns.{Turn, learn, review}
 use Rattle.turns.proofs.Sums.{sum_same, sum-at, sum-le, lt-step, and-le, bit_le}
 use Rattle.turns.proofs.Demand.{Step}
-use Rattle.cards.specs.declared.Card.{Card}
+use Rattle.cards.specs.declared.card.Card.{Card}
 use Rattle.cards.specs.Day.{IntervalInRange, day_of, is_new}
 use Rattle.cards.specs.Cards.{card_at, no_counts, write_floats, write_counts, counts_of, most_lapses}
 use Rattle.turns.proofs.Logic.{get_d_any}
@@ -220,8 +220,8 @@ module _ {C : Type 0} (R : Rules C) (cards : ℕ) (fine : RunBounds R.span cards
 
   -- ---- A LEARNING
   module _ (en : new_in fs c ≡ true) (is : new ≡ true) (l-ok : learned_at rows d < R.limits.learns d)
-      (b-ok : R.limits.counted d ≡ true → learned_at rows d + reviewed_at rows d < R.limits.reviews d)
-      (c-ok : R.limits.over d (cost_at R.costs.none s.costs d) ≡ false) where
+      (b-ok : R.limits.learns_are_counted d ≡ true → learned_at rows d + reviewed_at rows d < R.limits.reviews d)
+      (c-ok : R.limits.is_over d (cost_at R.costs.none s.costs d) ≡ false) where
     abbrev rows' : List (List ℕ)
     rows' = add_introduced_from (add_learn rows d) (R.span - d) d
 
@@ -322,7 +322,7 @@ module _ {C : Type 0} (R : Rules C) (cards : ℕ) (fine : RunBounds R.span cards
 
   -- ---- A REVIEW
   module _ (en : new_in fs c ≡ false) (is : new ≡ false) (r-ok : reviewed_at rows d < R.limits.reviews d)
-      (c-ok : R.limits.over d (cost_at R.costs.none s.costs d) ≡ false) where
+      (c-ok : R.limits.is_over d (cost_at R.costs.none s.costs d) ≡ false) where
     abbrev rows'' : List (List ℕ)
     rows'' = add_review rows d x.recalled
 

@@ -14,12 +14,12 @@ use lib.Seq.{set-append_left}
 use lib.Ieee.{Float, to_unsigned}
 use Rattle.turns.specs.Turns.{Turn, put_off, retire}
 use Rattle.turns.specs.Run.{Next, takes, stops}
-use Rattle.cards.specs.declared.Card.{Card}
-use Rattle.cards.specs.declared.Choice.{Choice}
-use Rattle.cards.specs.declared.Choice.TheVariants as choice
+use Rattle.cards.specs.declared.card.Card.{Card}
+use Rattle.cards.specs.declared.choice.Choice.{Choice}
+use Rattle.cards.specs.declared.choice.Choice.TheVariants as choice
 use Rattle.cards.specs.Day.{day_of, is_new}
 use Rattle.cards.specs.Cards.{no_floats, no_counts, card_at, floats_of, counts_of, write_floats, write_counts}
-use Rattle.cards.specs.Choices.{retires, choice_of}
+use Rattle.cards.specs.Choices.{retires, today, choice_of}
 use Rattle.days.specs.Counts.{learned_at, reviewed_at}
 use Rattle.days.specs.Sums.{cost_at, add_forgetting_curve_range}
 use Rattle.days.specs.Due.{due_days, none_due}
@@ -43,9 +43,7 @@ use Rattle.std.specs.Prelude.{Ok}
 use Rattle.runs.specs.State.{State, Lent, card_in, key_of}
 use Rattle.runs.specs.Model.{Model}
 use Rattle.runs.specs.Rules.{Rules}
-use Rattle.runs.specs.Turn.{refuses, turn_as, card_after_put_off, card_after_event, add_forgetting_curve, event_turn}
-use Rattle.runs.specs.Turn.{after_retire, after_put_off, after_event, event_with_slot, event_with_draw, event_on}
-use Rattle.runs.specs.Turn.{or_else, act, turn_of, next}
+use Rattle.runs.specs.Turn.{refuses, turn_as, card_after_put_off, card_after_event, add_forgetting_curve, event_turn, after_retire, after_put_off, after_event, event_with_slot, event_with_draw, event_on, act, turn_of, next}
 use Rattle.runs.specs.Invariant.{RunBounds, StateInvariant}
 use Rattle.runs.specs.Frame.{extended}
 use Rattle.runs.proofs.turn.Invariant.{is_card, in_span}
@@ -234,8 +232,8 @@ module _ {C : Type 0} (R : Rules C) (cards : ℕ) (fine : RunBounds R.span cards
       put_framed = rw due_same (go (none_due s.due (is_new k.last_date) d))
         where
           go : (t : Bool) → Framed
-              (or_else t (refuses (refusal.DueCount f.place)) (takes (turn_as f put_off) (after_put_off R s f)))
-              (or_else t (refuses (refusal.DueCount f.place)) (takes (turn_as f put_off) (after_put_off R wide f)))
+              (cond t (refuses (refusal.DueCount f.place)) (takes (turn_as f put_off) (after_put_off R s f)))
+              (cond t (refuses (refusal.DueCount f.place)) (takes (turn_as f put_off) (after_put_off R wide f)))
           go true = refl
           go false = (ap (takes (turn_as f put_off)) put-own, put-exact)
 
@@ -275,7 +273,7 @@ module _ {C : Type 0} (R : Rules C) (cards : ℕ) (fine : RunBounds R.span cards
   framed = go (eqb s.queue.len 0) refl
     where
       go : (t : Bool) → eqb s.queue.len 0 ≡ t
-          → Framed (or_else t (stops (Ok tt)) (turn_of R s (first s)))
-          (or_else t (stops (Ok tt)) (turn_of R wide (first wide)))
+          → Framed (cond t (stops (Ok tt)) (turn_of R s (first s)))
+          (cond t (stops (Ok tt)) (turn_of R wide (first wide)))
       go true e = refl
       go false e = let ne = eqb-false s.queue.len 0 e in turn_framed (omega (arith, ne))

@@ -22,7 +22,7 @@ use Rattle.turns.specs.Sums.{bit}
 use Rattle.turns.specs.Turns.{Turn, Kind, put_off, retire}
 use Rattle.turns.proofs.Sums.{sum_same, sum-at, lt-step}
 use Rattle.turns.proofs.Demand.{Step}
-use Rattle.cards.specs.declared.Card.{Card}
+use Rattle.cards.specs.declared.card.Card.{Card}
 use Rattle.cards.specs.Day.{day_of, is_new, next_due}
 use Rattle.cards.specs.Cards.{no_floats, card_at, floats_of, write_floats, most_lapses}
 use Rattle.cards.specs.Choices.{retires}

@@ -6,24 +6,24 @@
 --   turns_demand, turns_rows   demand 3 of the turns, and what is claimed of the rows
 --   ends                       the run stops within the bound
 use mathlib.Core.Path.{◌≡◌, refl}
-use mathlib.Core.Bool.{Bool, true, false, ◌&&◌}
+use mathlib.Core.Bool.{Bool, true, false, cond, ◌&&◌}
 use mathlib.Core.List.{List, []}
-use Prim.Native.Nat.{ℕ, suc, ◌+◌, ◌*◌, ◌<◌}
+use Prim.Native.Nat.{ℕ, suc, ◌+◌, ◌<◌}
 use native.Mathlib.Omega.{arith}
 use borrow.Author.Tests.{eqb-false, leb-false}
 use lib.Dec.{leb, eqb}
 use Rattle.turns.specs.Sums.{sum_to}
-use Rattle.turns.specs.Turns.{Turn, put_off, Demand, Rows}
+use Rattle.turns.specs.Turns.{Turn, put_off, turn_bound, Demand, Rows}
 use Rattle.turns.specs.Run.{takes, stops, run}
 use Rattle.turns.proofs.Chain.{Chain, start, chain_map}
 use Rattle.turns.proofs.Moves.{few_turns}
 use Rattle.turns.proofs.Columns.{SetUp}
 use Rattle.turns.proofs.Demand.{Step, run_demand, run-rows}
 use Rattle.turns.proofs.Loop.{Lawful, lawful_keeps, run_chain, run_keeps, run_ends}
-use Rattle.cards.specs.declared.Card.{Card}
+use Rattle.cards.specs.declared.card.Card.{Card}
 use Rattle.cards.specs.Day.{IntervalInRange, day_of, is_new}
 use Rattle.cards.specs.Cards.{card_at}
-use Rattle.cards.specs.Choices.{retires, blocked, limited, choose, choice_of}
+use Rattle.cards.specs.Choices.{retires, blocked, limited, choose, today, choice_of}
 use Rattle.days.specs.Counts.{learned_at, reviewed_at}
 use Rattle.days.specs.Sums.{cost_at}
 use Rattle.days.specs.Due.{none_due}
@@ -40,8 +40,7 @@ use Rattle.runs.specs.Turn.{first}
 use Rattle.runs.specs.declared.First.{First}
 use Rattle.std.specs.Prelude.{Ok}
 use Rattle.runs.specs.State.{State, card_in}
-use Rattle.runs.specs.Turn.{refuses, turn_as, event_turn, after_put_off, after_event, event_with_slot}
-use Rattle.runs.specs.Turn.{event_with_draw, event_on, or_else, act, turn_of, next}
+use Rattle.runs.specs.Turn.{refuses, turn_as, event_turn, after_put_off, after_event, event_with_slot, event_with_draw, event_on, act, turn_of, next}
 use Rattle.runs.specs.Rules.{Rules}
 use Rattle.runs.specs.Invariant.{RunBounds, StateInvariant}
 use Rattle.runs.proofs.turn.Views.{view, columns}
@@ -101,7 +100,7 @@ module _ {C : Type 0} (R : Rules C) (cards : ℕ) (fine : RunBounds R.span cards
             (laws.fair s.table good.table y.stability r)
             (h y (R.model.slot s.table y.stability r))
 
-    law_learn : retires R.span R.lapse_limit k ≡ false → blocked R.limits d true l r x ≡ false
+    law_learn : retires R.span R.lapse_limit k ≡ false → blocked R.limits d true (today l r x) ≡ false
         → is_new k.last_date ≡ true → Lawful Steps Fit ts s (event_on R s f true)
     unfolding blocked card_at
     law_learn e₁ e₂ e₃ = law_event true (λ y t z. (
@@ -112,23 +111,23 @@ module _ {C : Type 0} (R : Rules C) (cards : ℕ) (fine : RunBounds R.span cards
         h : d < R.span
         h = in_span R cards fine ts s good some e₁
 
-        a : limited R.limits d true l r ≡ false
-        a = or_right (R.limits.over d x) (limited R.limits d true l r) e₂
+        a : limited R.limits d true (today l r x) ≡ false
+        a = or_right (R.limits.is_over d x) (limited R.limits d true (today l r x)) e₂
 
         learns : l < R.limits.learns d
         learns = leb-false (R.limits.learns d) l
-            (or_left (leb (R.limits.learns d) l) (R.limits.counted d && leb (R.limits.reviews d) (l + r)) a)
+            (or_left (leb (R.limits.learns d) l) (R.limits.learns_are_counted d && leb (R.limits.reviews d) (l + r)) a)
 
-        both : R.limits.counted d ≡ true → l + r < R.limits.reviews d
+        both : R.limits.learns_are_counted d ≡ true → l + r < R.limits.reviews d
         both j =
             leb-false (R.limits.reviews d) (l + r)
-            (and_right (R.limits.counted d) (leb (R.limits.reviews d) (l + r)) j
-            (or_right (leb (R.limits.learns d) l) (R.limits.counted d && leb (R.limits.reviews d) (l + r)) a))
+            (and_right (R.limits.learns_are_counted d) (leb (R.limits.reviews d) (l + r)) j
+            (or_right (leb (R.limits.learns d) l) (R.limits.learns_are_counted d && leb (R.limits.reviews d) (l + r)) a))
 
-        pays : R.limits.over d x ≡ false
-        pays = or_left (R.limits.over d x) (limited R.limits d true l r) e₂
+        pays : R.limits.is_over d x ≡ false
+        pays = or_left (R.limits.is_over d x) (limited R.limits d true (today l r x)) e₂
 
-    law_review : retires R.span R.lapse_limit k ≡ false → blocked R.limits d false l r x ≡ false
+    law_review : retires R.span R.lapse_limit k ≡ false → blocked R.limits d false (today l r x) ≡ false
         → is_new k.last_date ≡ false → Lawful Steps Fit ts s (event_on R s f false)
     unfolding blocked card_at
     law_review e₁ e₂ e₃ = law_event false (λ y t z. (
@@ -140,18 +139,18 @@ module _ {C : Type 0} (R : Rules C) (cards : ℕ) (fine : RunBounds R.span cards
         h = in_span R cards fine ts s good some e₁
 
         a : r < R.limits.reviews d
-        a = leb-false (R.limits.reviews d) r (or_right (R.limits.over d x) (limited R.limits d false l r) e₂)
+        a = leb-false (R.limits.reviews d) r (or_right (R.limits.is_over d x) (limited R.limits d false (today l r x)) e₂)
 
-        pays : R.limits.over d x ≡ false
-        pays = or_left (R.limits.over d x) (limited R.limits d false l r) e₂
+        pays : R.limits.is_over d x ≡ false
+        pays = or_left (R.limits.is_over d x) (limited R.limits d false (today l r x)) e₂
 
-    law_as : (a b n : Bool) → retires R.span R.lapse_limit k ≡ a → blocked R.limits d n l r x ≡ b
+    law_as : (a b n : Bool) → retires R.span R.lapse_limit k ≡ a → blocked R.limits d n (today l r x) ≡ b
         → is_new k.last_date ≡ n → Lawful Steps Fit ts s (act R s f (choose a b n))
     law_as true b n e₁ e₂ e₃ = (step_retire R cards fine ts s good some, good_retire R cards fine ts s good some)
     law_as false true n e₁ e₂ e₃ = go (none_due s.due (is_new k.last_date) d)
       where
         go : (y : Bool) → Lawful Steps Fit ts s
-            (or_else y (refuses (refusal.DueCount f.place)) (takes (turn_as f put_off) (after_put_off R s f)))
+            (cond y (refuses (refusal.DueCount f.place)) (takes (turn_as f put_off) (after_put_off R s f)))
         go true = tt
         go false = (step-put R cards fine ts s good some e₁, good-put R cards fine ts s good some e₁)
     law_as false false true e₁ e₂ e₃ = law_learn e₁ e₂ e₃
@@ -159,7 +158,7 @@ module _ {C : Type 0} (R : Rules C) (cards : ℕ) (fine : RunBounds R.span cards
 
     law_turn : Lawful Steps Fit ts s (turn_of R s f)
     unfolding choice_of
-    law_turn = law_as (retires R.span R.lapse_limit k) (blocked R.limits d (is_new k.last_date) l r x)
+    law_turn = law_as (retires R.span R.lapse_limit k) (blocked R.limits d (is_new k.last_date) (today l r x))
         (is_new k.last_date) refl refl refl
 
   pub law : (ts : List (Turn Drawn)) (s : State C) → Fit s → Lawful Steps Fit ts s (next R s)
@@ -168,7 +167,7 @@ module _ {C : Type 0} (R : Rules C) (cards : ℕ) (fine : RunBounds R.span cards
     where
       go : (b : Bool) → eqb s.queue.len 0 ≡ b
           → Lawful Steps Fit ts s
-          (or_else b (stops (Ok tt))
+          (cond b (stops (Ok tt))
           (turn_of R s (first s)))
       go true e = tt
       go false e = let ne = eqb-false s.queue.len 0 e in law_turn ts s good (omega (arith, ne))
@@ -189,13 +188,12 @@ module _ {C : Type 0} (R : Rules C) (cards : ℕ) (fine : RunBounds R.span cards
 
     pub turns_rows : (let k = columns R.costs.none in let r = run (next R) n [] s₀ in
         Rows R.span introduced_before (sum_to cards (k.lapses s₀)) (sum_to cards (k.lapses r.state))
-        R.costs (k.learned r.state) (k.reviewed r.state) (k.correct r.state) (k.introduced r.state)
-        (k.cost r.state) r.turns)
+        R.costs (k.rows r.state) r.turns)
     turns_rows = run-rows view (columns R.costs.none) R.costs R.limits cards
         R.span introduced_before z run-steps
 
   -- the bound on turns never shows
   pub ends : (s₀ : State C) → Fit s₀
-      → (y : Stop) × (next R (run (next R) (suc (cards * suc R.span)) [] s₀).state ≡ stops y)
-  ends s₀ good = run_ends (next R) Steps Fit law s₀ (cards * suc R.span) good
+      → (y : Stop) × (next R (run (next R) (suc (turn_bound cards R.span)) [] s₀).state ≡ stops y)
+  ends s₀ good = run_ends (next R) Steps Fit law s₀ (turn_bound cards R.span) good
       (λ ts s ch. few_turns view cards R.span (chain_map (λ ts s t s' y. y.moves) ch))

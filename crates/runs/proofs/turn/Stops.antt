@@ -13,10 +13,10 @@ use lib.Ieee.{Float}
 use Rattle.turns.specs.Turns.{Turn, put_off}
 use Rattle.turns.specs.Run.{Next, takes, stops}
 use Rattle.draws.specs.Draws.{DrawRule, recalled}
-use Rattle.cards.specs.declared.Card.{Card}
-use Rattle.cards.specs.declared.SimulatorConfig.{SimulatorConfig}
-use Rattle.cards.specs.declared.Choice.{Choice}
-use Rattle.cards.specs.declared.Choice.TheVariants as choice
+use Rattle.cards.specs.declared.card.Card.{Card}
+use Rattle.cards.specs.declared.configuration.SimulatorConfig.{SimulatorConfig}
+use Rattle.cards.specs.declared.choice.Choice.{Choice}
+use Rattle.cards.specs.declared.choice.Choice.TheVariants as choice
 use Rattle.cards.specs.Day.{is_new}
 use Rattle.days.specs.Due.{none_due}
 use Rattle.events.specs.declared.Memory.{Memory}
@@ -38,10 +38,8 @@ use Rattle.runs.specs.declared.First.{First}
 use Rattle.std.specs.Prelude.{Ok, Err}
 use Rattle.runs.specs.State.{State}
 use Rattle.runs.specs.Rules.{Rules, rules_with}
-use Rattle.runs.specs.Turn.{refuses, turn_as, event_turn, after_put_off, after_event, event_with_slot, event_with_draw, event_on, or_else}
-use Rattle.runs.specs.Turn.{act, turn_of, next}
-use Rattle.runs.specs.RunRefusals.{chosen, event_choice, ChanceRefused, TableRefused}
-use Rattle.runs.specs.RunRefusals.{DueRefused, StopCondition}
+use Rattle.runs.specs.Turn.{refuses, turn_as, event_turn, after_put_off, after_event, event_with_slot, event_with_draw, event_on, act, turn_of, next}
+use Rattle.runs.specs.RunRefusals.{chosen, event_choice, ChanceRefused, TableRefused, DueRefused, StopCondition}
 use Rattle.turns.proofs.Logic.{not-one}
 
 module _ {C : Type 0} (R : Rules C) (s : State C) (f : First) (new : Bool) (y : Memory) where
@@ -141,7 +139,7 @@ module _ (w : DrawRule) (g : SimulatorConfig) (x : Scalars) (s : State Float) wh
     act_tells choice.PutOff e = go (none_due s.due (is_new k.last_date) d) refl
       where
         go : (b : Bool) → none_due s.due (is_new k.last_date) d ≡ b
-            → Tells (or_else b (refuses (refusal.DueCount f.place)) (takes (turn_as f put_off) (after_put_off R s f)))
+            → Tells (cond b (refuses (refusal.DueCount f.place)) (takes (turn_as f put_off) (after_put_off R s f)))
         go true q = record { queued = some; first = refl; put_off = e; is_none_due = q }
         go false q = tt
     act_tells choice.Learn e = event_tells true e
@@ -151,7 +149,7 @@ module _ (w : DrawRule) (g : SimulatorConfig) (x : Scalars) (s : State Float) wh
   unfolding next
   tells = go (eqb s.queue.len 0) refl
     where
-      go : (b : Bool) → eqb s.queue.len 0 ≡ b → Tells (or_else b (stops (Ok tt)) (turn_of R s f))
+      go : (b : Bool) → eqb s.queue.len 0 ≡ b → Tells (cond b (stops (Ok tt)) (turn_of R s f))
       go true e = eqb-true s.queue.len 0 e
       go false e = let ne = eqb-false s.queue.len 0 e in act_tells (omega (arith, ne)) (chosen R s) refl
 

@@ -1,8 +1,7 @@
 -- How the theory of lists of turns looks at the run's state.
 use Rattle.turns.proofs.Moves.{View}
 use Rattle.turns.proofs.Columns.{Columns}
-use Rattle.days.specs.Counts.{learned_at, reviewed_at, correct_at, introduced_at}
-use Rattle.days.specs.Sums.{cost_at}
+use Rattle.days.specs.Sums.{rows_by_day}
 use Rattle.queue.specs.Sound.{queued}
 use Rattle.runs.specs.State.{State}
 use Rattle.runs.specs.Invariant.{day_in, new_in, lapses_in}
@@ -12,10 +11,6 @@ view = record { day = λ s c. day_in s.cards c; new = λ s c. new_in s.cards c; 
 
 abbrev pub columns : {C : Type 0} → C → Columns (State C) C
 columns none = record {
-  learned = λ s d. learned_at s.days d;
-  reviewed = λ s d. reviewed_at s.days d;
-  correct = λ s d. correct_at s.days d;
-  introduced = λ s d. introduced_at s.days d;
+  rows = λ s. rows_by_day none s.days s.costs;
   lapses = λ s c. lapses_in s.counts c;
-  cost = λ s d. cost_at none s.costs d;
 }

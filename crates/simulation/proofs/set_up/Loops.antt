@@ -19,11 +19,10 @@ use lib.Ieee.{Float}
 use mir.Val.{bool_byte}
 use Rattle.turns.specs.Sums.{bit}
 use Rattle.turns.proofs.Sums.{bit_le}
-use Rattle.cards.specs.declared.Card.{Card}
+use Rattle.cards.specs.declared.card.Card.{Card}
 use Rattle.cards.specs.Day.{day_of, is_new}
 use Rattle.cards.specs.Cards.{card_at, is_kept}
-use Rattle.runs.specs.SetUp.{Deck, deck, filled, new_card, add_card, add_kept_card, add_existing_card}
-use Rattle.runs.specs.SetUp.{add_existing_cards, introduced_before, add_new_cards}
+use Rattle.runs.specs.SetUp.{Deck, deck, new_card, add_card, add_kept_card, add_existing_card, add_existing_cards, introduced_before, add_new_cards, filled_with}
 use Rattle.days.specs.Due.{add_due}
 use Rattle.queue.specs.Queue.{Queue}
 use Rattle.simulation.specs.Steps.{deck_of, Joined}
@@ -31,18 +30,18 @@ use Rattle.entry.specs.declared.lists.Lists.{Lists}
 use Rattle.entry.proofs.Lent.{same_lists, same_then}
 
 -- ---- a list whose first places are filled
-filled_none : {A : Type 0} (x : A) (n : ℕ) → filled x n [] ≡ []
-unfolding filled
+filled_none : {A : Type 0} (x : A) (n : ℕ) → filled_with x n [] ≡ []
+unfolding filled_with
 filled_none x zero = refl
 filled_none x (suc n) = rw (filled_none x n)
 
-filled_more : {A : Type 0} (x a : A) (n : ℕ) (l : List A) → filled x (suc n) (a ∷ l) ≡ x ∷ filled x n l
-unfolding filled
+filled_more : {A : Type 0} (x a : A) (n : ℕ) (l : List A) → filled_with x (suc n) (a ∷ l) ≡ x ∷ filled_with x n l
+unfolding filled_with
 filled_more x a zero l = refl
 filled_more x a (suc n) l = ap (λ (z : List _). set z (suc n) x) (filled_more x a n l)
 
 pub filled_is : {A : Type 0} (x : A) (n m : ℕ) (l : List A) → m ≡ min (length l) n
-    → filled x n l ≡ replicate m x ++ drop m l
+    → filled_with x n l ≡ replicate m x ++ drop m l
 filled_is x n m l e = rw e (go n l)
   where
     none : (k : ℕ) → min k 0 ≡ 0
@@ -54,19 +53,19 @@ filled_is x n m l e = rw e (go n l)
     both : (k m : ℕ) → min (suc k) (suc m) ≡ suc (min k m)
     both k m = omega arith
 
-    go : (n : ℕ) (l : List _) → filled x n l ≡ replicate (min (length l) n) x ++ drop (min (length l) n) l
+    go : (n : ℕ) (l : List _) → filled_with x n l ≡ replicate (min (length l) n) x ++ drop (min (length l) n) l
     go zero [] = filled_none x 0
-    go zero (a ∷ l) = rw (none (length (a ∷ l))) (unfold filled in refl)
+    go zero (a ∷ l) = rw (none (length (a ∷ l))) (unfold filled_with in refl)
     go (suc n) [] = rw (short (suc n)) (filled_none x (suc n))
     go (suc n) (a ∷ l) = rw (both (length l) n) (filled_more x a n l ∙ ap (λ (z : List _). x ∷ z) (go n l))
 
 -- and no place past its end
-pub filled_all : {A : Type 0} (x : A) (n m : ℕ) (l : List A) → m ≡ min n (length l) → filled x m l ≡ filled x n l
+pub filled_all : {A : Type 0} (x : A) (n m : ℕ) (l : List A) → m ≡ min n (length l) → filled_with x m l ≡ filled_with x n l
 filled_all x n m l e =
     filled_is x m m l (omega (arith, e)) ∙ sym (filled_is x n m l (omega (arith, e)))
 
-pub filled_next : {A : Type 0} (x : A) (i : ℕ) (l₀ : List A) → set (filled x i l₀) i x ≡ filled x (i + 1) l₀
-filled_next x i l₀ = rw (add-one i) (unfold filled in refl)
+pub filled_next : {A : Type 0} (x : A) (i : ℕ) (l₀ : List A) → set (filled_with x i l₀) i x ≡ filled_with x (i + 1) l₀
+filled_next x i l₀ = rw (add-one i) (unfold filled_with in refl)
 
 -- ---- the lists of cards
 pub joined_none : (x : Lists) (len : ℕ) → Joined (deck_of x len) x len x

@@ -1,4 +1,4 @@
-use Rattle.cards.specs.declared.Choice.TheVariants as choice
+use Rattle.cards.specs.declared.choice.Choice.TheVariants as choice
 use Rattle.runs.specs.Rules.{rules_as}
 use Rattle.runs.specs.State.{lent_of}
 use Rattle.turn.proofs.Calls.{ended_is, acted_is, event_is}

@@ -3,12 +3,12 @@ use mathlib.Core.Path.{refl, ap, ◌∙◌}
 use mathlib.Core.List.{List}
 use lib.ListN.{set, length-set}
 use native.Mathlib.Omega.{arith}
-use Rattle.runs.specs.SetUp.{filled}
+use Rattle.runs.specs.SetUp.{filled_with}
 use Rattle.simulation.proofs.set_up.Loops.{filled_all, filled_next}
 use Rattle.simulation.proofs.set_up.fill_first.Goals as goal
 
 pub loop-i-init : goal.loop-i-init
-unfolding filled
+unfolding filled_with
 loop-i-init g c = (refl, refl)
 
 pub loop-i-preserved : goal.loop-i-preserved

@@ -5,7 +5,7 @@ use lib.ListN.{get_or}
 use native.Mathlib.Omega.{arith}
 use Rattle.std.proofs.lemmas.Grind.{common_steps}
 use Rattle.cards.proofs.Rows.{row_is}
-use Rattle.cards.proofs.row_of.Goals as goal
+use Rattle.cards.proofs.configuration.row_of.Goals as goal
 
 pub returns : goal.returns
 unfolding of_bits of_fields div

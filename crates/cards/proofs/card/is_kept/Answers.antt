@@ -1,7 +1,7 @@
 use mathlib.Core.Path.{refl}
 use lib.Ieee.{of_bits, of_fields, round}
 use Rattle.cards.specs.Cards.{is_kept}
-use Rattle.cards.proofs.is_kept.Goals as goal
+use Rattle.cards.proofs.card.is_kept.Goals as goal
 
 pub returns : goal.returns
 unfolding is_kept of_bits of_fields round

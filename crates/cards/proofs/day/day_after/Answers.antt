@@ -4,7 +4,7 @@ use Prim.Native.Nat.{ℕ, suc, ◌+◌}
 use lib.Ieee.{Float, of_bits, binary32, add}
 use Rattle.cards.specs.Day.{day_of}
 use Rattle.cards.proofs.Later.{day-next}
-use Rattle.cards.proofs.day_after.Goals as goal
+use Rattle.cards.proofs.day.day_after.Goals as goal
 
 pub returns-then-d-lt16777216 : goal.returns-then-d-lt16777216
 returns-then-d-lt16777216 c = one_more c.args.d ∙ sym (day-next c.args.d c.if-d-lt16777216.true)

@@ -4,7 +4,7 @@ use lib.ListN.{get_or}
 use Rattle.std.proofs.Common.{rules, arith}
 use Rattle.std.proofs.lemmas.Grind.{common_steps}
 use Rattle.cards.specs.Cards.{card_at, no_floats, no_counts}
-use Rattle.cards.proofs.card_at.Goals as goal
+use Rattle.cards.proofs.card.card_at.Goals as goal
 
 pub returns : goal.returns
 unfolding card_at of_bits of_fields

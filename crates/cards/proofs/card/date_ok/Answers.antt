@@ -1,5 +1,5 @@
 use lib.Ieee.{of_bits, of_fields, round}
-use Rattle.cards.proofs.date_ok.Goals as goal
+use Rattle.cards.proofs.card.date_ok.Goals as goal
 
 pub returns-then-x : goal.returns-then-x
 unfolding of_bits of_fields round

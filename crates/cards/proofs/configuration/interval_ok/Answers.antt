@@ -1,6 +1,6 @@
 use lib.Ieee.{of_bits, of_fields, of_int, round}
 use Rattle.cards.specs.Config.{interval_ok}
-use Rattle.cards.proofs.interval_ok.Goals as goal
+use Rattle.cards.proofs.configuration.interval_ok.Goals as goal
 
 pub returns-then-x : goal.returns-then-x
 unfolding interval_ok of_bits of_fields of_int round

@@ -1,5 +1,5 @@
 use lib.Ieee.{ne}
-use Rattle.cards.proofs.sum_ok.Goals as goal
+use Rattle.cards.proofs.configuration.sum_ok.Goals as goal
 
 pub returns-then-is_finite : goal.returns-then-is_finite
 unfolding ne
