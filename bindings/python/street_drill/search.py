@@ -3,13 +3,13 @@
 import math
 import os
 import time
-from collections.abc import Callable, Sequence
+from collections.abc import Callable, Iterable
 from concurrent.futures import ThreadPoolExecutor
 from dataclasses import dataclass
 
-from . import library
+from . import given, library
 from .errors import Refusal
-from .model import FIRST_TABLE, Card, Runner, SimulatorConfig
+from .model import FIRST_TABLE, Cards, Runner, SimulatorConfig
 
 MOST_ROUNDS = 64
 FIRST_SEED = 42
@@ -50,7 +50,7 @@ def _optimum(found: library.Found) -> Optimum:
     return Optimum(found.retention, found.mean, found.rounds)
 
 
-def optimal_retention(config: SimulatorConfig, parameters: Sequence[float], cards: Sequence[Card] = (), *,
+def optimal_retention(config: SimulatorConfig, parameters: Iterable[float], cards: Cards = (), *,
                       rounds: int = MOST_ROUNDS, workers: int | None = None,
                       progress: Callable[[Trial], None] | None = None, table: int = FIRST_TABLE) -> Optimum:
     """The cheapest retention, each trial's runs on `workers` threads (all cores where it is None).
@@ -59,7 +59,7 @@ def optimal_retention(config: SimulatorConfig, parameters: Sequence[float], card
     rounds were not enough.
     """
     runner = Runner(config, parameters, cards, table)
-    if not 1 <= rounds <= MOST_ROUNDS:
+    if not 1 <= given.index("rounds", rounds) <= MOST_ROUNDS:
         # The library's own entry refuses these, in the order of its table.
         return _optimum(library.optimal_retention(runner.inputs, min(max(rounds, 0), MOST_ROUNDS + 1),
                                                   library.Lists(runner.inputs, table)))
