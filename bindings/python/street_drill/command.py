@@ -10,7 +10,7 @@ import sys
 from collections.abc import Sequence
 from pathlib import Path
 
-from . import cluster, course, deck, files, listing, places, region, runs, settings
+from . import cluster, course, deck, facts, files, listing, places, region, runs, settings
 from .course import Course
 from .deck import NO_DECK
 from .decimals import shortest
@@ -79,7 +79,7 @@ def _forecast(options: argparse.Namespace) -> None:
     sources = [*options.settings, *([options.deck] if options.deck and options.deck != options.cards else [])]
     files.write_all(texts, sources)
     for drawn in courses:
-        print(course.summary(drawn, options.open), end="")
+        print(facts.summary(drawn, options.open), end="")
 
 
 def _add(texts: dict[str, str], path: str, text: str) -> None:
@@ -114,7 +114,7 @@ def _page(options: argparse.Namespace) -> None:
     path = options.page or str(Path(options.listings[0]).with_suffix(".html"))
     files.write_all({path: page(courses, options.open)}, options.listings)
     for drawn in courses:
-        print(course.summary(drawn, options.open), end="")
+        print(facts.summary(drawn, options.open), end="")
 
 
 def _region(options: argparse.Namespace) -> None:
@@ -130,7 +130,7 @@ def _region(options: argparse.Namespace) -> None:
     texts = {options.summary: course.as_csv(depots_table)}
     _add(texts, options.page, page([whole], tables=[depots_table]))
     files.write_all(texts, [path for depot in depots for path in (depot.path, depot.deck_path)])
-    print(course.summary(whole, None), end="")
+    print(facts.summary(whole, None), end="")
 
 
 _COMMANDS = {"forecast": _forecast, "cheapest": _cheapest, "page": _page, "region": _region}

@@ -10,7 +10,8 @@ from html import escape
 from pathlib import Path
 
 from . import picture
-from .course import Course, Table, days_table, facts
+from .course import Course, Table, days_table
+from .facts import facts
 
 
 def _few(courses: Sequence[Course]) -> bool:
@@ -67,7 +68,7 @@ def _heads(head: Sequence[str]) -> Iterator[str]:
     """The names of the columns; what several runs add to a column stands below its name."""
     for name in head:
         own, _, added = name.rpartition("_")
-        kind, text = (' class="added"', added) if added in ("mean", "p10", "p90") and own in head else ("", name)
+        kind, text = (' class="added"', added) if added in ("p10", "p90", "first") and own in head else ("", name)
         yield f"<th{kind}>{text}</th>"
 
 

@@ -88,7 +88,7 @@ def table(depots: Sequence[Course], streets: int | None) -> Table:
 
 
 def _row(depot: Course, streets: int | None) -> list[float | str]:
-    costs, busiest = depot.columns["cost"], course.busiest(depot)
+    costs, busiest = depot.columns["cost"], course.busiest(depot.columns["cost"])
     row: list[float | str] = [depot.name, depot.span, _sum(costs), busiest, costs[busiest],
                               depot.columns["introduced"][-1], depot.columns["memorized"][-1]]
     if streets is None:

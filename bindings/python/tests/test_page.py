@@ -97,13 +97,14 @@ class Page(unittest.TestCase):
         for count in [1, 2, 4]:
             text = page([runs_of("round", 1), *[runs_of("other", 3)] * (count - 1)], 80)
             self.check(text)
-            self.assertEqual(text.count("from day"), 2 * count - 1)
-            self.assertEqual(text.count("in all, mean of 3 runs"), min(count - 1, 1))
+            # The one run's, and those of three.
+            self.assertEqual(len(re.findall(r">from day \d+ to the end<", text)), 1)
+            self.assertEqual(text.count("to the end in all 3 runs from day"), count - 1)
 
     def test_table(self) -> None:
         course = runs_of("round", 3)
         text = page([course])
-        self.assertEqual(text.count('<th class="added">mean</th>'), len(COLUMNS))
+        self.assertEqual(text.count('<th class="added">first</th>'), len(COLUMNS))
         self.assertIn(f"<td>{course.bands['cost'].p90[3]:.2f}</td>", text)
 
     def test_values_at_the_pointer(self) -> None:
