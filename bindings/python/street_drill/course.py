@@ -18,6 +18,7 @@ from datetime import date, timedelta
 from .decimals import shortest
 from .files import csv_text
 from .model import Forecast
+from .origin import Origin
 
 COLUMNS = ("learned", "reviewed", "correct", "introduced", "due", "cost", "memorized")
 # What is so at a day's end; the others are that day's own.
@@ -40,7 +41,7 @@ class Course:
     """A column has a value a day; a listing has no column `due`. There are no bands where there was one run.
 
     `columns` are the first run's, `each` those of every run where there are several. `first_day` is the date of day 0.
-    `notes` are what else a planner is to be told, each with its label.
+    `notes` are what else a planner is to be told, each with its label, and `origin` is what it was made from.
     """
 
     name: str
@@ -49,6 +50,7 @@ class Course:
     each: tuple[Columns, ...] = ()
     first_day: date | None = None
     notes: tuple[tuple[str, str], ...] = ()
+    origin: Origin | None = None
 
     @property
     def span(self) -> int:

@@ -135,7 +135,8 @@ class Answers(unittest.TestCase):
         columns = forecast.columns()
         self.assertEqual(list(zip(*list(columns.values())[:6])), [astuple(day) for day in forecast.rows])
         self.assertEqual(tuple(columns["due"]), forecast.due[:10])
-        self.assertEqual(simulate(SMALL, PARAMETERS, forecast.card_columns()), simulate(SMALL, PARAMETERS, forecast.cards))
+        later = simulate(SMALL, PARAMETERS, forecast.card_columns())
+        self.assertEqual(later, simulate(SMALL, PARAMETERS, forecast.cards))
 
     @unittest.skipUnless(HAS_NUMPY, "there is no numpy")
     def test_numpy(self) -> None:

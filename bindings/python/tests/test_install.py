@@ -46,8 +46,9 @@ class Installed(unittest.TestCase):
     def test_package(self) -> None:
         """The wheel's version is the package's; it has all that the page needs, and the mark of typed packages."""
         told = ("import importlib.metadata, pathlib, street_drill; "
+                "files = pathlib.Path(street_drill.__file__).parent.iterdir(); "
                 "print(street_drill.__version__, importlib.metadata.version('street_drill'), "
-                "*sorted(path.name for path in pathlib.Path(street_drill.__file__).parent.iterdir() if path.is_file()))")
+                "*(path.name for path in files if path.is_file()))")
         first, second, *files = self.called(self.programs / "python", "-c", told).split()
         self.assertEqual((first, second), (street_drill.__version__, street_drill.__version__))
         own = {path.name for path in (PACKAGE / "street_drill").iterdir() if path.is_file()}
