@@ -277,7 +277,7 @@ class Browser(unittest.TestCase):
         with tempfile.TemporaryDirectory() as folder:
             file = Path(folder) / "page.html"
             file.write_text(text.replace("</body>", told))
-            browser = ["chromium", "--headless=new", "--no-sandbox", "--disable-gpu", "--timeout=30000",
+            browser = ["chromium", "--headless=new", "--no-sandbox", "--disable-gpu", "--window-size=1280,900",
                        f"--user-data-dir={folder}/profile", "--dump-dom"]
             shown = subprocess.run([*browser, file.as_uri()], capture_output=True, text=True).stdout
         if not shown:
