@@ -28,7 +28,7 @@ def _paths(courses: Sequence[Course]) -> list[Path | None]:
 def _with_folders(courses: Sequence[Course]) -> list[str]:
     """Equal names with the folders that are not the same for all of them."""
     paths = _paths(courses)
-    alike = os.path.commonpath([path.parent for path in paths if path] or ["/"])
+    alike = os.path.commonpath([path.parent for path in paths if path] or [Path("/")])
     return [str(path.relative_to(alike).with_suffix("")) if path else course.name
             for path, course in zip(paths, courses)]
 

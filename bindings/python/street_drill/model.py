@@ -16,7 +16,8 @@ from typing import Any
 
 from . import given, library
 from .errors import Refusal
-from .given import CARD_COUNTS, CARD_FLOATS
+from .given import CARD_COUNTS as CARD_COUNTS
+from .given import CARD_FLOATS as CARD_FLOATS
 
 NO_LIMIT = 4_294_967_295
 SEED = 42

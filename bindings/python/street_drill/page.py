@@ -15,7 +15,7 @@ from . import axes, head, picture
 from .course import Course, Table, days_table
 from .facts import facts
 from .series import window
-from .views import View, views
+from .views import Shown, View, views
 
 # A longer table is laid out by the script, when it is opened.
 _MOST_ROWS = 1000
@@ -40,7 +40,7 @@ def _pairs(pairs: Sequence[tuple[str, str]]) -> str:
 
 def _line(first: str, cells: Iterable[str], labels: Sequence[str]) -> str:
     """A narrow window shows each cell on a line of its own, with its column's label."""
-    told = "".join(f'<td data-label="{escape(label)}">{cell}</td>' for label, cell in zip(labels, cells))
+    told = "".join(f'<td data-label="{escape(label)}">{escape(cell)}</td>' for label, cell in zip(labels, cells))
     return f"<tr><th>{first}</th>{told}</tr>"
 
 
@@ -51,11 +51,11 @@ def _of_each(courses: Sequence[Course], told: Sequence[tuple[str, Sequence[str]]
     labels = [label for label, _ in told]
     if _few(courses):
         first = shown
-        lines = [_line(escape(label), map(escape, values), names) for label, values in told]
+        lines = [_line(escape(label), values, names) for label, values in told]
     else:
-        first = list(map(escape, labels))
+        first = [escape(label) for label in labels]
         turned = zip(*(values for _, values in told))
-        lines = [_line(name, map(escape, values), labels) for name, values in zip(shown, turned)]
+        lines = [_line(name, values, labels) for name, values in zip(shown, turned)]
     heads = "".join(f"<th>{text}</th>" for text in ("", *first))
     kind = "facts" if _few(courses) else "facts cards"
     return f'<table class="{kind}"><thead><tr>{heads}</tr></thead><tbody>{"".join(lines)}</tbody></table>'
@@ -144,11 +144,19 @@ def _table(table: Table, course: int | None) -> str:
 # ---- what the script tells
 
 
-def _short(value: float | str) -> float | str | None:
+def _short(value: float) -> float | None:
     """As the tables have it; JSON has no infinity."""
-    if isinstance(value, float):
-        return round(value, _DIGITS) if math.isfinite(value) else None
-    return value
+    if isinstance(value, int):
+        return value
+    return round(value, _DIGITS) if math.isfinite(value) else None
+
+
+def _columns(kind: str, shown: Shown) -> dict[str, Sequence[object]]:
+    """In the order of the tables."""
+    names = {} if kind == "day" else {kind: shown.names}
+    dates = {"date": shown.dates} if shown.dates else {}
+    values = {name: list(map(_short, column)) for name, column in shown.columns.items()}
+    return {**names, "day": shown.first, **dates, **values}
 
 
 def _values(courses: Sequence[Course], shown: Sequence[View]) -> str:
@@ -157,9 +165,8 @@ def _values(courses: Sequence[Course], shown: Sequence[View]) -> str:
         "left": axes.LEFT, "right": axes.RIGHT, "top": axes.TOP, "bottom": axes.BOTTOM,
         "colours": picture.COLOURS,
         "names": [course.name for course in courses],
-        "views": {view.kind: {"last": view.last, "courses": [
-            {name: list(map(_short, column)) for name, column in columns.items()} for columns in view.courses
-        ]} for view in shown},
+        "views": {view.kind: {"last": view.last, "courses": [_columns(view.kind, each) for each in view.courses]}
+                  for view in shown},
     }
     # A name must not end the script element.
     return json.dumps(told, separators=(",", ":")).replace("<", "\\u003c")

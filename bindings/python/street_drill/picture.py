@@ -6,14 +6,13 @@
 """
 
 import math
-from bisect import bisect_right
-from collections.abc import Iterable, Iterator, Mapping, Sequence
+from collections.abc import Iterable, Iterator, Sequence
 from datetime import date
 
 from .axes import BOTTOM, HEIGHT, LEFT, RIGHT, WIDTH, Scale, amount, axis, below, grid
 from .course import STANDING, Course, line, opening
 from .series import smoothed, stretches, thinned, thinned_band, window
-from .views import Column, View
+from .views import Shown, View
 
 TITLES = {
     "cost": "Time",
@@ -37,16 +36,15 @@ def _short_date(text: str, days: int) -> str:
 
 def _named(view: View) -> Iterator[tuple[float, str]]:
     """Marks of the days, weeks or months, by their dates where there are any."""
-    columns = view.longest
-    names, dates = list(map(str, columns[view.kind])), columns.get("date")
+    shown = view.longest
     # Long names need more room, also in a narrow window.
-    marks = 5 if dates or view.last >= 1000 else 8
+    marks = 5 if shown.dates or view.last >= 1000 else 8
     # Days count from 0, weeks and months from 1.
-    offset = 1 if names[0] == "1" else 0
+    offset = 1 if shown.names[0] == "1" else 0
     for place in (round(mark) - offset for mark in axis(view.last, marks=marks)):
-        if 0 <= place < len(names):
-            by_date = dates and view.kind != "month"
-            yield place, _short_date(dates[place], int(columns["day"][-1])) if by_date else _grouped(names[place])
+        if 0 <= place < len(shown.names):
+            by_date = shown.dates and view.kind != "month"
+            yield place, _short_date(shown.dates[place], shown.first[-1]) if by_date else _grouped(shown.names[place])
 
 
 def _grouped(name: str) -> str:
@@ -95,17 +93,10 @@ def swatch(course: int) -> str:
 # ---- the day from which so many streets stay held
 
 
-def _place(columns: Mapping[str, Column], day: int) -> float:
-    """Where a day is: what stands at the end of a week is drawn at its place, so the days before lie left of it."""
-    place = bisect_right(columns["day"], day) - 1
-    days = columns["days"][place] if "days" in columns else 1
-    return max(0.0, place - 1 + (day - columns["day"][place] + 1) / days)
-
-
 def _openings(view: View, scale: Scale, courses: Sequence[Course], streets: int) -> Iterator[str]:
     """A line across at so many streets, and at each course's day a dot, a line down and the day."""
     openings = [opening(line(course, "memorized"), streets) for course in courses]
-    places = [None if day is None else _place(columns, day) for columns, day in zip(view.courses, openings)]
+    places = [None if day is None else shown.place(day) for shown, day in zip(view.courses, openings)]
     marks = sorted((place, number) for number, place in enumerate(places) if place is not None)
     y = scale.y(streets)
     yield f'<line class="open" x1="{LEFT}" x2="{RIGHT}" y1="{y:.1f}" y2="{y:.1f}"/>'
@@ -113,7 +104,7 @@ def _openings(view: View, scale: Scale, courses: Sequence[Course], streets: int)
         x = scale.x(place)
         yield f'<line class="open l{number}" x1="{x:.1f}" x2="{x:.1f}" y1="{y:.1f}" y2="{BOTTOM}"/>'
     # The place below its end is free where every course has come to it, or is over, long before; else above its start.
-    clear = max(len(columns["day"]) - 1 if place is None else place for columns, place in zip(view.courses, places))
+    clear = max(len(shown.names) - 1 if place is None else place for shown, place in zip(view.courses, places))
     is_free = scale.x(clear) < RIGHT - 110 and y < BOTTOM - 20
     end, under, side = (RIGHT - 5, 14, "end") if is_free else (LEFT + 5, -5, "start")
     yield f'<text class="over" x="{end}" y="{y + under:.1f}" text-anchor="{side}">{amount(streets)} streets</text>'
@@ -131,21 +122,21 @@ def _openings(view: View, scale: Scale, courses: Sequence[Course], streets: int)
 # ---- the whole
 
 
-def _most(columns: Mapping[str, Column], column: str) -> float:
-    names = [name for name in (column, f"{column}_p90", f"{column}_first") if name in columns]
-    return max((value for name in names for value in columns[name] if math.isfinite(value)), default=0)
+def _most(shown: Shown, column: str) -> float:
+    names = (column, f"{column}_p90", f"{column}_first")
+    return max((value for name in names for value in shown.columns.get(name, ()) if math.isfinite(value)), default=0)
 
 
 def _lines(view: View, scale: Scale, column: str, days: int) -> Iterator[str]:
     """Bands at the back; of several runs the first is a thin line, and the mean the strong one."""
-    for number, columns in enumerate(view.courses):
-        if f"{column}_p10" in columns:
-            yield from _band(scale, columns[f"{column}_p10"], columns[f"{column}_p90"], number)
-    for number, columns in enumerate(view.courses):
-        yield from _line(scale, columns.get(f"{column}_first", ()), number, "first")
-        yield from _line(scale, columns.get(column, ()), number, "course")
-        if days:
-            yield from _line(scale, smoothed(columns.get(column, ()), days), number, "smooth")
+    for number, shown in enumerate(view.courses):
+        lows, highs = [shown.columns.get(f"{column}_{end}", ()) for end in ("p10", "p90")]
+        yield from _band(scale, lows, highs, number)
+    for number, shown in enumerate(view.courses):
+        values = shown.columns.get(column, ())
+        yield from _line(scale, shown.columns.get(f"{column}_first", ()), number, "first")
+        yield from _line(scale, values, number, "course")
+        yield from _line(scale, smoothed(values, days) if days else (), number, "smooth")
 
 
 def frame(title: str, parts: Iterable[str]) -> str:
@@ -164,7 +155,7 @@ def picture(view: View, courses: Sequence[Course], column: str, streets: int | N
     """`streets` is what --open asks for; the legend stands below the title."""
     time = column == "cost"
     goal = streets if streets and column == "memorized" else 0
-    most = max(_most(columns, column) for columns in view.courses)
+    most = max(_most(shown, column) for shown in view.courses)
     marks = axis(max(most, goal) or 1, time)
     scale = Scale(view.last, marks[-1])
     # What stands at a day's end does not jump, and smoothed it would come to so many streets on another day.

@@ -14,10 +14,13 @@ _MOST_POINTS, _PARTS = 1000, 500
 # Days that the smoothed line is the mean of: the first that is a hundredth of the span.
 _WINDOWS = (7, 30, 90, 365)
 
+# Days in a row, each with its values.
+Stretch = list[tuple[int, tuple[float, ...]]]
 
-def stretches(values: Iterable[tuple[float, ...]]) -> Iterator[list[tuple[int, tuple[float, ...]]]]:
+
+def stretches(values: Iterable[tuple[float, ...]]) -> Iterator[Stretch]:
     """The days in stretches without a value that is infinite or no number: there a line is broken."""
-    stretch: list[tuple[int, tuple[float, ...]]] = []
+    stretch: Stretch = []
     for day, places in enumerate(values):
         if all(map(math.isfinite, places)):
             stretch.append((day, places))
@@ -28,12 +31,12 @@ def stretches(values: Iterable[tuple[float, ...]]) -> Iterator[list[tuple[int, t
         yield stretch
 
 
-def _parts(stretch: Sequence[tuple[int, tuple[float, ...]]]) -> Iterator[Sequence[tuple[int, tuple[float, ...]]]]:
+def _parts(stretch: Stretch) -> Iterator[Stretch]:
     size = math.ceil(len(stretch) / _PARTS)
     return (stretch[start : start + size] for start in range(0, len(stretch), size))
 
 
-def thinned(stretch: list[tuple[int, tuple[float]]]) -> list[tuple[int, tuple[float]]]:
+def thinned(stretch: Stretch) -> Stretch:
     """Of a long stretch the least and the greatest value of each part, in the order of their days."""
     if len(stretch) <= _MOST_POINTS:
         return stretch
@@ -41,7 +44,7 @@ def thinned(stretch: list[tuple[int, tuple[float]]]) -> list[tuple[int, tuple[fl
     return [point for part in ends for point in sorted(part)]
 
 
-def thinned_band(stretch: list[tuple[int, tuple[float, float]]]) -> list[tuple[int, tuple[float, float]]]:
+def thinned_band(stretch: Stretch) -> Stretch:
     """Of a long stretch the widest of each part, on its first day."""
     if len(stretch) <= _MOST_POINTS:
         return stretch
