@@ -148,15 +148,14 @@ const fill = (table, columns, start) => {
     }
 };
 
-const columnsOf = (rows) => Object.values(told.views.day.courses[rows.dataset.course]);
-
-for (const rows of document.querySelectorAll("details[data-course]")) {
+for (const rows of document.querySelectorAll("details[data-table]")) {
     const lay = () => {
-        const [table, columns] = [rows.querySelector("table"), columnsOf(rows)];
+        const [table, columns] = [rows.querySelector("table"), told.tables[rows.dataset.table]];
+        const [kind, names] = [table.tHead.rows[0].cells[0].textContent, columns[0]];
         const choice = document.createElement("select");
-        for (let start = 0; start < columns[0].length; start += PART) {
-            const end = Math.min(start + PART, columns[0].length) - 1;
-            make(choice, "option", `days ${start} to ${end}`).value = start;
+        for (let start = 0; start < names.length; start += PART) {
+            const last = names[Math.min(start + PART, names.length) - 1];
+            make(choice, "option", `${kind} ${names[start]} to ${last}`).value = start;
         }
         choice.addEventListener("change", () => fill(table, columns, Number(choice.value)));
         rows.querySelector(".scroll").before(choice);
@@ -165,12 +164,17 @@ for (const rows of document.querySelectorAll("details[data-course]")) {
     rows.addEventListener("toggle", lay, { once: true });
 }
 
+// Paper has all tables but the long ones.
+addEventListener("beforeprint", () => {
+    for (const rows of document.querySelectorAll("details.rows:not([data-table])")) rows.open = true;
+});
+
 // All rows, also those that are not laid out.
 const asText = (rows) => {
     const table = rows.querySelector("table");
     const lines = [...table.rows].map((row) => [...row.cells].map((each) => each.textContent));
-    if (!rows.dataset.course) return lines;
-    const columns = columnsOf(rows);
+    if (!rows.dataset.table) return lines;
+    const columns = told.tables[rows.dataset.table];
     const heads = [...table.tHead.rows[0].cells];
     return [lines[0], ...columns[0].map((_, row) => columns.map((column, number) => cell(column[row], heads[number])))];
 };

@@ -14,10 +14,11 @@ from pathlib import Path
 from . import axes, head, picture
 from .course import Course, Table, days_table
 from .facts import facts
+from .periods import months_table, weeks_table
 from .series import window
 from .views import Shown, View, views
 
-# A longer table is laid out by the script, when it is opened.
+# A longer table's rows are laid out by the script, when it is opened.
 _MOST_ROWS = 1000
 # Two digits behind the point are enough to read; --rows and --summary write them all.
 _DIGITS = 2
@@ -130,12 +131,17 @@ def _body(rows: Sequence[Sequence[float | str]]) -> str:
     return "\n".join("<tr>" + "".join(f"<td>{_cell(value)}</td>" for value in row) + "</tr>" for row in rows)
 
 
-def _table(table: Table, course: int | None) -> str:
-    """A course's long table is closed, and its rows are the script's."""
+def _is_long(table: Table) -> bool:
+    _, _, rows = table
+    return len(rows) > _MOST_ROWS
+
+
+def _table(number: int, table: Table, is_open: bool) -> str:
+    """The rows of a long one are the script's."""
     name, names, rows = table
-    by_script = course is not None and len(rows) > _MOST_ROWS
-    state, body = (f' data-course="{course}"', "") if by_script else (" open", f"\n{_body(rows)}\n")
-    kind = "days" if names[0] == "day" else "named"
+    own, body = (f' data-table="{number}"', "") if _is_long(table) else ("", f"\n{_body(rows)}\n")
+    kind = "days" if names[0] in ("day", "week", "month") else "named"
+    state = f"{own}{' open' if is_open else ''}"
     return (f'<details class="rows{" many" if len(names) > 12 else ""}"{state}><summary>{escape(name)}</summary>\n'
             f'<div class="scroll"><table class="{kind}"><thead><tr>{"".join(_heads(names, rows[0]))}</tr></thead>\n'
             f"<tbody>{body}</tbody></table></div></details>")
@@ -144,29 +150,30 @@ def _table(table: Table, course: int | None) -> str:
 # ---- what the script tells
 
 
-def _short(value: float) -> float | None:
+def _short(value: float | str) -> float | str | None:
     """As the tables have it; JSON has no infinity."""
-    if isinstance(value, int):
-        return value
-    return round(value, _DIGITS) if math.isfinite(value) else None
+    if isinstance(value, float):
+        return round(value, _DIGITS) if math.isfinite(value) else None
+    return value
 
 
 def _columns(kind: str, shown: Shown) -> dict[str, Sequence[object]]:
-    """In the order of the tables."""
     names = {} if kind == "day" else {kind: shown.names}
     dates = {"date": shown.dates} if shown.dates else {}
     values = {name: list(map(_short, column)) for name, column in shown.columns.items()}
     return {**names, "day": shown.first, **dates, **values}
 
 
-def _values(courses: Sequence[Course], shown: Sequence[View]) -> str:
-    """The columns of every view, for the pointer and for long tables."""
+def _values(courses: Sequence[Course], shown: Sequence[View], tables: Sequence[Table]) -> str:
+    """The columns of every view, for the pointer, and those of long tables."""
     told = {
         "left": axes.LEFT, "right": axes.RIGHT, "top": axes.TOP, "bottom": axes.BOTTOM,
         "colours": picture.COLOURS,
         "names": [course.name for course in courses],
         "views": {view.kind: {"last": view.last, "courses": [_columns(view.kind, each) for each in view.courses]}
                   for view in shown},
+        "tables": {number: [list(map(_short, column)) for column in zip(*table[2])]
+                   for number, table in enumerate(tables) if _is_long(table)},
     }
     # A name must not end the script element.
     return json.dumps(told, separators=(",", ":")).replace("<", "\\u003c")
@@ -199,18 +206,18 @@ def document(title: str, parts: Sequence[str], rules: str = "", values: str = "{
 
 def page(given: Sequence[Course], streets: int | None = None, tables: Sequence[Table] = (),
          made: date | None = None) -> str:
-    """The page of courses; `streets` is what --open asks for, and `made` the day, today where it is None. Without
-    tables it has those of the courses' days."""
+    """The page of courses: `streets` is what --open asks for, and `made` the day, today where it is None. The given
+    tables stand open; behind them are those of the courses' weeks, months and days."""
     courses = head.told_apart(given)
     shown = views(courses)
     columns = [column for column in picture.TITLES if any(column in course.columns for course in courses)]
     legend = _legend(courses)
     pictures = [picture.picture(view, courses, column, streets, legend) for column in columns for view in shown]
-    listed = ([_table(table, None) for table in tables] or
-              [_table(days_table(course), number) for number, course in enumerate(courses)])
+    own = [table(course) for course in courses for table in (weeks_table, months_table, days_table)]
+    listed = [*tables, *own]
     return document(_title(courses), [
         _made(courses, made or date.today()),
         f"<main>\n{_summary(courses, streets, shown)}", *pictures, "</main>",
         "<p>Days count from 0; cost is in seconds, memorized is the number of streets held in memory.</p>",
-        *listed,
-    ], _off(courses), _values(courses, shown))
+        *(_table(number, table, number < len(tables)) for number, table in enumerate(listed)),
+    ], _off(courses), _values(courses, shown, listed))

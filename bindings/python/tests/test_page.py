@@ -160,7 +160,7 @@ class Page(unittest.TestCase):
         for column in TITLES:
             drawn = self.paths(text, "day", column)
             self.assertEqual(sum(kind.startswith("course ") for kind in drawn), 10)
-        self.assertEqual(text.count('<table class="days">'), 10)
+        self.assertEqual(text.count('<table class="days">'), 3 * 10)
         self.assertNotIn("<0>", text)
 
     def test_lines_are_switched_off(self) -> None:
@@ -188,11 +188,23 @@ class Page(unittest.TestCase):
             self.assertEqual(len(re.findall(r">from day \d+ to the end<", text)), 1)
             self.assertEqual(text.count("to the end in all 3 runs from day"), count - 1)
 
-    def test_table(self) -> None:
+    def tables(self, text: str) -> dict[str, str]:
+        """The tables by their names."""
+        return dict(re.findall(r"<details class=.rows[^>]*><summary>(.*?)</summary>(.*?)</details>", text, re.DOTALL))
+
+    def test_tables(self) -> None:
         course = runs_of("round", 3)
-        text = page([course])
-        self.assertEqual(len(re.findall('<th class="added"[^>]*>first</th>', text)), len(COLUMNS))
-        self.assertIn(f"<td>{course.bands['cost'].p90[3]:.2f}</td>", text)
+        tables = self.tables(page([course]))
+        self.assertEqual(list(tables), ["round by week", "round by month", "round"])
+        for table in tables.values():
+            self.assertEqual(len(re.findall('<th class="added"[^>]*>first</th>', table)), len(COLUMNS))
+        self.assertIn(f"<td>{course.bands['cost'].p90[3]:.2f}</td>", tables["round"])
+
+    def test_given_tables(self) -> None:
+        """They stand before the course's own, and open."""
+        text = page([runs_of("round", 1)], tables=[("Depots", ["depot"], [["north"]])])
+        self.assertEqual(re.findall(r'<details class="rows"( open)?><summary>(\w+)', text)[:2],
+                         [(" open", "Depots"), ("", "round")])
 
     def test_values_at_the_pointer(self) -> None:
         course = runs_of("</script>", 3)
@@ -201,8 +213,7 @@ class Page(unittest.TestCase):
         self.assertEqual(given["views"]["day"]["courses"][0]["learned_first"], list(course.columns["learned"]))
 
     def test_many_days(self) -> None:
-        """Lines are thinned and keep the extremes; the rows are left to the script. As many days as a table has rows
-        are written out."""
+        """Lines are thinned and keep the extremes; the rows are left to the script, but for 1,000 days."""
         costs = [100.0] * 36_500
         costs[20_001], costs[30_002] = 5000.0, 0.0
         text = page([Course("century", {name: tuple(costs) for name in COLUMNS}, {})])
@@ -213,11 +224,10 @@ class Page(unittest.TestCase):
         # The axis ends at an hour and a half.
         highest = BOTTOM - 5000 / 5400 * (BOTTOM - TOP)
         self.assertEqual((min(heights), max(heights)), (round(highest, 1), BOTTOM))
-        self.assertNotIn("<td>", re.search(r"<details.*?</details>", text, re.DOTALL)[0])
-        self.assertLess(len(text), 2_500_000)
+        self.assertNotIn("<td>", self.tables(text)["century"])
+        self.assertLess(len(text), 5_000_000)
         short = page([Course("short", {name: tuple(costs[:1000]) for name in COLUMNS}, {})])
-        self.assertIn('<details class="rows" open>', short)
-        self.assertEqual(short.count("<td>"), 1000 * 8)
+        self.assertEqual(self.tables(short)["short"].count("<td>"), 1000 * 8)
 
     def test_no_numbers(self) -> None:
         for value in [math.nan, math.inf, 0.0, 3.4e38, 1e-45]:
@@ -239,7 +249,8 @@ class Script(unittest.TestCase):
 
     # A page of no pictures and no tables.
     PAGE = """const document = { getElementById: () => ({ textContent: process.argv[1] }), addEventListener: () => {},
-                                 querySelectorAll: () => [] };"""
+                                 querySelectorAll: () => [] };
+              const addEventListener = () => {};"""
 
     def said(self, values: dict, expressions: list[str]) -> list:
         script = f"{self.PAGE}\n{_beside('page.js')}\nconsole.log(JSON.stringify([{', '.join(expressions)}]))"
@@ -326,13 +337,22 @@ class Browser(unittest.TestCase):
             return [before, shown()];""")
         self.assertEqual(said, ["none", "inline"])
 
+    def test_paper(self) -> None:
+        """The tables are opened when the page is printed."""
+        said, _ = self.found(page([runs_of("round", 1)]), """
+            const opened = () => [...document.querySelectorAll("details.rows")].map((each) => each.open);
+            const before = opened();
+            dispatchEvent(new Event("beforeprint"));
+            return [before, opened()];""")
+        self.assertEqual(said, [[False] * 3, [True] * 3])
+
     def test_many_days(self) -> None:
         """36,500 days of five runs stand within three seconds; a table has its rows when it is opened."""
         config = replace(EXAMPLE.config, learn_span=36_500)
         made = forecasts(config, EXAMPLE.parameters, seeds=range(7, 12), with_cards=False)
         course = of_runs("century", made)
         said, took = self.found(page([course], 100), """
-            const rows = document.querySelector("details.rows");
+            const rows = [...document.querySelectorAll("details.rows")].at(-1);
             const cells = () => rows.querySelectorAll("td").length;
             const before = cells();
             rows.open = true;
