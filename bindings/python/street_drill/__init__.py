@@ -11,5 +11,7 @@ from .library import LibraryMissing
 from .model import NO_LIMIT, Card, Day, Forecast, SimulatorConfig, simulate
 from .search import Optimum, Trial, optimal_retention
 
+__version__ = "0.1.0"
+
 __all__ = ["NO_LIMIT", "Card", "Day", "Forecast", "LibraryMissing", "Mistake", "Optimum", "Refusal", "SimulatorConfig",
            "Trial", "optimal_retention", "simulate"]

@@ -162,10 +162,11 @@ class Runner:
         answer, lists = self._run(desired_retention, seed)
         return _forecast(self.inputs.learn_span, answer, lists, answer.cards if with_cards else 0)
 
-    def target(self, desired_retention: float, seed: int) -> float:
-        """What the run costs for each card memorized on its last day."""
+    def outcome(self, desired_retention: float, seed: int) -> tuple[float, float]:
+        """What the run costs for each card memorized on its last day, and how many these are."""
         _, lists = self._run(desired_retention, seed)
-        return library.target(self.inputs.learn_span, lists)
+        span = self.inputs.learn_span
+        return library.target(span, lists), lists.memorized[span - 1]
 
 
 def simulate(config: SimulatorConfig, parameters: Sequence[float], cards: Sequence[Card] = (), *,
