@@ -3,6 +3,7 @@
   exact(text)      the decimal number that a text says
   nearest(value)   the f32 nearest to a decimal number
   rounded(text)    the f32 nearest to the number that a text says: nearest(exact(text)), sooner
+  to_f32(value)    the f32 nearest to a float
   shortest(value)  the text of an f32
 """
 
@@ -13,8 +14,8 @@ import struct
 from decimal import ROUND_CEILING, ROUND_FLOOR, Context, Decimal, InvalidOperation
 
 _NUMBER = re.compile(r"[+-]?((\d+(\.\d*)?|\.\d+)(e[+-]?\d+)?|inf|nan)", re.ASCII | re.IGNORECASE)
-# Most f32 that a run leaves need so many digits or one or two more; nine tell any two f32 apart.
-_USUAL_DIGITS = 7
+# Most f32 that a run leaves need so many digits, or one or two more.
+_USUAL_DIGITS, _MOST_DIGITS = 7, 9
 # Below this an f32 has fewer bits, and its ties lie elsewhere.
 _LEAST_NORMAL = 2.0**-126
 _F32, _F64, _BITS = struct.Struct("<f"), struct.Struct("<d"), struct.Struct("<Q")
@@ -35,7 +36,7 @@ def _bits(value: float) -> int:
     return bits
 
 
-def _to_f32(value: float) -> float:
+def to_f32(value: float) -> float:
     """Ties go to even."""
     try:
         rounded: float = _F32.unpack(_F32.pack(value))[0]
@@ -50,7 +51,7 @@ def nearest(value: Decimal) -> float:
     if math.isfinite(wide) and value != wide and _bits(wide) % 2 == 0:
         # Two roundings are one where the first goes to the odd neighbour: it then stands on no tie of the second.
         wide = math.nextafter(wide, math.inf if value > wide else -math.inf)
-    return _to_f32(wide)
+    return to_f32(wide)
 
 
 def _may_be_tie(wide: float) -> bool:
@@ -60,10 +61,9 @@ def _may_be_tie(wide: float) -> bool:
 
 def _rounded(text: str) -> float:
     wide = float(text)
-    return nearest(exact(text)) if _may_be_tie(wide) or math.isinf(wide) else _to_f32(wide)
+    return nearest(exact(text)) if _may_be_tie(wide) or math.isinf(wide) else to_f32(wide)
 
 
-@functools.lru_cache(maxsize=65_536)
 def rounded(text: str) -> float:
     """ValueError where the text is no number."""
     if not _NUMBER.fullmatch(text):
@@ -91,6 +91,7 @@ def _written(value: float) -> str:
     written = _with_digits(value, digits)
     while written is None:
         digits += 1
+        assert digits <= _MOST_DIGITS, "nine digits tell any two f32 apart"
         written = _with_digits(value, digits)
     while 1 < digits <= _USUAL_DIGITS and (fewer := _with_digits(value, digits - 1)):
         digits, written = digits - 1, fewer

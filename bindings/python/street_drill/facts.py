@@ -37,17 +37,28 @@ def _opens_once(course: Course, streets: int) -> str:
     return stays if first == day else f"{stays}, though first on {course.day(first)}"
 
 
+def _stays(course: Course, streets: int) -> list[int]:
+    """Of the runs in which so many streets stay held: from which day on, in order."""
+    days = [opening(run["memorized"], streets) for run in course.runs]
+    return sorted(day for day in days if day is not None)
+
+
+def openings(course: Course, streets: int) -> list[int | None]:
+    """From which day so many streets stay held in half of the runs, in nine of ten, and in all."""
+    stays = _stays(course, streets)
+    numbers = [-(-tenths * len(course.runs) // 10) for tenths in _TENTHS]
+    return [stays[number - 1] if number <= len(stays) else None for number in numbers]
+
+
 def _opens_of_runs(course: Course, streets: int) -> str:
-    days = [opening(run["memorized"], streets) for run in course.each]
-    stay, runs = sorted(day for day in days if day is not None), len(days)
-    if not stay:
+    runs, stays = len(course.runs), _stays(course, streets)
+    if not stays:
         return f"on no day in all {runs} runs"
-    numbers = {-(-tenths * runs // 10) for tenths in _TENTHS} | {len(stay)}
     told = []
-    for day in sorted({stay[number - 1] for number in numbers if number <= len(stay)}):
-        there = bisect_right(stay, day)
-        told.append(f"in {f'all {runs}' if there == runs else f'{there} of {runs}'} runs from {course.day(day)}")
-    never = [f"in {runs - len(stay)} on no day"] if len(stay) < runs else []
+    for day in sorted({stays[-1], *(day for day in openings(course, streets) if day is not None)}):
+        number = bisect_right(stays, day)
+        told.append(f"in {f'all {runs}' if number == runs else f'{number} of {runs}'} runs from {course.day(day)}")
+    never = [f"in {runs - len(stays)} on no day"] if len(stays) < runs else []
     return f"to the end {', '.join([*told, *never])}"
 
 
@@ -59,13 +70,18 @@ def opens(course: Course, streets: int) -> str:
 # ---- costs
 
 
-def _worst(costs: Sequence[Sequence[float]], told: Callable[[int], str]) -> str:
-    """What the worst day or week of each run costs, and which it is."""
+def worst(costs: Sequence[Sequence[float]]) -> tuple[int, list[float]]:
+    """What the worst day or week of each run costs, and which it is most often."""
     places = [busiest(run) for run in costs]
-    worst = _spread([run[place] for run, place in zip(costs, places)])
-    if len(costs) == 1:
-        return f"{told(places[0])}, {worst}"
-    return f"{worst}, most often {told(Counter(sorted(places)).most_common(1)[0][0])}"
+    often, _ = Counter(sorted(places)).most_common(1)[0]
+    return often, [run[place] for run, place in zip(costs, places)]
+
+
+def _worst(costs: Sequence[Sequence[float]], told: Callable[[int], str]) -> str:
+    place, values = worst(costs)
+    if len(values) == 1:
+        return f"{told(place)}, {_spread(values)}"
+    return f"{_spread(values)}, most often {told(place)}"
 
 
 def _by(course: Course, kind: str, stretches: Sequence[Stretch], length: int) -> list[tuple[str, str]]:

@@ -4,7 +4,7 @@ import contextlib
 import os
 import re
 import signal
-from collections.abc import Iterable, Iterator, Mapping
+from collections.abc import Iterable, Iterator, Mapping, Sequence
 
 from .errors import Mistake
 
@@ -29,13 +29,15 @@ def read(path: str) -> str:
         raise Mistake(f"{path}: line {data.count(bytes([10]), 0, error.start) + 1}", "is not UTF-8") from error
 
 
-def _field(text: str) -> str:
-    return '"' + text.replace('"', '""') + '"' if re.search('[",\r\n]', text) else text
-
-
-def csv_text(rows: Iterable[Iterable[str]]) -> str:
+def csv_text(rows: Iterable[Sequence[str]], delimiter: str = ",") -> str:
     """Rows as CSV. Python's own writer leaves a lone carriage return without quotes, and no reader takes that."""
-    return "".join(",".join(map(_field, row)) + "\n" for row in rows)
+    special = re.compile(f'[{delimiter}"\r\n]').search
+
+    def field(text: str) -> str:
+        return '"' + text.replace('"', '""') + '"' if special(text) else text
+
+    # Most rows have nothing to quote: they are looked at as a whole.
+    return "".join(delimiter.join(map(field, row) if special("".join(row)) else row) + "\n" for row in rows)
 
 
 def _destination(path: str) -> str:

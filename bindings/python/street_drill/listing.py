@@ -17,7 +17,8 @@ _DAY = re.compile(
     r"\(cost ([0-9A-F]{8})\) \(held ([0-9A-F]{8})\)\)", re.ASCII)
 
 
-def _float(bits: str) -> float:
+def float_of(bits: str) -> float:
+    """By its eight hex digits."""
     value: float = struct.unpack(">f", bytes.fromhex(bits))[0]
     return value
 
@@ -35,7 +36,7 @@ def _day(path: str, number: int, line: str) -> tuple[float, ...]:
     day = _DAY.fullmatch(line)
     if not day or int(day[1]) != number:
         raise Mistake(f"{path}: line {number + 2}", f"is not the line of day {number}")
-    return *map(int, day.groups()[1:5]), _float(day[6]), _float(day[7])
+    return *map(int, day.groups()[1:5]), float_of(day[6]), float_of(day[7])
 
 
 def of_text(path: str, text: str) -> Course:

@@ -7,10 +7,8 @@
 """
 
 import math
-import os
 from array import array
-from collections.abc import Iterable, Iterator, Mapping, Sequence
-from concurrent.futures import ThreadPoolExecutor
+from collections.abc import Iterable, Iterator, Mapping
 from dataclasses import dataclass, fields
 from typing import Any
 
@@ -18,6 +16,7 @@ from . import given, library
 from .errors import Refusal
 from .given import CARD_COUNTS as CARD_COUNTS
 from .given import CARD_FLOATS as CARD_FLOATS
+from .threads import mapping
 
 NO_LIMIT = 4_294_967_295
 SEED = 42
@@ -200,13 +199,14 @@ class Runner:
     def forecasts(self, desired_retention: float, seeds: Iterable[int], workers: int | None = None,
                   with_cards: bool = True) -> list[Forecast]:
         """Of each seed, in their order, on so many threads (all cores where it is None)."""
-        with ThreadPoolExecutor(workers or os.cpu_count()) as threads:
-            return list(threads.map(lambda seed: self.forecast(desired_retention, seed, with_cards), seeds))
+        with mapping(workers) as mapped:
+            return list(mapped(lambda seed: self.forecast(desired_retention, seed, with_cards), seeds))
 
-    def target(self, desired_retention: float, seed: int) -> float:
-        """What the run costs for each card memorized on its last day."""
+    def outcome(self, desired_retention: float, seed: int) -> tuple[float, float]:
+        """What the run costs for each card memorized on its last day, and how many these are."""
         _, lists = self._run(desired_retention, seed)
-        return library.target(self.inputs.learn_span, lists)
+        span = self.inputs.learn_span
+        return library.target(span, lists), lists.memorized[span - 1]
 
 
 def simulate(config: SimulatorConfig, parameters: Iterable[float], cards: Cards = (), *,

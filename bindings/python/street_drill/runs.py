@@ -1,19 +1,32 @@
 """Forecasts of settings and a deck for one or more seeds."""
 
+from collections.abc import Callable
+
 from .deck import Deck
 from .errors import Refusal
 from .model import Forecast, Runner
 from .places import placed
 from .settings import Settings
+from .threads import mapping
 
 
-def forecasts(given: Settings, known: Deck, runs: int, workers: int) -> list[Forecast]:
-    """Of so many seeds from the given one on. Only the first keeps its cards: the others' are not asked for."""
-    seeds = [(given.seed + number) % 2**64 for number in range(runs)]
+def forecasts(given: Settings, known: Deck, runs: int, workers: int | None,
+              done: Callable[[], None] = lambda: None) -> list[Forecast]:
+    """Of so many seeds from the given one on; `done` is called after each.
+
+    Only the first keeps its cards: the others' are not asked for.
+    """
     runner = Runner(given.config, given.parameters, known.cards)
+
+    def forecast(number: int) -> Forecast:
+        made = runner.forecast(given.desired_retention, (given.seed + number) % 2**64, with_cards=number == 0)
+        done()
+        return made
+
     try:
         # A refusal at the entry is the same for every seed, so the first run goes before the threads.
-        first = runner.forecast(given.desired_retention, seeds[0])
-        return [first, *runner.forecasts(given.desired_retention, seeds[1:], workers, with_cards=False)]
+        first = forecast(0)
+        with mapping(workers) as mapped:
+            return [first, *mapped(forecast, range(1, runs))]
     except Refusal as refusal:
         raise placed(given, known, refusal) from refusal

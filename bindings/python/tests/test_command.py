@@ -125,29 +125,6 @@ class Command(unittest.TestCase):
             told = f"{duration(sum(values) / 5)} ({duration(ends[0])} to {duration(ends[1])})"
             self.assertEqual(self.told(label, "--runs", 5).partition(",")[0], told)
 
-    def test_cheapest_is_quiet(self) -> None:
-        status, said, errors = run("cheapest", EXAMPLE)
-        self.assertEqual((status, errors), (0, ""))
-        self.assertIn("retention 0.7 costs least, 86.59116 seconds", said)
-
-    def test_cheapest_tells_a_terminal_its_trials(self) -> None:
-        class Terminal(io.StringIO):
-            def isatty(self) -> bool:
-                return True
-
-        errors = Terminal()
-        with contextlib.redirect_stdout(io.StringIO()), contextlib.redirect_stderr(errors):
-            self.assertEqual(main(["cheapest", str(EXAMPLE)]), 0)
-        self.assertRegex(errors.getvalue(), r"^(trial \d: retention 0\.\d+, mean \d+\.\d\d, \d+\.\d s\n){4}$")
-
-    def test_cheapest_of_no_street(self) -> None:
-        with tempfile.TemporaryDirectory() as folder:
-            path = Path(folder, "none.toml")
-            path.write_text(EXAMPLE.read_text().replace("learn_limit = 8", "learn_limit = 0"))
-            status, said, errors = run("cheapest", path)
-        self.assertEqual((status, said), (2, ""))
-        self.assertIn("no retention is the cheapest", errors)
-
     def test_nothing_is_written(self) -> None:
         rows, blocked = self.folder / "rows.csv", self.folder / "no folder" / "cards.csv"
         for other in [blocked, self.folder, rows, "/dev/null", f"{self.folder}/../{self.folder.name}/rows.csv"]:
@@ -182,10 +159,10 @@ class Command(unittest.TestCase):
 
     def test_card_is_told_by_its_place(self) -> None:
         deck = self.folder / "deck.csv"
-        deck.write_bytes(damage.DECK.replace(b"12.5,-10", b"12.5,99999999"))
+        deck.write_bytes(damage.DECK.replace(b"-10,2.5", b"-10,99999999"))
         for command in ["forecast", "cheapest"]:
             errors = run(command, EXAMPLE, "--deck", deck)[2]
-            self.assertIn("deck.csv: line 3, column 4 (last_date): refused 5 1: must be within", errors)
+            self.assertIn("deck.csv: line 3, column 5 (due): refused 5 1: must be within", errors)
 
     def test_setting_is_told_by_its_key(self) -> None:
         own, parameters = self.folder / "own.toml", EXAMPLE.read_text().split("]")[0] + "]\n"

@@ -5,7 +5,8 @@ import unittest
 from dataclasses import fields, replace
 
 from street_drill import Card, Mistake, SimulatorConfig, simulate
-from street_drill.deck import NO_DECK, of_text, updated
+from street_drill.deck import NO_DECK, of_text
+from street_drill.next_deck import updated
 from street_drill.decimals import exact, nearest
 
 from .common import PARAMETERS
@@ -26,7 +27,7 @@ def mistake_of(text: str) -> str:
 class Reading(unittest.TestCase):
     def test_cards(self) -> None:
         deck = of_text("d.csv", HEAD + "\n" + UNKNOWN + ROW)
-        self.assertEqual(deck.lines, (3, 4))
+        self.assertEqual(deck.lines, [3, 4])
         self.assertEqual(deck.cards[1], Card(5.0, 3.5, -2.0, 1.0, 3.0, nearest(exact("0.9")), 4, 1))
         self.assertEqual(deck.cards[0].stability, -math.inf)
 
