@@ -18,6 +18,7 @@ from datetime import date, timedelta
 from .decimals import shortest
 from .files import csv_text
 from .model import Forecast
+from .origin import Origin
 
 COLUMNS = ("learned", "reviewed", "correct", "introduced", "due", "cost", "memorized")
 # What is so at a day's end; the others are that day's own.
@@ -40,7 +41,7 @@ class Course:
     """A column has a value a day; a listing has no column `due`. There are no bands where there was one run.
 
     `columns` are the first run's, `each` those of every run where there are several. `first_day` is the date of day 0.
-    `notes` are what else a planner is to be told, each with its label.
+    `notes` are what else a planner is to be told, each with its label, and `origin` is what it was made from.
     """
 
     name: str
@@ -49,6 +50,7 @@ class Course:
     each: tuple[Columns, ...] = ()
     first_day: date | None = None
     notes: tuple[tuple[str, str], ...] = ()
+    origin: Origin | None = None
 
     @property
     def span(self) -> int:
@@ -101,20 +103,18 @@ def _band(runs: Sequence[Sequence[float]]) -> Band:
     return Band(*zip(*map(spread, zip(*runs))))
 
 
-def of_columns(name: str, runs: Sequence[Columns], first_day: date | None = None,
-               notes: Sequence[tuple[str, str]] = ()) -> Course:
+def of_columns(name: str, runs: Sequence[Columns]) -> Course:
     """The first run's course, with bands where there are more."""
     columns = {column: tuple(values) for column, values in runs[0].items()}
     if len(runs) == 1:
-        return Course(name, columns, {}, (), first_day, tuple(notes))
+        return Course(name, columns, {})
     bands = {column: _band([run[column] for run in runs]) for column in columns}
-    return Course(name, columns, bands, tuple(runs), first_day, tuple(notes))
+    return Course(name, columns, bands, tuple(runs))
 
 
-def of_runs(name: str, forecasts: Sequence[Forecast], first_day: date | None = None,
-            notes: Sequence[tuple[str, str]] = ()) -> Course:
+def of_runs(name: str, forecasts: Sequence[Forecast]) -> Course:
     """The first forecast's course, with bands where there are more."""
-    return of_columns(name, [_columns(forecast) for forecast in forecasts], first_day, notes)
+    return of_columns(name, [_columns(forecast) for forecast in forecasts])
 
 
 def line(course: Course, column: str) -> Sequence[float]:

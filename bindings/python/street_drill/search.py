@@ -2,13 +2,13 @@
 
 import math
 import time
-from collections.abc import Callable, Sequence
+from collections.abc import Callable, Iterable
 from dataclasses import dataclass
 from typing import Any
 
-from . import library
+from . import given, library
 from .errors import Refusal
-from .model import FIRST_TABLE, Card, Runner, SimulatorConfig
+from .model import FIRST_TABLE, Cards, Runner, SimulatorConfig
 from .threads import mapping
 
 MOST_ROUNDS = 64
@@ -52,7 +52,7 @@ def _tried(runner: Runner, number: int, retention: float, mapped: Callable[..., 
     return Trial(number, retention, mean, time.monotonic() - begun, held)
 
 
-def trial(config: SimulatorConfig, parameters: Sequence[float], cards: Sequence[Card] = (), *, retention: float,
+def trial(config: SimulatorConfig, parameters: Iterable[float], cards: Cards = (), *, retention: float,
           workers: int | None = None) -> Trial:
     """What a retention costs by the runs that the search would make for it; its number is 0."""
     with mapping(workers) as mapped:
@@ -65,7 +65,7 @@ def _optimum(found: library.Found) -> Optimum:
     return Optimum(found.retention, found.mean, found.rounds)
 
 
-def optimal_retention(config: SimulatorConfig, parameters: Sequence[float], cards: Sequence[Card] = (), *,
+def optimal_retention(config: SimulatorConfig, parameters: Iterable[float], cards: Cards = (), *,
                       rounds: int = MOST_ROUNDS, workers: int | None = None,
                       progress: Callable[[Trial], None] | None = None, table: int = FIRST_TABLE) -> Optimum:
     """The cheapest retention, each trial's runs on `workers` threads (all cores where it is None).
@@ -74,7 +74,7 @@ def optimal_retention(config: SimulatorConfig, parameters: Sequence[float], card
     rounds were not enough.
     """
     runner = Runner(config, parameters, cards, table)
-    if not 1 <= rounds <= MOST_ROUNDS:
+    if not 1 <= given.index("rounds", rounds) <= MOST_ROUNDS:
         # The library's own entry refuses these, in the order of its table.
         return _optimum(library.optimal_retention(runner.inputs, min(max(rounds, 0), MOST_ROUNDS + 1),
                                                   library.Lists(runner.inputs, table)))

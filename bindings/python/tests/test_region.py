@@ -49,7 +49,7 @@ class Region(unittest.TestCase):
         self.assertAlmostEqual(float(rows[1]["seconds"]), sum(day.cost for day in forecast.rows), places=2)
         held = [number for number, day in enumerate(forecast.rows) if day.memorized >= 100]
         self.assertEqual(rows[1]["opens"], str(held[0]) if held else "")
-        self.assertEqual(len(re.findall("<figure ", (self.out / "a.html").read_text())), 5)
+        self.assertEqual(len(re.findall('<figure [^>]*data-view="day"', (self.out / "a.html").read_text())), 5)
 
     def test_same_bytes(self) -> None:
         self.region("one", "--workers", 1)
