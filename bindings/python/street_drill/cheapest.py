@@ -1,5 +1,9 @@
-"""What the search for the cheapest retention found, for the terminal: the curve that it tried, and then its advice, or
-why there is none.
+"""What the search for the cheapest retention found, in words.
+
+  in_order   what was tried, by retention
+  curve      a line a trial
+  advice     what is advised, or why nothing is
+  told       a retention
 """
 
 import math
@@ -15,12 +19,22 @@ def told(retention: float) -> str:
     return f"{retention:.4f}".rstrip("0")
 
 
-def _curve(trials: Sequence[Trial], present: Trial) -> str:
-    lines = ["  retention  seconds a street held  streets held"]
+def in_order(path: str, tried: Sequence[Trial], present: Trial) -> list[Trial]:
+    """All by their retention, the present setting's among them; a mistake where no retention can be the cheapest."""
+    trials = sorted({each.retention: each for each in [present, *tried]}.values(), key=lambda each: each.retention)
+    if any(math.isnan(each.mean) for each in trials) or not 0 <= min(each.mean for each in trials) < math.inf:
+        raise Mistake(path, "what a trial costs for each street held is no time, as where none is held at its end: no "
+                      "retention is the cheapest")
+    return trials
+
+
+def curve(trials: Sequence[Trial], present: Trial) -> str:
+    """A line a trial."""
+    lines = ["  retention  seconds a street held  streets held\n"]
     for each in trials:
         mark = "  the present setting" if each.retention == present.retention else ""
-        lines.append(f"  {told(each.retention):<9}  {each.mean:>21.2f}  {each.held:>12.1f}{mark}")
-    return "\n".join(lines)
+        lines.append(f"  {told(each.retention):<9}  {each.mean:>21.2f}  {each.held:>12.1f}{mark}\n")
+    return "".join(lines)
 
 
 def _advice(trials: Sequence[Trial], streets: Streets) -> str:
@@ -46,16 +60,13 @@ def _beside(best: Trial, present: Trial) -> str:
             f"({more / best.mean:.0%}), and holds {abs(present.held - best.held):.1f} streets {fewer}")
 
 
-def answer(path: str, tried: Sequence[Trial], present: Trial, streets: Streets) -> str:
-    """The curve and the advice."""
-    trials = sorted({each.retention: each for each in [present, *tried]}.values(), key=lambda each: each.retention)
+def advice(trials: Sequence[Trial], present: Trial, streets: Streets) -> list[str]:
+    """What is advised, or why nothing is, and what the present setting costs."""
     best = min(trials, key=lambda each: each.mean)
-    if any(math.isnan(each.mean) for each in trials) or not 0 <= best.mean < math.inf:
-        raise Mistake(path, "what a trial costs for each street held is no time, as where none is held at its end: no "
-                      "retention is the cheapest")
-    lines = [_curve(trials, present), f"  {_advice(trials, streets)}"]
-    if best is not present:
-        lines.append(f"  {_beside(best, present)}")
+    lines = [_advice(trials, streets)]
+    if best.retention != present.retention:
+        lines.append(_beside(best, present))
     if streets.known and streets.new:
-        lines.append(f"  desired_retention is for the {streets.new:,} new streets; the deck's {streets.known:,} keep theirs")
-    return "\n".join(lines) + "\n"
+        lines.append(f"desired_retention is for the {streets.new:,} new streets; "
+                     f"the deck's {streets.known:,} keep theirs")
+    return lines

@@ -4,13 +4,14 @@ Exit status: 0, or 2 with a line for each thing that is wrong, and where.
 """
 
 import argparse
+import math
 import sys
 from collections.abc import Iterable, Sequence
 from pathlib import Path
 
-from . import cheapest, cluster, course, deck, depots, facts, files, listing, next_deck, options, periods, places, region, runs
-from . import settings, streets, text
-from .course import Course, Table
+from . import cheapest, cluster, course, curve, deck, depots, facts, files, listing, next_deck, options, periods
+from . import places, region, runs, settings, streets, text
+from .course import Course
 from .deck import Deck
 from .errors import Mistake, Mistakes, Refusal
 from .library import LibraryMissing
@@ -58,10 +59,6 @@ def _deck(path: str | None, given: Settings) -> Deck:
     return streets.prepared(given, known)
 
 
-def _tables(drawn: Course) -> list[Table]:
-    return [periods.weeks_table(drawn), periods.months_table(drawn), course.days_table(drawn)]
-
-
 def _forecast(asked: argparse.Namespace) -> None:
     given = [settings.read(path, options.sources(asked)) for path in asked.settings]
     courses: list[Course] = []
@@ -69,20 +66,20 @@ def _forecast(asked: argparse.Namespace) -> None:
     with progress("forecast", asked.runs * len(given), asked.quiet) as told:
         for each in given:
             known = _deck(asked.deck, each)
-            made = runs.forecasts(each, known, asked.runs, asked.workers, told.done)
-            drawn = course.of_runs(each.name, made, each.first_day, streets.notes(each, known))
+            drawn, cards = runs.drilled(each, known, asked.runs, asked.workers, told.done)
             courses.append(drawn)
             if asked.rows:
                 _add(texts, _named(asked.rows, each, given), course.as_csv(course.days_table(drawn)))
             if asked.weeks:
                 _add(texts, _named(asked.weeks, each, given), course.as_csv(periods.weeks_table(drawn)))
             if asked.cards:
-                after = next_deck.updated(known, made[0].cards, each.config.learn_span)
+                after = next_deck.updated(known, cards, each.config.learn_span)
                 _add(texts, _named(asked.cards, each, given), after)
         if asked.page:
-            _add(texts, asked.page, page(courses, asked.open, [table for each in courses for table in _tables(each)]))
+            _add(texts, asked.page, page(courses, asked.open))
     # The deck may be followed by its next one under the same name.
-    sources = [*asked.settings, *([asked.deck] if asked.deck and asked.deck != asked.cards else [])]
+    sources = [path for each in given for path in each.sources]
+    sources += [asked.deck] if asked.deck and asked.deck != asked.cards else []
     _write(texts, sources, "".join(facts.summary(each, asked.open) for each in courses))
 
 
@@ -93,9 +90,8 @@ def _trial_line(each: Trial) -> str:
     return f"trial {each.number}: retention {cheapest.told(each.retention)}, mean {each.mean:.2f}, {each.seconds:.1f} s"
 
 
-def _cheapest(asked: argparse.Namespace) -> None:
-    given = settings.read(asked.settings, options.sources(asked))
-    known = _deck(asked.deck, given)
+def _search(asked: argparse.Namespace, given: Settings, known: Deck) -> tuple[list[Trial], Trial]:
+    """The trials of the search, and one of the present setting."""
     tried: list[Trial] = []
     with progress("cheapest", quiet=asked.quiet) as told:
 
@@ -106,16 +102,31 @@ def _cheapest(asked: argparse.Namespace) -> None:
         try:
             inputs = given.config, given.parameters, known.cards
             optimal_retention(*inputs, workers=asked.workers, progress=show)
-            present = trial(*inputs, retention=given.desired_retention, workers=asked.workers)
+            return tried, trial(*inputs, retention=given.desired_retention, workers=asked.workers)
         except Refusal as refusal:
             raise places.placed(given, known, refusal) from refusal
-    print(f"{given.name}\n{cheapest.answer(given.path, tried, present, streets.counts(given, known))}", end="")
+
+
+def _cheapest(asked: argparse.Namespace) -> None:
+    given = settings.read(asked.settings, options.sources(asked))
+    known = _deck(asked.deck, given)
+    tried, present = _search(asked, given, known)
+    trials = cheapest.in_order(given.path, tried, present)
+    advice = cheapest.advice(trials, present, streets.counts(given, known))
+    texts: dict[str, str] = {}
+    if asked.page:
+        drawn = [each for each in trials if math.isfinite(each.mean)]
+        texts[asked.page] = curve.page(given.name, drawn, present, advice)
+    told = "".join(f"  {line}\n" for line in advice)
+    _write(texts, [*given.sources, *([asked.deck] if asked.deck else [])],
+           f"{given.name}\n{cheapest.curve(trials, present)}{told}")
 
 
 def _page(asked: argparse.Namespace) -> None:
     courses = [listing.read(path) for path in asked.listings]
     path = asked.page or str(Path(asked.listings[0]).with_suffix(".html"))
-    _write({path: page(courses, asked.open)}, asked.listings, "".join(facts.summary(each, asked.open) for each in courses))
+    told = "".join(facts.summary(each, asked.open) for each in courses)
+    _write({path: page(courses, asked.open)}, asked.listings, told)
 
 
 def _region(asked: argparse.Namespace) -> None:
@@ -127,7 +138,7 @@ def _region(asked: argparse.Namespace) -> None:
         courses = region.courses(asked.folder, listed, asked.runs, mapped, told.done)
     whole = region.total(courses)
     texts = {asked.summary: course.as_csv(depots.table(courses, asked.open))}
-    _add(texts, asked.page, page([whole], tables=[depots.page_table(courses, asked.open), *_tables(whole)]))
+    _add(texts, asked.page, page([whole], tables=[depots.page_table(courses, asked.open)]))
     _write(texts, region.sources(listed), facts.summary(whole, None) + depots.lines(courses, asked.open))
 
 

@@ -103,20 +103,18 @@ def _band(runs: Sequence[Sequence[float]]) -> Band:
     return Band(*zip(*map(spread, zip(*runs))))
 
 
-def of_columns(name: str, runs: Sequence[Columns], first_day: date | None = None,
-               notes: Sequence[tuple[str, str]] = ()) -> Course:
+def of_columns(name: str, runs: Sequence[Columns]) -> Course:
     """The first run's course, with bands where there are more."""
     columns = {column: tuple(values) for column, values in runs[0].items()}
     if len(runs) == 1:
-        return Course(name, columns, {}, (), first_day, tuple(notes))
+        return Course(name, columns, {})
     bands = {column: _band([run[column] for run in runs]) for column in columns}
-    return Course(name, columns, bands, tuple(runs), first_day, tuple(notes))
+    return Course(name, columns, bands, tuple(runs))
 
 
-def of_runs(name: str, forecasts: Sequence[Forecast], first_day: date | None = None,
-            notes: Sequence[tuple[str, str]] = ()) -> Course:
+def of_runs(name: str, forecasts: Sequence[Forecast]) -> Course:
     """The first forecast's course, with bands where there are more."""
-    return of_columns(name, [_columns(forecast) for forecast in forecasts], first_day, notes)
+    return of_columns(name, [_columns(forecast) for forecast in forecasts])
 
 
 def line(course: Course, column: str) -> Sequence[float]:

@@ -80,12 +80,13 @@ def parser() -> _Parser:
     forecast.add_argument("--page", metavar="PAGE.html", help="write pictures and tables, for a browser")
     cheapest = commands.add_parser("cheapest", parents=[known, made], help="the retention that costs least a street")
     cheapest.add_argument("settings", metavar="SETTINGS.toml")
+    cheapest.add_argument("--page", metavar="PAGE.html", help="write what was tried as a picture")
     drawn = commands.add_parser("page", parents=[opened], help="the page of what the program forecast printed")
     drawn.add_argument("listings", nargs="+", metavar="LISTING.txt")
     drawn.add_argument("--page", metavar="PAGE.html", help="default: the first listing's name with .html")
     _add_region(commands.add_parser("region", parents=[opened, made], help="a forecast of each settings file"))
     told = commands.add_parser("text", help="a text as the program forecast reads it, with a status for scripts")
-    told.add_argument("--program", metavar="PROGRAM", default=text.PROGRAM, help=f"forecast or cheapest ({text.PROGRAM})")
+    told.add_argument("--program", default=text.PROGRAM, help=f"forecast or cheapest ({text.PROGRAM})")
     return own
 
 

@@ -40,7 +40,7 @@ DEFAULTS = {**{field.name: _text(field.default) for field in fields(SimulatorCon
 
 def origin(given: Settings, known: Deck) -> Origin:
     """Of a settings file and the deck that it was run with."""
-    names = [field.name for field in fields(given) if field.name not in ("path", "config", "places")]
+    names = [field.name for field in fields(given) if field.name not in ("path", "config", "places", "sources")]
     others = {name: getattr(given, name) for name in names}
     config = {field.name: getattr(given.config, field.name) for field in fields(given.config)}
     texts = {name: _text(value) for name, value in {**others, **config}.items() if value is not None}

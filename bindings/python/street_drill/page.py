@@ -136,12 +136,13 @@ def _is_long(table: Table) -> bool:
     return len(rows) > _MOST_ROWS
 
 
-def _table(number: int, table: Table) -> str:
-    """Closed, but for one that has no row a day, week or month. The rows of a long one are the script's."""
+def _table(number: int, table: Table, is_open: bool) -> str:
+    """The rows of a long one are the script's."""
     name, names, rows = table
     own, body = (f' data-table="{number}"', "") if _is_long(table) else ("", f"\n{_body(rows)}\n")
-    kind, state = ("days", "") if names[0] in ("day", "week", "month") else ("named", " open")
-    return (f'<details class="rows{" many" if len(names) > 12 else ""}"{own}{state}><summary>{escape(name)}</summary>\n'
+    kind = "days" if names[0] in ("day", "week", "month") else "named"
+    state = f"{own}{' open' if is_open else ''}"
+    return (f'<details class="rows{" many" if len(names) > 12 else ""}"{state}><summary>{escape(name)}</summary>\n'
             f'<div class="scroll"><table class="{kind}"><thead><tr>{"".join(_heads(names, rows[0]))}</tr></thead>\n'
             f"<tbody>{body}</tbody></table></div></details>")
 
@@ -205,17 +206,18 @@ def document(title: str, parts: Sequence[str], rules: str = "", values: str = "{
 
 def page(given: Sequence[Course], streets: int | None = None, tables: Sequence[Table] = (),
          made: date | None = None) -> str:
-    """The page of courses: `streets` is what --open asks for, and `made` the day, today where it is None. Without
-    tables it has those of the courses' weeks, months and days."""
+    """The page of courses: `streets` is what --open asks for, and `made` the day, today where it is None. The given
+    tables stand open; behind them are those of the courses' weeks, months and days."""
     courses = head.told_apart(given)
     shown = views(courses)
     columns = [column for column in picture.TITLES if any(column in course.columns for course in courses)]
     legend = _legend(courses)
     pictures = [picture.picture(view, courses, column, streets, legend) for column in columns for view in shown]
-    listed = tables or [table(course) for course in courses for table in (weeks_table, months_table, days_table)]
+    own = [table(course) for course in courses for table in (weeks_table, months_table, days_table)]
+    listed = [*tables, *own]
     return document(_title(courses), [
         _made(courses, made or date.today()),
         f"<main>\n{_summary(courses, streets, shown)}", *pictures, "</main>",
         "<p>Days count from 0; cost is in seconds, memorized is the number of streets held in memory.</p>",
-        *(_table(number, table) for number, table in enumerate(listed)),
+        *(_table(number, table, number < len(tables)) for number, table in enumerate(listed)),
     ], _off(courses), _values(courses, shown, listed))

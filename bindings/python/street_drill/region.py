@@ -8,7 +8,7 @@
 import math
 import os
 from collections.abc import Callable, Iterable, Sequence
-from dataclasses import dataclass
+from dataclasses import dataclass, replace
 from functools import partial
 from pathlib import Path
 
@@ -81,7 +81,8 @@ def notes(folder: str, depots: Sequence[Depot], outputs: Iterable[str]) -> list[
 
 def sources(depots: Sequence[Depot]) -> list[str]:
     """The files that were read."""
-    return [path for depot in depots for path in (depot.path, depot.deck_path)]
+    own = [path for depot in depots if isinstance(depot.given, Settings) for path in depot.given.sources]
+    return [*own, *(depot.deck_path for depot in depots)]
 
 
 # ---- forecasts
@@ -96,7 +97,8 @@ def _course(depot: Depot, number: int) -> Course | Mistake:
         day = given.first_day
         known = deck.no_deck(day) if depot.deck is None else deck.of_text(depot.deck_path, depot.deck, day)
         known = streets.prepared(given, known)
-        return course.of_runs(given.name, runs.forecasts(given, known, number, 1), day, streets.notes(given, known))
+        drawn, _ = runs.drilled(given, known, number, 1)
+        return drawn
     except Mistake as mistake:
         return mistake
 
@@ -146,4 +148,4 @@ def total(depots: Sequence[Course]) -> Course:
     days = range(max(depot.span for depot in depots))
     sums = [{column: tuple(total_of([_on(run, column, day) for run in together]) for day in days) for column in COLUMNS}
             for together in zip(*(depot.runs for depot in depots))]
-    return course.of_columns(f"region of {len(depots)} depots", sums, depots[0].first_day)
+    return replace(course.of_columns(f"region of {len(depots)} depots", sums), first_day=depots[0].first_day)

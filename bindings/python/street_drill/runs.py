@@ -1,10 +1,18 @@
-"""Forecasts of settings and a deck for one or more seeds."""
+"""Forecasts of settings and a deck for one or more seeds.
 
-from collections.abc import Callable
+  forecasts   what the library gives
+  drilled     the same as a course, and the cards that the first run leaves
+"""
 
+from collections.abc import Callable, Sequence
+from dataclasses import replace
+
+from . import course, streets
+from .course import Course
 from .deck import Deck
 from .errors import Refusal
-from .model import Forecast, Runner
+from .model import Card, Forecast, Runner
+from .origin import origin
 from .places import placed
 from .settings import Settings
 from .threads import mapping
@@ -30,3 +38,12 @@ def forecasts(given: Settings, known: Deck, runs: int, workers: int | None,
             return [first, *mapped(forecast, range(1, runs))]
     except Refusal as refusal:
         raise placed(given, known, refusal) from refusal
+
+
+def drilled(given: Settings, known: Deck, runs: int, workers: int | None,
+            done: Callable[[], None] = lambda: None) -> tuple[Course, Sequence[Card]]:
+    """The course of so many runs, and the first one's cards."""
+    made = forecasts(given, known, runs, workers, done)
+    drawn = course.of_runs(given.name, made)
+    return replace(drawn, first_day=given.first_day, notes=tuple(streets.notes(given, known)),
+                   origin=origin(given, known)), made[0].cards

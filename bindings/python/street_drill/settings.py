@@ -30,7 +30,7 @@ class Settings:
     """What one file says. `path` is its name as the planner wrote it.
 
     `first_day` is the date of day 0. `desired_retention` is for new streets; `desired_retention_for_deck` for the
-    deck's, which keep their own where it is None. `places` tells which option set a key.
+    deck's, which keep their own where it is None. `places` tells which option set a key, `sources` are the files read.
     """
 
     path: str
@@ -41,6 +41,7 @@ class Settings:
     desired_retention_for_deck: float | None = None
     first_day: date | None = None
     places: Mapping[str, str] = field(default_factory=dict)
+    sources: tuple[str, ...] = ()
 
     @property
     def name(self) -> str:
@@ -48,8 +49,8 @@ class Settings:
         return Path(self.path).stem
 
     def place(self, key: str) -> str:
-        """Where a key is set, or would be."""
-        return f"{self.places.get(key, self.path)}: {key}"
+        """Where a key is set, or would be; it may have an index."""
+        return f"{self.places.get(key.partition('[')[0], self.path)}: {key}"
 
 
 # ---- parameters from a file of their own
@@ -115,6 +116,8 @@ def _values(source: Source, folder: Path, mistakes: list[Mistake]) -> dict[str, 
     values: dict[str, Any] = {}
     try:
         for key, value in _parsed(place, text).items():
+            if key == "parameters" and type(value) is str:
+                values["sources"] = (str(folder / value),)
             try:
                 values[key] = _value(key, value, folder)
             except Wrong as wrong:
@@ -150,6 +153,7 @@ def of_text(path: str, text: str, options: Sequence[Source] = ()) -> Settings:
         desired_retention_for_deck=values.get("desired_retention_for_deck"),
         first_day=values.get("first_day"),
         places=places,
+        sources=(path, *values.get("sources", ())),
     )
     _check_calendar(given)
     return given

@@ -1,7 +1,7 @@
 """A text as the program `forecast` reads it, with an exit status.
 
-The program itself reads it and makes the run: its reading is proved, and a second one in Python could differ. Rattle has
-no exit status yet, so what was printed is judged here: a refusal, a listing that is whole, or neither.
+The program itself reads it and makes the run: its reading is proved, and a second one in Python could differ. Rattle
+has no exit status, so what was printed is judged here: a refusal, a listing that is whole, or neither.
 """
 
 import math
@@ -26,7 +26,8 @@ def _printed(program: str) -> str:
         ended = subprocess.run([program], stdout=subprocess.PIPE, check=True)
         return ended.stdout.decode("ascii")
     except OSError as error:
-        raise Mistake(program, f"{error.strerror}; tools/build forecast makes the program, --program names it") from error
+        told = f"{error.strerror}; tools/build forecast makes the program, and --program names it"
+        raise Mistake(program, told) from error
     except (subprocess.CalledProcessError, UnicodeDecodeError) as error:
         raise Mistake(program, "did not end as it should") from error
 

@@ -8,7 +8,7 @@ import unittest
 from pathlib import Path
 
 from street_drill import Mistake, optimal_retention, settings
-from street_drill.cheapest import answer
+from street_drill.cheapest import advice, in_order
 from street_drill.command import main
 from street_drill.model import Runner
 from street_drill.search import Trial
@@ -28,14 +28,15 @@ def trials(means: dict[float, float]) -> list[Trial]:
 
 def answered(present: float, means: dict[float, float], streets: Streets = Streets(0, 120)) -> str:
     tried = trials(means)
-    return answer("s.toml", tried, next(each for each in tried if each.retention == present), streets)
+    own = next(each for each in tried if each.retention == present)
+    return "".join(f"{line}\n" for line in advice(in_order("s.toml", tried, own), own, streets))
 
 
 class Advice(unittest.TestCase):
     def test_within(self) -> None:
         said = answered(0.9, {0.7: 12.0, 0.8: 10.0, 0.85: 11.0, 0.9: 15.0})
-        self.assertIn("  retention 0.8 costs least\n", said)
-        self.assertIn("  the present 0.9 costs 5.00 seconds a street more (50%), and holds 10.0 streets more\n", said)
+        self.assertIn("retention 0.8 costs least\n", said)
+        self.assertIn("the present 0.9 costs 5.00 seconds a street more (50%), and holds 10.0 streets more\n", said)
 
     def test_present_is_best(self) -> None:
         said = answered(0.8, {0.7: 12.0, 0.8: 10.0, 0.9: 15.0})
