@@ -106,7 +106,7 @@ def _row(place: int, card: Any) -> tuple[Any, ...]:
 
 def cards(given: Any) -> tuple["array[Any]", "array[Any]"]:
     """Of cards or mappings, or of columns by name, as a data frame has them: the floats of all, and their counts."""
-    by_name = isinstance(given, Mapping) or hasattr(given, "columns")
+    by_name = isinstance(given, Mapping) or (hasattr(given, "columns") and hasattr(given, "__getitem__"))
     rows = list(_columns(given)) if by_name else [_row(*each) for each in enumerate(_listed("cards", given))]
     width = len(CARD_FLOATS)
 

@@ -8,15 +8,15 @@
 
 import math
 from array import array
-from collections.abc import Iterable, Iterator, Mapping, Sequence
+from collections.abc import Iterable, Iterator, Mapping
 from dataclasses import dataclass, fields
 from typing import Any
 
 from . import given, library
 from .errors import Refusal
 from .given import CARD_COUNTS as CARD_COUNTS
-from .threads import mapping
 from .given import CARD_FLOATS as CARD_FLOATS
+from .threads import mapping
 
 NO_LIMIT = 4_294_967_295
 SEED = 42

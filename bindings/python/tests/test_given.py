@@ -82,7 +82,8 @@ class Given(unittest.TestCase):
         self.raises("card 1 has no reps", lambda: simulate(SMALL, PARAMETERS, [KNOWN, {
             name: value for name, value in asdict(KNOWN).items() if name != "reps"}]))
         self.raises("card 0 has no difficulty", lambda: simulate(SMALL, PARAMETERS, [3.5]))
-        self.raises("cards must be a list", lambda: simulate(SMALL, PARAMETERS, 3))
+        for wrong in [3, simulate(SMALL, PARAMETERS)]:
+            self.raises("cards must be a list", lambda: simulate(SMALL, PARAMETERS, wrong))
 
     def test_a_column_is_named(self) -> None:
         columns = by_columns(CARDS)
