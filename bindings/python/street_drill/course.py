@@ -71,7 +71,8 @@ class Course:
         return f"{self.date(day)} (day {day})" if self.first_day else f"day {day}"
 
 
-def _columns(forecast: Forecast) -> Columns:
+def columns_of(forecast: Forecast) -> Columns:
+    """They take much less room than the forecast's rows."""
     rows, span = forecast.rows, len(forecast.rows)
     counts = {name: array("I", [getattr(day, name) for day in rows])
               for name in ("learned", "reviewed", "correct", "introduced")}
@@ -114,7 +115,7 @@ def of_columns(name: str, runs: Sequence[Columns]) -> Course:
 
 def of_runs(name: str, forecasts: Sequence[Forecast]) -> Course:
     """The first forecast's course, with bands where there are more."""
-    return of_columns(name, [_columns(forecast) for forecast in forecasts])
+    return of_columns(name, list(map(columns_of, forecasts)))
 
 
 def line(course: Course, column: str) -> Sequence[float]:

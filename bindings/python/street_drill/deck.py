@@ -140,6 +140,8 @@ def _makes_sense(card: Card) -> bool:
 
 def _odd_cells(card: Card, texts: Sequence[str]) -> Iterator[tuple[str, str]]:
     """What the library takes of a drilled street and makes no sense; what is not finite is for the library to tell."""
+    if not is_kept(card):
+        return
     rules = {
         "difficulty": (1 <= card.difficulty <= 10 or card.last_date == -math.inf, "is not within 1 and 10"),
         "last_date": (card.last_date <= 0, "is after the forecast's first day"),
@@ -210,19 +212,26 @@ class _Reading:
             self._mistakes.append((line, Mistake(f"{self._table.path}: line {line}", sentence)))
         return "." if "." in seen or self._table.delimiter == "\t" and not seen else ","
 
+    def _check_row(self, row: int) -> None:
+        """Its cells one by one, and where each can be read the street that they make."""
+        texts = self._texts(row)
+        wrong = list(_wrong_cells(self._readers, texts))
+        if not wrong:
+            values: Iterator[Any] = (self._readers[name](text) for name, text in zip(FIELDS, texts))
+            wrong = list(_odd_cells(Card(*values), texts))
+        for name, sentence in wrong:
+            self._tell(row, name, sentence)
+
     def cards(self) -> tuple[tuple[Card, ...], str]:
         """The cards, and the mark before a number's fraction."""
         cards: list[Card] = []
         try:
             cards = self._cards()
+            odd = [row for row, card in enumerate(cards) if not _makes_sense(card)]
         except ValueError:
-            for row in set(range(len(self._table.rows))) - self._blank:
-                for name, sentence in _wrong_cells(self._readers, self._texts(row)):
-                    self._tell(row, name, sentence)
-        for row, card in enumerate(cards):
-            if not _makes_sense(card):
-                for name, sentence in _odd_cells(card, self._texts(row)):
-                    self._tell(row, name, sentence)
+            odd = [row for row in range(len(self._table.rows)) if row not in self._blank]
+        for row in odd:
+            self._check_row(row)
         self._check_twice()
         point = self._check_points()
         raise_all(self._table.path, [mistake for _, mistake in sorted(self._mistakes, key=itemgetter(0))])

@@ -12,6 +12,9 @@ from .library import MOST_DAYS
 _COUNT = r"(\d{1,10})"
 _FIRST = re.compile(rf"\(forecast {_COUNT} \(turns {_COUNT}\) \(cards {_COUNT}\)\)", re.ASCII)
 _REFUSED = re.compile(rf"\(refused {_COUNT} {_COUNT}\)", re.ASCII)
+# The programs have limits of their own.
+_SMALLER = {2: "the deck is 0 or above 512", 3: "the span is not 1 to 730",
+            8: "more than 4,096 different intervals are needed"}
 _DAY = re.compile(
     rf"\(day {_COUNT} \(learn {_COUNT}\) \(review {_COUNT}\) \(correct {_COUNT}\) \(introduced {_COUNT}\) "
     r"\(cost ([0-9A-F]{8})\) \(held ([0-9A-F]{8})\)\)", re.ASCII)
@@ -23,9 +26,18 @@ def float_of(bits: str) -> float:
     return value
 
 
+def refused(line: str) -> str | None:
+    """What a refusal's line says, None where it is none."""
+    found = _REFUSED.fullmatch(line)
+    if not found:
+        return None
+    refusal = Refusal(int(found[1]), int(found[2]))
+    return f"refused {found[1]} {found[2]}: {_SMALLER.get(refusal.number, refusal.sentence)}"
+
+
 def _span(path: str, line: str) -> int:
-    if refused := _REFUSED.fullmatch(line):
-        raise Mistake(f"{path}: line 1", str(Refusal(int(refused[1]), int(refused[2]))))
+    if told := refused(line):
+        raise Mistake(f"{path}: line 1", told)
     first = _FIRST.fullmatch(line)
     if not first or not 1 <= int(first[1]) <= MOST_DAYS:
         raise Mistake(f"{path}: line 1", "is not the first line of a forecast")

@@ -10,7 +10,10 @@ import sys
 from pathlib import Path
 
 from . import __version__, text
+from .decimals import exact
 from .settings import Source
+
+_Parser = argparse.ArgumentParser
 
 # A mean of so many runs is off by some hundredths of the spread, and more of them would fill the memory.
 MOST_RUNS = 1000
@@ -35,15 +38,22 @@ def _runs(text: str) -> int:
 
 _runs.__name__ = f"whole number from 1 to {MOST_RUNS}"
 
-_Parser = argparse.ArgumentParser
+
+def _number(text: str) -> str:
+    """As the settings read it, which round it once."""
+    return str(exact(text))
+
+
+_number.__name__ = "number"
 
 
 def _made() -> _Parser:
     """What commands that make runs have in common."""
     made = _Parser(add_help=False)
     made.add_argument("--set", action="append", default=[], metavar="KEY=VALUE", help="a setting, before the file's")
-    made.add_argument("--seed", metavar="SEED", help="as --set seed=SEED")
-    made.add_argument("--retention", metavar="RETENTION", help="as --set desired_retention=RETENTION")
+    made.add_argument("--seed", type=int, metavar="SEED", help="as --set seed=SEED")
+    made.add_argument("--retention", type=_number, metavar="RETENTION",
+                      help="as --set desired_retention=RETENTION")
     made.add_argument("--workers", type=_positive, default=os.cpu_count(), help="runs at once (default: all cores)")
     made.add_argument("--quiet", action="store_true", help="tell no progress on the terminal")
     return made
@@ -100,6 +110,6 @@ def _add_region(parser: _Parser) -> None:
 
 def sources(options: argparse.Namespace) -> list[Source]:
     """In their order a later one goes before an earlier one, and the short options go before --set."""
-    told = [("--set", text) for text in options.set]
+    told = [(f"--set {text[:80]!r}", text) for text in options.set]
     short = [("--seed", "seed", options.seed), ("--retention", "desired_retention", options.retention)]
     return [*told, *((option, f"{key} = {value}") for option, key, value in short if value is not None)]

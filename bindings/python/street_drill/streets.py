@@ -34,6 +34,6 @@ def notes(given: Settings, known: Deck) -> list[tuple[str, str]]:
         return []
     own = sorted({card.desired_retention for card in known.kept})
     told = shortest(own[0]) if len(own) == 1 else f"{shortest(own[0])} to {shortest(own[-1])}"
-    whose = "their own, of the" if given.desired_retention_for_deck is None else "of the"
-    new = f"; {shortest(to_f32(given.desired_retention))} of {streets.new:,} new ones" if streets.new else ""
-    return [("retention", f"{told}, {whose} deck's {streets.known:,} streets{new}")]
+    keep = "keep their own," if given.desired_retention_for_deck is None else "are reviewed at"
+    new = f"{shortest(to_f32(given.desired_retention))} for {streets.new:,} new streets; " if streets.new else ""
+    return [("retention", f"{new}the deck's {streets.known:,} {keep} {told}")]

@@ -34,6 +34,8 @@ def _printed(program: str) -> str:
 
 def _check(printed: str) -> None:
     """A mistake where it is no answer."""
+    if told := listing.refused(printed.removesuffix("\n")):
+        raise Mistake(_INPUT, told)
     found = _CHEAPEST.fullmatch(printed)
     if not found:
         listing.of_text(_INPUT, printed)

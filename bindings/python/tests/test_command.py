@@ -5,10 +5,12 @@ import csv
 import errno
 import io
 import os
+import re
 import signal
 import subprocess
 import sys
 import tempfile
+import textwrap
 import time
 import unittest
 import unittest.mock
@@ -152,6 +154,13 @@ class Command(unittest.TestCase):
             errors = run("forecast", EXAMPLE, "--rows", rows, "--page", page)[2]
         self.assertEqual(errors, f"street_drill: {page}: No space left on device\n")
         self.assertEqual((os.listdir(self.folder), rows.read_text()), (["rows.csv"], "before"))
+
+    def test_first_screen_of_the_readme(self) -> None:
+        """It shows what the command prints."""
+        readme = (PACKAGE / "README.md").read_text()
+        asked, told = re.search(r"street-drill (forecast .*)\n\n((    .*\n)+)", readme).groups()[:2]
+        words = [PACKAGE / word if word.startswith("examples/") else word for word in asked.split()]
+        self.assertEqual(textwrap.dedent(told), run(*words)[1])
 
     def test_missing_files(self) -> None:
         self.assertEqual(run("forecast", "none.toml"), (2, "", "street_drill: none.toml: No such file or directory\n"))
