@@ -5,8 +5,8 @@ import ctypes
 import logging
 import re
 import signal
-from collections.abc import Iterator
-from concurrent.futures import Executor, ProcessPoolExecutor
+from collections.abc import Callable, Iterator
+from concurrent.futures import BrokenExecutor, ProcessPoolExecutor
 from typing import Any
 
 from .errors import Mistake
@@ -18,21 +18,36 @@ _ADDRESS = re.compile(r"((tcp|tls)://)?([\w.-]+|\[[\da-f:.]+\]):\d{1,5}", re.ASC
 
 
 @contextlib.contextmanager
-def executor(scheduler: str | None, workers: int) -> Iterator[Executor]:
-    """So many processes of this machine, or the workers of the cluster whose scheduler has that address."""
+def mapping(scheduler: str | None, workers: int) -> Iterator[Callable[..., Any]]:
+    """`map` on so many processes of this machine, or on the workers of the cluster whose scheduler has that address."""
     if scheduler is None:
-        with ProcessPoolExecutor(workers, initializer=_end_with_parent) as processes:
-            yield processes
+        with _processes(workers) as mapped:
+            yield mapped
         return
     with _client(scheduler) as client:
         try:
-            yield client.get_executor()
+            yield client.get_executor().map
         except (Mistake, LibraryMissing):
             raise
         except Exception as error:
             # A worker that lacks the package or is lost raises whatever it likes.
             sentence = f"{type(error).__name__} {error}".splitlines()[0]
             raise Mistake(scheduler, f"the cluster failed: {sentence}") from error
+
+
+@contextlib.contextmanager
+def _processes(workers: int) -> Iterator[Callable[..., Any]]:
+    """One worker needs no other process."""
+    if workers == 1:
+        yield map
+        return
+    try:
+        with ProcessPoolExecutor(workers, initializer=_end_with_parent) as processes:
+            yield processes.map
+    except BrokenExecutor as error:
+        raise Mistake("--workers", "a worker ended before its forecast") from error
+    except BlockingIOError as error:
+        raise Mistake("--workers", f"no process can be started: {error.strerror}; 1 needs none") from error
 
 
 def _end_with_parent() -> None:

@@ -1,85 +1,30 @@
-"""The planner's command: `python3 -m street_drill forecast|cheapest|page|region ..`.
+"""The planner's command: `python3 -m street_drill forecast|cheapest|page|region|text ..`.
 
-Exit status: 0, or 2 with a line that says what is wrong and where.
+Exit status: 0, or 2 with a line for each thing that is wrong, and where.
 """
 
 import argparse
 import math
-import os
 import sys
-from collections.abc import Sequence
+from collections.abc import Iterable, Sequence
 from pathlib import Path
 
-from . import cluster, course, deck, files, listing, places, region, runs, settings
+from . import cheapest, cluster, course, curve, deck, depots, facts, files, listing, next_deck, options, periods
+from . import places, region, runs, settings, streets, text
 from .course import Course
-from .deck import NO_DECK
-from .decimals import shortest
+from .deck import Deck
 from .errors import Mistake, Mistakes, Refusal
 from .library import LibraryMissing
 from .page import page
-from .search import Trial, optimal_retention
+from .progress import progress
+from .search import Trial, optimal_retention, trial
+from .settings import Settings
+
+# Options that name a file.
+_FILES = ("deck", "rows", "weeks", "cards", "page", "summary")
 
 
-def _positive(text: str) -> int:
-    number = int(text)
-    if not 1 <= number < 2**32:
-        raise ValueError
-    return number
-
-
-_positive.__name__ = "whole number from 1 to 4294967295"
-
-
-def _parser() -> argparse.ArgumentParser:
-    parser = argparse.ArgumentParser(prog="python3 -m street_drill", description="Forecasts a street drill.")
-    commands = parser.add_subparsers(dest="command", required=True)
-    made = argparse.ArgumentParser(add_help=False)
-    made.add_argument("--workers", type=_positive, default=os.cpu_count(), help="runs at once (default: all cores)")
-    read = argparse.ArgumentParser(add_help=False, parents=[made])
-    read.add_argument("--deck", metavar="DECK.csv", help="the streets known already")
-    forecast = commands.add_parser("forecast", parents=[read], help="what the drill costs and holds each day")
-    forecast.add_argument("settings", nargs="+", metavar="SETTINGS.toml")
-    forecast.add_argument("--runs", type=_positive, default=1, help="seeds to forecast, from the given one on")
-    forecast.add_argument("--open", type=_positive, metavar="STREETS", help="tell the first day that holds so many")
-    forecast.add_argument("--rows", metavar="ROWS.csv", help="write a row a day")
-    forecast.add_argument("--cards", metavar="CARDS.csv", help="write the deck after the drill, for the next --deck")
-    forecast.add_argument("--page", metavar="PAGE.html", help="write pictures and a table, for a browser")
-    cheapest = commands.add_parser("cheapest", parents=[read], help="the retention that costs least for a street held")
-    cheapest.add_argument("settings", metavar="SETTINGS.toml")
-    drawn = commands.add_parser("page", help="the page of what the program forecast printed")
-    drawn.add_argument("listings", nargs="+", metavar="LISTING.txt")
-    drawn.add_argument("--open", type=_positive, metavar="STREETS", help="mark the first day that holds so many")
-    drawn.add_argument("--page", metavar="PAGE.html", help="default: the first listing's name with .html")
-    depots = commands.add_parser("region", parents=[made], help="a forecast of each settings file of a folder")
-    depots.add_argument("folder", metavar="DIR", help="has NAME.toml for each depot, and NAME.csv where it has a deck")
-    depots.add_argument("--open", type=_positive, metavar="STREETS", help="tell the first day that holds so many")
-    depots.add_argument("--scheduler", metavar="ADDRESS", help="HOST:PORT of a Dask cluster for the runs")
-    depots.add_argument("--summary", metavar="SUMMARY.csv", default="region.csv", help="a row a depot (region.csv)")
-    depots.add_argument("--page", metavar="PAGE.html", default="region.html", help="all as one (region.html)")
-    return parser
-
-
-def _forecast(options: argparse.Namespace) -> None:
-    if len(options.settings) > 1 and (options.rows or options.cards):
-        raise Mistake(options.settings[1], "--rows and --cards are for one settings file")
-    asked = [settings.read(path) for path in options.settings]
-    known = deck.read(options.deck) if options.deck else NO_DECK
-    courses: list[Course] = []
-    texts: dict[str, str] = {}
-    for given in asked:
-        made = runs.forecasts(given, known, options.runs, options.workers)
-        courses.append(course.of_runs(given.name, made))
-        if options.cards:
-            texts[options.cards] = deck.updated(known, made[0].cards, given.config.learn_span)
-    if options.rows:
-        _add(texts, options.rows, course.as_csv(course.days_table(courses[0])))
-    if options.page:
-        _add(texts, options.page, page(courses, options.open))
-    # The deck may be followed by its next one under the same name.
-    sources = [*options.settings, *([options.deck] if options.deck and options.deck != options.cards else [])]
-    files.write_all(texts, sources)
-    for drawn in courses:
-        print(course.summary(drawn, options.open), end="")
+# ---- files
 
 
 def _add(texts: dict[str, str], path: str, text: str) -> None:
@@ -88,64 +33,151 @@ def _add(texts: dict[str, str], path: str, text: str) -> None:
     texts[path] = text
 
 
-def _show(trial: Trial) -> None:
-    retention = shortest(trial.retention)
-    print(f"trial {trial.number}: retention {retention}, mean {trial.mean:.2f}, {trial.seconds:.1f} s", file=sys.stderr)
+def _write(texts: dict[str, str], sources: Iterable[str], summary: str) -> None:
+    """The summary makes room where a file goes to standard output."""
+    shown = texts.pop("-", None)
+    files.write_all(texts, sources)
+    print(summary if shown is None else shown, end="")
+    if shown is not None:
+        print(summary, end="", file=sys.stderr)
 
 
-def _cheapest(options: argparse.Namespace) -> None:
-    given = settings.read(options.settings)
-    known = deck.read(options.deck) if options.deck else NO_DECK
-    progress = _show if sys.stderr.isatty() else None
-    try:
-        found = optimal_retention(given.config, given.parameters, known.cards,
-                                  workers=options.workers, progress=progress)
-    except Refusal as refusal:
-        raise places.placed(given, known, refusal) from refusal
-    if not 0 <= found.mean < math.inf:
-        raise Mistake(given.path, "what a trial costs for each street held is no time, as where none is held at its "
-                      "end: no retention is the cheapest")
-    print(f"{given.name}: retention {shortest(found.retention)} costs least, "
-          f"{shortest(found.mean)} seconds for each street held ({found.rounds} rounds)")
+def _named(path: str, given: Settings, asked: Sequence[Settings]) -> str:
+    """One settings file's output has the name itself, those of several lie in the folder of that name."""
+    if len(asked) == 1:
+        return path
+    if not Path(path).is_dir():
+        raise Mistake(path, "is no folder, where the outputs of several settings files would lie")
+    return str(Path(path) / f"{given.name}.csv")
 
 
-def _page(options: argparse.Namespace) -> None:
-    courses = [listing.read(path) for path in options.listings]
-    path = options.page or str(Path(options.listings[0]).with_suffix(".html"))
-    files.write_all({path: page(courses, options.open)}, options.listings)
-    for drawn in courses:
-        print(course.summary(drawn, options.open), end="")
+# ---- forecast
 
 
-def _region(options: argparse.Namespace) -> None:
-    depots = region.read(options.folder)
-    with cluster.executor(options.scheduler, min(options.workers, len(depots))) as executor:
-        made = region.courses(options.folder, depots, executor)
-    mistakes = [each for each in made if isinstance(each, Mistake)]
-    if mistakes:
-        raise Mistakes(mistakes)
-    courses = [each for each in made if isinstance(each, Course)]
-    depots_table = region.table(courses, options.open)
+def _deck(path: str | None, given: Settings) -> Deck:
+    known = deck.read(path, given.first_day) if path else deck.no_deck(given.first_day)
+    return streets.prepared(given, known)
+
+
+def _forecast(asked: argparse.Namespace) -> None:
+    given = [settings.read(path, options.sources(asked)) for path in asked.settings]
+    courses: list[Course] = []
+    texts: dict[str, str] = {}
+    with progress("forecast", asked.runs * len(given), asked.quiet) as told:
+        for each in given:
+            known = _deck(asked.deck, each)
+            drawn, cards = runs.drilled(each, known, asked.runs, asked.workers, told.done)
+            courses.append(drawn)
+            if asked.rows:
+                _add(texts, _named(asked.rows, each, given), course.as_csv(course.days_table(drawn)))
+            if asked.weeks:
+                _add(texts, _named(asked.weeks, each, given), course.as_csv(periods.weeks_table(drawn)))
+            if asked.cards:
+                after = next_deck.updated(known, cards, each.config.learn_span)
+                _add(texts, _named(asked.cards, each, given), after)
+        if asked.page:
+            _add(texts, asked.page, page(courses, asked.open))
+    # The deck may be followed by its next one under the same name.
+    sources = [path for each in given for path in each.sources]
+    sources += [asked.deck] if asked.deck and asked.deck != asked.cards else []
+    _write(texts, sources, "".join(facts.summary(each, asked.open) for each in courses))
+
+
+# ---- the other commands
+
+
+def _trial_line(each: Trial) -> str:
+    return f"trial {each.number}: retention {cheapest.told(each.retention)}, mean {each.mean:.2f}, {each.seconds:.1f} s"
+
+
+def _search(asked: argparse.Namespace, given: Settings, known: Deck) -> tuple[list[Trial], Trial]:
+    """The trials of the search, and one of the present setting."""
+    tried: list[Trial] = []
+    with progress("cheapest", quiet=asked.quiet) as told:
+
+        def show(each: Trial) -> None:
+            tried.append(each)
+            told.say(_trial_line(each))
+
+        try:
+            inputs = given.config, given.parameters, known.cards
+            optimal_retention(*inputs, workers=asked.workers, progress=show)
+            return tried, trial(*inputs, retention=given.desired_retention, workers=asked.workers)
+        except Refusal as refusal:
+            raise places.placed(given, known, refusal) from refusal
+
+
+def _cheapest(asked: argparse.Namespace) -> None:
+    given = settings.read(asked.settings, options.sources(asked))
+    known = _deck(asked.deck, given)
+    tried, present = _search(asked, given, known)
+    trials = cheapest.in_order(given.path, tried, present)
+    advice = cheapest.advice(trials, present, streets.counts(given, known))
+    texts: dict[str, str] = {}
+    if asked.page:
+        drawn = [each for each in trials if math.isfinite(each.mean)]
+        texts[asked.page] = curve.page(given.name, drawn, present, advice)
+    told = "".join(f"  {line}\n" for line in advice)
+    _write(texts, [*given.sources, *([asked.deck] if asked.deck else [])],
+           f"{given.name}\n{cheapest.curve(trials, present)}{told}")
+
+
+def _page(asked: argparse.Namespace) -> None:
+    courses = [listing.read(path) for path in asked.listings]
+    path = asked.page or str(Path(asked.listings[0]).with_suffix(".html"))
+    told = "".join(facts.summary(each, asked.open) for each in courses)
+    _write({path: page(courses, asked.open)}, asked.listings, told)
+
+
+def _region(asked: argparse.Namespace) -> None:
+    listed = region.read(asked.folder, options.sources(asked))
+    for note in region.notes(asked.folder, listed, [asked.summary, asked.page]):
+        print(f"street_drill: note: {note}", file=sys.stderr)
+    with (progress("region", len(listed), asked.quiet) as told,
+          cluster.mapping(asked.scheduler, min(asked.workers, len(listed))) as mapped):
+        courses = region.courses(asked.folder, listed, asked.runs, mapped, told.done)
     whole = region.total(courses)
-    texts = {options.summary: course.as_csv(depots_table)}
-    _add(texts, options.page, page([whole], tables=[depots_table]))
-    files.write_all(texts, [path for depot in depots for path in (depot.path, depot.deck_path)])
-    print(course.summary(whole, None), end="")
+    texts = {asked.summary: course.as_csv(depots.table(courses, asked.open))}
+    _add(texts, asked.page, page([whole], tables=[depots.page_table(courses, asked.open)]))
+    _write(texts, region.sources(listed), facts.summary(whole, None) + depots.lines(courses, asked.open))
 
 
-_COMMANDS = {"forecast": _forecast, "cheapest": _cheapest, "page": _page, "region": _region}
+def _text(asked: argparse.Namespace) -> None:
+    print(text.answer(asked.program), end="")
+
+
+_COMMANDS = {"forecast": _forecast, "cheapest": _cheapest, "page": _page, "region": _region, "text": _text}
+
+
+# ---- the whole
+
+
+def _check_names(asked: argparse.Namespace) -> None:
+    for name in _FILES:
+        if getattr(asked, name, None) == "":
+            raise Mistake(f"--{name}", "needs the name of a file")
 
 
 def main(arguments: Sequence[str] | None = None) -> int:
     """Does what the arguments ask, and gives the exit status."""
-    options = _parser().parse_args(arguments)
+    asked = options.parser().parse_args(arguments)
     try:
-        _COMMANDS[options.command](options)
-    except (Mistakes, Mistake, LibraryMissing) as error:
-        for each in error.args[0] if isinstance(error, Mistakes) else [error]:
+        _check_names(asked)
+        _COMMANDS[asked.command](asked)
+    except Mistake as error:
+        for each in error.mistakes if isinstance(error, Mistakes) else [error]:
             print(f"street_drill: {each}", file=sys.stderr)
+        return 2
+    except LibraryMissing as error:
+        print(f"street_drill: {error}", file=sys.stderr)
         return 2
     except MemoryError:
         print("street_drill: there is not enough memory", file=sys.stderr)
+        return 2
+    except RuntimeError as error:
+        # No thread can be started, or a thread has other float modes; what is derived from it is a fault of this code.
+        if type(error) is not RuntimeError:
+            raise
+        print(f"street_drill: {error} (--workers 1 needs no other thread)", file=sys.stderr)
         return 2
     return 0

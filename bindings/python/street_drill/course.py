@@ -1,22 +1,30 @@
 """The course of a drill, day by day: what is written as rows, told as a summary and drawn on the page.
 
   Course      columns by name, with bands where there were several runs
-  of_runs     from forecasts; the first is the course, the others make the band
+  of_runs     from forecasts; of_columns: from the columns of each run
   line        what is drawn of a column
+  opening     the day from which so many streets stay held; touch: the first that holds so many
   days_table  a row a day; as_csv: a table as CSV
-  facts       what a planner asks first; summary: the same for the terminal
+  duration    seconds as a planner says them
 """
 
 import ctypes
 import math
+from array import array
 from collections.abc import Mapping, Sequence
 from dataclasses import dataclass
+from datetime import date, timedelta
 
 from .decimals import shortest
 from .files import csv_text
 from .model import Forecast
+from .origin import Origin
 
 COLUMNS = ("learned", "reviewed", "correct", "introduced", "due", "cost", "memorized")
+# What is so at a day's end; the others are that day's own.
+STANDING = ("introduced", "memorized")
+
+Columns = Mapping[str, Sequence[float]]
 
 
 @dataclass(frozen=True)
@@ -30,22 +38,46 @@ class Band:
 
 @dataclass(frozen=True)
 class Course:
-    """A column has a value a day; a listing has no column `due`. There are no bands where there was one run."""
+    """A column has a value a day; a listing has no column `due`. There are no bands where there was one run.
+
+    `columns` are the first run's, `each` those of every run where there are several. `first_day` is the date of day 0.
+    `notes` are what else a planner is to be told, each with its label, and `origin` is what it was made from.
+    """
 
     name: str
-    columns: Mapping[str, tuple[float, ...]]
+    columns: Columns
     bands: Mapping[str, Band]
-    runs: int = 1
+    each: tuple[Columns, ...] = ()
+    first_day: date | None = None
+    notes: tuple[tuple[str, str], ...] = ()
+    origin: Origin | None = None
 
     @property
     def span(self) -> int:
         """How many days it has."""
         return len(self.columns["cost"])
 
+    @property
+    def runs(self) -> tuple[Columns, ...]:
+        """The columns of every run."""
+        return self.each or (self.columns,)
 
-def _columns(forecast: Forecast) -> dict[str, tuple[float, ...]]:
-    columns = {name: tuple(getattr(day, name) for day in forecast.rows) for name in COLUMNS if name != "due"}
-    return {**columns, "due": forecast.due[: len(forecast.rows)]}
+    def date(self, day: int) -> str:
+        """The day as a date, empty where no first day was given."""
+        return (self.first_day + timedelta(day)).isoformat() if self.first_day else ""
+
+    def day(self, day: int) -> str:
+        """The day as a planner reads it."""
+        return f"{self.date(day)} (day {day})" if self.first_day else f"day {day}"
+
+
+def columns_of(forecast: Forecast) -> Columns:
+    """They take much less room than the forecast's rows."""
+    rows, span = forecast.rows, len(forecast.rows)
+    counts = {name: array("I", [getattr(day, name) for day in rows])
+              for name in ("learned", "reviewed", "correct", "introduced")}
+    sums = {name: array("f", [getattr(day, name) for day in rows]) for name in ("cost", "memorized")}
+    return {**counts, "due": array("I", forecast.due[:span]), **sums}
 
 
 def percentile(values: Sequence[float], share: float) -> float:
@@ -58,21 +90,32 @@ def percentile(values: Sequence[float], share: float) -> float:
     return values[low] + step
 
 
-def _mean(values: Sequence[float]) -> float:
-    return sum(values) / len(values)
+def spread(values: Sequence[float]) -> tuple[float, float, float]:
+    """The mean, and the tenth and the ninetieth percentile."""
+    mean = sum(values) / len(values)
+    if math.isnan(mean):
+        # What is no number has no place in an order.
+        return mean, mean, mean
+    in_order = sorted(values)
+    return mean, percentile(in_order, 0.1), percentile(in_order, 0.9)
 
 
 def _band(runs: Sequence[Sequence[float]]) -> Band:
-    days = [sorted(day) for day in zip(*runs)]
-    lows, highs = [tuple(percentile(day, share) for day in days) for share in (0.1, 0.9)]
-    return Band(tuple(map(_mean, days)), lows, highs)
+    return Band(*zip(*map(spread, zip(*runs))))
+
+
+def of_columns(name: str, runs: Sequence[Columns]) -> Course:
+    """The first run's course, with bands where there are more."""
+    columns = {column: tuple(values) for column, values in runs[0].items()}
+    if len(runs) == 1:
+        return Course(name, columns, {})
+    bands = {column: _band([run[column] for run in runs]) for column in columns}
+    return Course(name, columns, bands, tuple(runs))
 
 
 def of_runs(name: str, forecasts: Sequence[Forecast]) -> Course:
     """The first forecast's course, with bands where there are more."""
-    columns = [_columns(forecast) for forecast in forecasts]
-    bands = {column: _band([run[column] for run in columns]) for column in COLUMNS} if len(forecasts) > 1 else {}
-    return Course(name, columns[0], bands, len(forecasts))
+    return of_columns(name, list(map(columns_of, forecasts)))
 
 
 def line(course: Course, column: str) -> Sequence[float]:
@@ -80,23 +123,47 @@ def line(course: Course, column: str) -> Sequence[float]:
     return course.bands[column].mean if column in course.bands else course.columns.get(column, ())
 
 
+def touch(held: Sequence[float], streets: int) -> int | None:
+    """The first day on which so many streets are held; they may be fewer again later."""
+    return next((day for day, number in enumerate(held) if number >= streets), None)
+
+
+def opening(held: Sequence[float], streets: int) -> int | None:
+    """The day from which so many streets stay held to the end."""
+    # What is no number is not held.
+    short = [day for day, number in enumerate(held) if not number >= streets]
+    first = short[-1] + 1 if short else 0
+    return first if first < len(held) else None
+
+
+def busiest(costs: Sequence[float]) -> int:
+    """The first day that costs most."""
+    return max(range(len(costs)), key=lambda day: (-math.inf if math.isnan(costs[day]) else costs[day], -day))
+
+
 # A name, a head and rows.
 Table = tuple[str, Sequence[str], Sequence[Sequence[float | str]]]
 
 
+def values_table(name: str, lead: Mapping[str, Sequence[float | str]], course: Course) -> Table:
+    """The leading columns, then the course's. Of several runs a column is the mean, and beside it stand the tenth and
+    the ninetieth percentile and the first run."""
+    columns: dict[str, Sequence[float | str]] = dict(lead)
+    for column in COLUMNS:
+        if column in course.bands:
+            band = course.bands[column]
+            columns |= {column: band.mean, f"{column}_p10": band.p10, f"{column}_p90": band.p90,
+                        f"{column}_first": course.columns[column]}
+        elif column in course.columns:
+            columns[column] = course.columns[column]
+    return name, list(columns), list(zip(*columns.values()))
+
+
 def days_table(course: Course) -> Table:
-    """A row a day; the columns of a band follow their own."""
-    names: list[str] = ["day"]
-    columns: list[Sequence[float]] = [range(course.span)]
-    for name in COLUMNS:
-        if name in course.columns:
-            names.append(name)
-            columns.append(course.columns[name])
-        if name in course.bands:
-            band = course.bands[name]
-            names += [f"{name}_mean", f"{name}_p10", f"{name}_p90"]
-            columns += [band.mean, band.p10, band.p90]
-    return course.name, names, list(zip(*columns))
+    """A row a day."""
+    days = range(course.span)
+    dates = {"date": [course.date(day) for day in days]} if course.first_day else {}
+    return values_table(course.name, {"day": days, **dates}, course)
 
 
 def _text(value: float | str) -> str:
@@ -118,40 +185,3 @@ def duration(seconds: float) -> str:
         return f"{seconds:.0f} s"
     minutes = round(seconds / 60)
     return f"{minutes // 60:,} h {minutes % 60:02} min" if minutes >= 60 else f"{minutes} min"
-
-
-def opening(held: Sequence[float], streets: int) -> int | None:
-    """The first day on which so many streets are held."""
-    return next((day for day, number in enumerate(held) if number >= streets), None)
-
-
-def _opens(held: Sequence[float], streets: int) -> str:
-    day = opening(held, streets)
-    return "on no day" if day is None else f"from day {day}"
-
-
-def busiest(course: Course) -> int:
-    """The first day that costs most."""
-    costs = course.columns["cost"]
-    return max(range(course.span), key=lambda day: (-math.inf if math.isnan(costs[day]) else costs[day], -day))
-
-
-def facts(course: Course, streets: int | None) -> list[tuple[str, str]]:
-    """What a planner asks first, each with its label; days count from 0."""
-    costs, held = course.columns["cost"], course.columns["memorized"]
-    day, runs = busiest(course), f"mean of {course.runs} runs"
-    told = [("span", f"{course.span:,} days" if course.span > 1 else "1 day"), ("in all", duration(sum(costs)))]
-    if course.bands:
-        told.append((f"in all, {runs}", duration(sum(line(course, "cost")))))
-    told.append(("busiest day", f"day {day}, {duration(costs[day])}"))
-    told.append(("held on the last day", f"{held[-1]:,.1f} of {course.columns['introduced'][-1]:,} introduced"))
-    if streets is not None:
-        told.append((f"{streets:,} streets held", _opens(held, streets)))
-    if streets is not None and course.bands:
-        told.append((f"{streets:,} streets held, {runs}", _opens(line(course, "memorized"), streets)))
-    return told
-
-
-def summary(course: Course, streets: int | None) -> str:
-    """Some lines for the terminal."""
-    return "".join([f"{course.name}\n", *(f"  {label}: {value}\n" for label, value in facts(course, streets))])

@@ -1,123 +1,270 @@
-"""A deck as CSV: its head names the fields of `Card`, in any order, and other columns, which are carried through."""
+"""A deck as CSV: its head names the fields of `Card`, in any order, and other columns, which are carried through.
 
-import csv
+  read, of_text     a deck from a file, from a text
+  with_retention    a deck whose streets are all reviewed at one retention
+"""
+
 import ctypes
-import io
 import math
-from collections.abc import Iterator, Sequence
+import re
+from collections.abc import Callable, Iterator, Mapping, Sequence
 from dataclasses import dataclass, replace
+from datetime import date
+from functools import partial
+from operator import itemgetter
 from typing import Any
 
-from . import files
-from .decimals import exact, nearest, shortest
-from .errors import Mistake
+from . import files, sheet
+from .decimals import rounded
+from .errors import Mistake, raise_all
 from .model import CARD_COUNTS, CARD_FLOATS, Card
+from .sheet import Sheet
 
-_FIELDS = CARD_FLOATS + CARD_COUNTS
+FIELDS = CARD_FLOATS + CARD_COUNTS
+DAYS = ("last_date", "due")
+# What a street that nobody has drilled yet has not; its other cells may be filled all the same.
+_STATE = ("difficulty", "stability", "last_date", "due", "interval")
 # The run keeps an existing card only where its stability is above this f32; the others' streets are new ones.
 _KEPT_ABOVE = ctypes.c_float(1e-9).value
+_NOT_DRILLED = Card(*[-math.inf] * 3, 0.0, *[-math.inf] * 2, 0, 0)
+_DATE = re.compile(r"\d{4}-\d\d-\d\d", re.ASCII)
+_COUNT = re.compile(r"\d+([.,]0*)?", re.ASCII)
+
+Reader = Callable[[str], float]
 
 
 @dataclass(frozen=True)
 class Deck:
-    """The cards of a file with their rows as written, and the line on which each row begins."""
+    """The cards of a file with their rows as written, and the line on which each row begins.
+
+    `names` are the head's as the fields are called, `first_day` is the date of day 0; `delimiter` and `point` are how
+    the file is written.
+    """
 
     path: str
-    head: tuple[str, ...]
-    rows: tuple[tuple[str, ...], ...]
-    lines: tuple[int, ...]
+    head: Sequence[str]
+    rows: Sequence[Sequence[str]]
+    lines: Sequence[int]
     cards: tuple[Card, ...]
+    names: Sequence[str] = FIELDS
+    first_day: date | None = None
+    delimiter: str = ","
+    point: str = "."
+
+    @property
+    def kept(self) -> list[Card]:
+        """The streets that somebody has drilled; the run has new cards in the others' place."""
+        return [card for card in self.cards if is_kept(card)]
 
 
-NO_DECK = Deck("", _FIELDS, (), (), ())
+NO_DECK = Deck("", FIELDS, (), (), ())
 
 
-def _records(path: str, text: str) -> Iterator[tuple[int, list[str]]]:
-    """The rows that are not empty, each with its first line."""
-    reader = csv.reader(io.StringIO(text, newline=""), strict=True)
-    line = 1
+def no_deck(first_day: date | None) -> Deck:
+    """Of no street; the next one is written with dates where there is a first day."""
+    return replace(NO_DECK, first_day=first_day)
+
+
+def is_kept(card: Card) -> bool:
+    """Whether somebody has drilled it."""
+    return card.stability > _KEPT_ABOVE
+
+
+# ---- cells
+
+
+def _number(text: str) -> float:
     try:
-        for record in reader:
-            if record:
-                yield line, record
-            line = reader.line_num + 1
-    except csv.Error as error:
-        raise Mistake(f"{path}: line {line}", str(error)) from error
+        return rounded(text)
+    except ValueError as error:
+        raise ValueError(sheet.cause(text, str(error))) from error
 
 
-def _check_head(path: str, line: int, head: Sequence[str]) -> None:
-    for name in _FIELDS:
-        if head.count(name) != 1:
-            how = "is missing in the head" if name not in head else "stands twice in the head"
-            raise Mistake(f"{path}: line {line}", f"column {name} {how}")
+def _comma_number(text: str) -> float:
+    return _number(text.replace(",", ".")) if text.count(",") < 2 and "." not in text else _number(text)
 
 
-def _value(name: str, text: str) -> float:
-    text = text.strip(" \t")
-    if name in CARD_FLOATS:
-        return nearest(exact(text))
-    if not (text.isascii() and text.isdigit()):
-        raise ValueError("is no whole number")
+def _day(text: str, number: Reader, first_day: date | None) -> float:
+    """Days count from the forecast's first."""
+    if not _DATE.fullmatch(text):
+        return number(text)
+    if first_day is None:
+        raise ValueError("is a date, and the settings have no first_day")
+    try:
+        return float((date.fromisoformat(text) - first_day).days)
+    except ValueError:
+        raise ValueError("is no date of the calendar") from None
+
+
+def _count(text: str) -> int:
+    if not _COUNT.fullmatch(text):
+        raise ValueError(sheet.cause(text, "is no whole number"))
+    digits = re.split("[.,]", text)[0].lstrip("0")
     # Ten digits hold every number that fits, and int refuses very long ones with a sentence of its own.
-    if len(text.lstrip("0")) > 10 or int(text) >= 2**32:
+    if len(digits) > 10 or int(digits or "0") >= 2**32:
         raise ValueError("is above 4294967295")
-    return int(text)
+    return int(digits or "0")
 
 
-def _card(path: str, line: int, head: Sequence[str], record: Sequence[str]) -> Card:
-    if len(record) != len(head):
-        raise Mistake(f"{path}: line {line}", f"has {len(record)} columns, and the head has {len(head)}")
-    values: dict[str, Any] = {}
-    for number, (name, text) in enumerate(zip(head, record), start=1):
-        if name in _FIELDS:
-            try:
-                values[name] = _value(name, text)
-            except ValueError as error:
-                raise Mistake(f"{path}: line {line}, column {number} ({name})", f"{text[:40]!r} {error}") from error
-    return Card(**values)
+def _readers(delimiter: str, first_day: date | None) -> dict[str, Reader]:
+    """How each field is read. Between commas a comma is no decimal one."""
+    number = _number if delimiter == "," else _comma_number
+    day = partial(_day, number=number, first_day=first_day)
+    return {**dict.fromkeys(CARD_FLOATS, number), **dict.fromkeys(DAYS, day), **dict.fromkeys(CARD_COUNTS, _count)}
 
 
-def of_text(path: str, text: str) -> Deck:
-    """A deck from a text; `path` is for the errors."""
-    records = _records(path, text)
-    line, head = next(records, (1, []))
-    _check_head(path, line, head)
-    numbered = list(records)
-    return Deck(
-        path=path,
-        head=tuple(head),
-        rows=tuple(tuple(record) for _, record in numbered),
-        lines=tuple(line for line, _ in numbered),
-        cards=tuple(_card(path, line, head, record) for line, record in numbered),
-    )
+# ---- rows
 
 
-def read(path: str) -> Deck:
+def _is_blank(texts: Sequence[str]) -> bool:
+    """Whether the cells are those of a street that nobody has drilled yet."""
+    cells = dict(zip(FIELDS, texts))
+    return not any(cells[name] for name in _STATE) and all(cells[name].strip("0") == "" for name in CARD_COUNTS)
+
+
+def _wrong_cells(readers: Mapping[str, Reader], texts: Sequence[str]) -> Iterator[tuple[str, str]]:
+    for name, text in zip(FIELDS, texts):
+        if not text:
+            yield name, f"is empty; of a street not yet drilled {', '.join(_STATE)} are empty, all of them"
+            continue
+        try:
+            readers[name](text)
+        except ValueError as error:
+            yield name, f"{text[:40]!r} {error}"
+
+
+def _makes_sense(card: Card) -> bool:
+    """Whether nothing is to be told of it; the next function tells what, this one is soon done."""
+    return 1 <= card.difficulty <= 10 and card.last_date <= 0 and 0 < card.desired_retention < 1 or not is_kept(card)
+
+
+def _odd_cells(card: Card, texts: Sequence[str]) -> Iterator[tuple[str, str]]:
+    """What the library takes of a drilled street and makes no sense; what is not finite is for the library to tell."""
+    if not is_kept(card):
+        return
+    rules = {
+        "difficulty": (1 <= card.difficulty <= 10 or card.last_date == -math.inf, "is not within 1 and 10"),
+        "last_date": (card.last_date <= 0, "is after the forecast's first day"),
+        "desired_retention": (0 < card.desired_retention < 1, "is not between 0 and 1; 90 % is written 0.9"),
+    }
+    for name, (holds, sentence) in rules.items():
+        if not holds and math.isfinite(getattr(card, name)):
+            yield name, f"{texts[FIELDS.index(name)]!r} {sentence}"
+
+
+class _Reading:
+    """The rows of a table as cards, and all that is wrong with them."""
+
+    def __init__(self, table: Sheet, names: Sequence[str], first_day: date | None) -> None:
+        self._table, self._names = table, names
+        self._readers = _readers(table.delimiter, first_day)
+        self._columns = [[row[place].strip() for row in table.rows] for place in map(names.index, FIELDS)]
+        stabilities = self._columns[FIELDS.index("stability")]
+        self._blank = {row for row, text in enumerate(stabilities) if not text and _is_blank(self._texts(row))}
+        self._mistakes: list[tuple[int, Mistake]] = []
+
+    def _texts(self, row: int) -> list[str]:
+        """In the order of the fields."""
+        return [column[row] for column in self._columns]
+
+    def _tell(self, row: int, name: str, sentence: str) -> None:
+        line = self._table.lines[row]
+        place = f"{self._table.path}: line {line}, column {self._names.index(name) + 1} ({name})"
+        self._mistakes.append((line, Mistake(place, sentence)))
+
+    def _cards(self) -> list[Card]:
+        """A column at a time, each text once: ValueError where a cell is not as it must be."""
+        columns = []
+        for name, column in zip(FIELDS, self._columns):
+            texts = [text for row, text in enumerate(column) if row not in self._blank] if self._blank else column
+            values = {text: self._readers[name](text) for text in set(texts)}
+            columns.append([values[text] for text in texts])
+        cards: Iterator[Any] = map(Card, *columns)
+        if not self._blank:
+            return list(cards)
+        return [_NOT_DRILLED if row in self._blank else next(cards) for row in range(len(self._table.rows))]
+
+    def _check_twice(self) -> None:
+        """A street is the same where all is that the deck carries through for it, its name among that."""
+        name = next((name for name in self._names if name.startswith("street")), None)
+        carried = [place for place, name in enumerate(self._names) if name not in FIELDS]
+        first: dict[tuple[str, ...], int] = {}
+        for number, row in enumerate(self._table.rows) if name else ():
+            street = tuple(row[place].strip().casefold() for place in carried)
+            other = first.setdefault(street, number) if any(street) else number
+            if other != number:
+                written = row[self._names.index(name)][:40]
+                self._tell(number, name, f"{written!r} stands on line {self._table.lines[other]} already")
+
+    def _check_points(self) -> str:
+        """A file with decimal commas has no points: they might stand between thousands there."""
+        if self._table.delimiter == ",":
+            return "."
+        seen: dict[str, int] = {}
+        for column in self._columns[: len(CARD_FLOATS)]:
+            for line, text in zip(self._table.lines, column):
+                for mark in ",.":
+                    if mark in text:
+                        seen[mark] = min(line, seen.get(mark, line))
+        if len(seen) > 1:
+            line = max(seen.values())
+            sentence = f"a file has decimal commas (line {seen[',']}) or points (line {seen['.']}), not both"
+            self._mistakes.append((line, Mistake(f"{self._table.path}: line {line}", sentence)))
+        return "." if "." in seen or self._table.delimiter == "\t" and not seen else ","
+
+    def _check_row(self, row: int) -> None:
+        """Its cells one by one, and where each can be read the street that they make."""
+        texts = self._texts(row)
+        wrong = list(_wrong_cells(self._readers, texts))
+        if not wrong:
+            values: Iterator[Any] = (self._readers[name](text) for name, text in zip(FIELDS, texts))
+            wrong = list(_odd_cells(Card(*values), texts))
+        for name, sentence in wrong:
+            self._tell(row, name, sentence)
+
+    def cards(self) -> tuple[tuple[Card, ...], str]:
+        """The cards, and the mark before a number's fraction."""
+        cards: list[Card] = []
+        try:
+            cards = self._cards()
+            odd = [row for row, card in enumerate(cards) if not _makes_sense(card)]
+        except ValueError:
+            odd = [row for row in range(len(self._table.rows)) if row not in self._blank]
+        for row in odd:
+            self._check_row(row)
+        self._check_twice()
+        point = self._check_points()
+        raise_all(self._table.path, [mistake for _, mistake in sorted(self._mistakes, key=itemgetter(0))])
+        return tuple(cards), point
+
+
+# ---- the whole
+
+
+def _check_head(table: Sheet, names: Sequence[str]) -> None:
+    place = f"{table.path}: line {table.head_line}"
+    missing = [name for name in FIELDS if name not in names]
+    if len(missing) == len(FIELDS):
+        raise Mistake(place, f"column {missing[0]} is missing in the head, as are all others: is this line the head?")
+    twice = [name for name in FIELDS if names.count(name) > 1]
+    raise_all(table.path, [*(Mistake(place, f"column {name} is missing in the head") for name in missing),
+               *(Mistake(place, f"column {name} stands twice in the head") for name in twice)])
+
+
+def of_text(path: str, text: str, first_day: date | None = None) -> Deck:
+    """A deck from a text; `path` is for the errors, `first_day` the date of day 0 where days are written as dates."""
+    table = sheet.read(path, text)
+    names = table.names()
+    _check_head(table, names)
+    cards, point = _Reading(table, names, first_day).cards()
+    return Deck(path, table.head, table.rows, table.lines, cards, names, first_day, table.delimiter, point)
+
+
+def read(path: str, first_day: date | None = None) -> Deck:
     """A deck from a file."""
-    return of_text(path, files.read(path))
+    return of_text(path, files.read(path), first_day)
 
 
-def _later(day: float, span: int) -> float:
-    return ctypes.c_float(day - span).value if math.isfinite(day) else day
-
-
-def _row(head: Sequence[str], row: Sequence[str], card: Card) -> list[str]:
-    texts = {name: shortest(getattr(card, name)) for name in CARD_FLOATS}
-    texts |= {name: str(getattr(card, name)) for name in CARD_COUNTS}
-    return [texts.get(name, other) for name, other in zip(head, row)]
-
-
-def updated(deck: Deck, cards: Sequence[Card], span: int) -> str:
-    """The deck after a forecast, as the next one's: its day 0 is the day after the span.
-
-    The run's cards are the kept ones in their order and then the new ones, which take the other columns of the rows
-    that were not kept, in their order; rows that no new card came for stay as they were.
-    """
-    order = sorted(range(len(deck.cards)), key=lambda place: not deck.cards[place].stability > _KEPT_ABOVE)
-    rows = [deck.rows[place] for place in order]
-    nothing = ("",) * len(deck.head)
-    written: list[Sequence[str]] = [deck.head]
-    for place, card in enumerate(cards):
-        later = replace(card, last_date=_later(card.last_date, span), due=_later(card.due, span))
-        written.append(_row(deck.head, rows[place] if place < len(rows) else nothing, later))
-    return files.csv_text([*written, *rows[len(cards) :]])
+def with_retention(known: Deck, retention: float) -> Deck:
+    """All its streets at one retention, from their next review on."""
+    return replace(known, cards=tuple(replace(card, desired_retention=retention) for card in known.cards))

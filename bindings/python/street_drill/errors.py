@@ -2,7 +2,10 @@
 
   Refusal   the library's, by the number of its table
   Mistake   in what the planner wrote: settings, a deck, a listing, a file's name; Mistakes: several at once
+  raise_all of the mistakes of a file, where there are any
 """
+
+from collections.abc import Sequence
 
 _SENTENCES = {
     1: "a parameter is not finite",
@@ -66,5 +69,26 @@ class Mistake(Exception):
         return f"{self.place}: {self.sentence}"
 
 
-class Mistakes(Exception):
-    """Several mistakes, of the depots of a region."""
+class Mistakes(Mistake):
+    """Several mistakes; its place and sentence are the first's."""
+
+    def __init__(self, mistakes: Sequence[Mistake]) -> None:
+        super().__init__(mistakes[0].place, mistakes[0].sentence)
+        # What is raised in another process is made anew there from these.
+        self.args = (mistakes,)
+        self.mistakes = tuple(mistakes)
+
+    def __str__(self) -> str:
+        return "\n".join(map(str, self.mistakes))
+
+
+# A column of a wrong kind has a mistake a row: so many are told of a file.
+_MOST = 20
+
+
+def raise_all(path: str, mistakes: Sequence[Mistake]) -> None:
+    """Of a file; nothing is raised where there are none."""
+    if len(mistakes) > _MOST:
+        mistakes = [*mistakes[:_MOST], Mistake(path, f"has {len(mistakes) - _MOST:,} more mistakes")]
+    if mistakes:
+        raise Mistakes(mistakes) if len(mistakes) > 1 else mistakes[0]

@@ -1,10 +1,11 @@
 """Files read as text, and written whole or not at all; rows as CSV."""
 
+import codecs
 import contextlib
 import os
 import re
 import signal
-from collections.abc import Iterable, Iterator, Mapping
+from collections.abc import Iterable, Iterator, Mapping, Sequence
 
 from .errors import Mistake
 
@@ -14,7 +15,7 @@ def _reason(error: OSError) -> str:
 
 
 def read(path: str) -> str:
-    """A file of UTF-8, with or without the mark that some editors put in front."""
+    """A file of UTF-8, with or without the mark that some editors put in front, or of UTF-16 with its own mark."""
     try:
         with open(path, "rb") as file:
             data = file.read()
@@ -22,20 +23,25 @@ def read(path: str) -> str:
         raise Mistake(path, _reason(error)) from error
     except ValueError as error:
         raise Mistake(repr(path), str(error)) from error
+    # Spreadsheets write "Unicode text" so.
+    kind = "utf-16" if data.startswith((codecs.BOM_UTF16_LE, codecs.BOM_UTF16_BE)) else "utf-8-sig"
     try:
-        return data.decode("utf-8-sig")
+        return data.decode(kind)
     except UnicodeDecodeError as error:
         # The mark is left out of the count of the error's place, but it ends no line.
-        raise Mistake(f"{path}: line {data.count(bytes([10]), 0, error.start) + 1}", "is not UTF-8") from error
+        line = data.count(b"\n", 0, error.start) + 1
+        raise Mistake(f"{path}: line {line}", "is not UTF-8; a spreadsheet can save it as CSV UTF-8") from error
 
 
-def _field(text: str) -> str:
-    return '"' + text.replace('"', '""') + '"' if re.search('[",\r\n]', text) else text
-
-
-def csv_text(rows: Iterable[Iterable[str]]) -> str:
+def csv_text(rows: Iterable[Sequence[str]], delimiter: str = ",") -> str:
     """Rows as CSV. Python's own writer leaves a lone carriage return without quotes, and no reader takes that."""
-    return "".join(",".join(map(_field, row)) + "\n" for row in rows)
+    special = re.compile(f'[{delimiter}"\r\n]').search
+
+    def field(text: str) -> str:
+        return '"' + text.replace('"', '""') + '"' if special(text) else text
+
+    # Most rows have nothing to quote: they are looked at as a whole.
+    return "".join(delimiter.join(map(field, row) if special("".join(row)) else row) + "\n" for row in rows)
 
 
 def _destination(path: str) -> str:

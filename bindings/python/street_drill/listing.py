@@ -12,19 +12,32 @@ from .library import MOST_DAYS
 _COUNT = r"(\d{1,10})"
 _FIRST = re.compile(rf"\(forecast {_COUNT} \(turns {_COUNT}\) \(cards {_COUNT}\)\)", re.ASCII)
 _REFUSED = re.compile(rf"\(refused {_COUNT} {_COUNT}\)", re.ASCII)
+# The programs have limits of their own.
+_SMALLER = {2: "the deck is 0 or above 512", 3: "the span is not 1 to 730",
+            8: "more than 4,096 different intervals are needed"}
 _DAY = re.compile(
     rf"\(day {_COUNT} \(learn {_COUNT}\) \(review {_COUNT}\) \(correct {_COUNT}\) \(introduced {_COUNT}\) "
     r"\(cost ([0-9A-F]{8})\) \(held ([0-9A-F]{8})\)\)", re.ASCII)
 
 
-def _float(bits: str) -> float:
+def float_of(bits: str) -> float:
+    """By its eight hex digits."""
     value: float = struct.unpack(">f", bytes.fromhex(bits))[0]
     return value
 
 
+def refused(line: str) -> str | None:
+    """What a refusal's line says, None where it is none."""
+    found = _REFUSED.fullmatch(line)
+    if not found:
+        return None
+    refusal = Refusal(int(found[1]), int(found[2]))
+    return f"refused {found[1]} {found[2]}: {_SMALLER.get(refusal.number, refusal.sentence)}"
+
+
 def _span(path: str, line: str) -> int:
-    if refused := _REFUSED.fullmatch(line):
-        raise Mistake(f"{path}: line 1", str(Refusal(int(refused[1]), int(refused[2]))))
+    if told := refused(line):
+        raise Mistake(f"{path}: line 1", told)
     first = _FIRST.fullmatch(line)
     if not first or not 1 <= int(first[1]) <= MOST_DAYS:
         raise Mistake(f"{path}: line 1", "is not the first line of a forecast")
@@ -35,7 +48,7 @@ def _day(path: str, number: int, line: str) -> tuple[float, ...]:
     day = _DAY.fullmatch(line)
     if not day or int(day[1]) != number:
         raise Mistake(f"{path}: line {number + 2}", f"is not the line of day {number}")
-    return *map(int, day.groups()[1:5]), _float(day[6]), _float(day[7])
+    return *map(int, day.groups()[1:5]), float_of(day[6]), float_of(day[7])
 
 
 def of_text(path: str, text: str) -> Course:

@@ -1,16 +1,29 @@
 """The page: courses as a summary, pictures and tables, one HTML file that needs no network.
 
   page        the whole text
+  document    a page of any parts
 """
 
 import json
 import math
-from collections.abc import Iterator, Sequence
+from collections.abc import Iterable, Iterator, Sequence
+from datetime import date
 from html import escape
 from pathlib import Path
 
-from . import picture
-from .course import Course, Table, days_table, facts
+from . import axes, head, picture
+from .course import Course, Table, days_table
+from .facts import facts
+from .periods import months_table, weeks_table
+from .series import window
+from .views import Shown, View, views
+
+# A longer table's rows are laid out by the script, when it is opened.
+_MOST_ROWS = 1000
+# Two digits behind the point are enough to read; --rows and --summary write them all.
+_DIGITS = 2
+# What several runs add to a column.
+_ADDED = ("p10", "p90", "first")
 
 
 def _few(courses: Sequence[Course]) -> bool:
@@ -18,96 +31,155 @@ def _few(courses: Sequence[Course]) -> bool:
     return len(courses) <= 3
 
 
-# ---- the summary
+# ---- the head and the summary
 
 
-def _facts(course: Course, streets: int | None) -> str:
-    told = "".join(f"<div><dt>{label}</dt><dd>{value}</dd></div>" for label, value in facts(course, streets))
+def _pairs(pairs: Sequence[tuple[str, str]]) -> str:
+    told = "".join(f"<div><dt>{escape(label)}</dt><dd>{escape(value)}</dd></div>" for label, value in pairs)
     return f"<dl>{told}</dl>"
 
 
+def _line(first: str, cells: Iterable[str], labels: Sequence[str]) -> str:
+    """A narrow window shows each cell on a line of its own, with its column's label."""
+    told = "".join(f'<td data-label="{escape(label)}">{escape(cell)}</td>' for label, cell in zip(labels, cells))
+    return f"<tr><th>{first}</th>{told}</tr>"
+
+
+def _of_each(courses: Sequence[Course], told: Sequence[tuple[str, Sequence[str]]]) -> str:
+    """What is told of each course, with its line's swatch: a column where they are few, else a card."""
+    names = [course.name for course in courses]
+    shown = [f"{picture.swatch(number)}{escape(name)}" for number, name in enumerate(names)]
+    labels = [label for label, _ in told]
+    if _few(courses):
+        first = shown
+        lines = [_line(escape(label), values, names) for label, values in told]
+    else:
+        first = [escape(label) for label in labels]
+        turned = zip(*(values for _, values in told))
+        lines = [_line(name, values, labels) for name, values in zip(shown, turned)]
+    heads = "".join(f"<th>{text}</th>" for text in ("", *first))
+    kind = "facts" if _few(courses) else "facts cards"
+    return f'<table class="{kind}"><thead><tr>{heads}</tr></thead><tbody>{"".join(lines)}</tbody></table>'
+
+
+def _made(courses: Sequence[Course], day: date) -> str:
+    """What the forecasts were made from, and in what they differ."""
+    differing = head.differing(courses)
+    table = _of_each(courses, differing) if differing else ""
+    if not _few(courses) and differing:
+        names = ", ".join(name for name, _ in differing)
+        table = f"<details><summary>they differ in {escape(names)}</summary>{table}</details>"
+    return f'<section class="made">{_pairs(head.common(courses, day))}{table}</section>'
+
+
 def _facts_of_each(courses: Sequence[Course], streets: int | None) -> str:
-    """A course is a column where they are few, else a row; its name has the line that it has in the pictures."""
     told = [dict(facts(course, streets)) for course in courses]
-    labels = list(dict.fromkeys(label for each in told for label in each))
-    names = [f"{picture.swatch(colour)}{escape(course.name)}" for colour, course in enumerate(courses)]
+    labels = dict.fromkeys(label for each in told for label in each)
     # What a course does not tell is left empty.
-    rows = [("", *labels), *((name, *(each.get(label, "") for label in labels)) for name, each in zip(names, told))]
-    turned = list(zip(*rows)) if _few(courses) else rows
-    lines = (_line(row, "th" if number == 0 else "td") for number, row in enumerate(turned))
-    return f'<table class="facts">{"".join(lines)}</table>'
+    return _of_each(courses, [(label, [each.get(label, "") for each in told]) for label in labels])
 
 
-def _line(row: Sequence[str], kind: str) -> str:
-    first, *others = row
-    return f"<tr><th>{first}</th>" + "".join(f"<{kind}>{cell}</{kind}>" for cell in others) + "</tr>"
+def _switches(shown: Sequence[View], days: int) -> str:
+    """By days, weeks or months, and smoothed."""
+    kinds = "".join(f'<label><input type="radio" name="by" value="{view.kind}"{" checked" if number == 0 else ""}> '
+                    f"by {view.kind}</label>" for number, view in enumerate(shown))
+    smooth = f'<label><input type="checkbox" name="smooth"> mean of {days} days</label>' if days else ""
+    return f'<form class="switches">{kinds if len(shown) > 1 else ""}{smooth}</form>'
 
 
-def _summary(courses: Sequence[Course], streets: int | None, pictures: int) -> str:
-    inside = _facts(courses[0], streets) if len(courses) == 1 else _facts_of_each(courses, streets)
+def _summary(courses: Sequence[Course], streets: int | None, shown: Sequence[View]) -> str:
+    inside = _pairs(facts(courses[0], streets)) if len(courses) == 1 else _facts_of_each(courses, streets)
+    return f'<section class="summary">{inside}{_switches(shown, window(shown[0].last + 1))}</section>'
+
+
+def _legend(courses: Sequence[Course]) -> str:
+    """Each line by its name, which switches it off; and what the lines of several runs are."""
+    names = [f'<label><input type="checkbox" data-line="{number}" checked>{picture.swatch(number)}'
+             f"{escape(course.name)}</label>" for number, course in enumerate(courses)]
+    parts = names if len(names) > 1 else []
     if any(course.bands for course in courses):
-        inside += ("<p>Lines are the means of the runs, thin lines the first run; bands reach from the tenth to the "
-                   "ninetieth percentile.</p>")
-    # It fills the place that an odd number of pictures leaves in two columns, unless it needs the whole width.
-    beside = _few(courses) and pictures % 2 == 1
-    return f'<section class="summary{"" if beside else " whole"}">{inside}</section>'
+        parts.append("<span>line: mean of the runs; thin: the first run; band: tenth to ninetieth percentile</span>")
+    return f'<div class="legend">{"".join(parts)}</div>' if parts else ""
+
+
+def _off(courses: Sequence[Course]) -> str:
+    """The rules by which a line that is switched off is not shown."""
+    rules = (f'body:has([data-line="{number}"]:not(:checked)) .l{number} {{ display: none }}'
+             for number in range(len(courses)))
+    return "\n".join(rules) if len(courses) > 1 else ""
 
 
 # ---- tables
 
 
 def _cell(value: float | str) -> str:
-    """Two digits behind the point are enough to read; --rows and --summary write them all."""
     if isinstance(value, float):
-        return f"{value:.2f}"
+        return f"{value:.{_DIGITS}f}"
     return escape(str(value))
 
 
-def _heads(head: Sequence[str]) -> Iterator[str]:
+def _heads(names: Sequence[str], row: Sequence[float | str]) -> Iterator[str]:
     """The names of the columns; what several runs add to a column stands below its name."""
-    for name in head:
+    for name, value in zip(names, row):
         own, _, added = name.rpartition("_")
-        kind, text = (' class="added"', added) if added in ("mean", "p10", "p90") and own in head else ("", name)
-        yield f"<th{kind}>{text}</th>"
+        kind, text = (' class="added"', added) if added in _ADDED and own in names else ("", name)
+        digits = f' data-digits="{_DIGITS}"' if isinstance(value, float) else ""
+        yield f"<th{kind}{digits}>{text}</th>"
 
 
-def _table(name: str, head: Sequence[str], rows: Sequence[Sequence[float | str]]) -> str:
-    lines = "\n".join("<tr>" + "".join(f"<td>{_cell(value)}</td>" for value in row) + "</tr>" for row in rows)
-    kinds = "days" if head[0] == "day" else "named"
-    return (f'<section class="rows{" many" if len(head) > 12 else ""}"><h2>{escape(name)}</h2>\n'
-            f'<div class="scroll"><table class="{kinds}"><thead><tr>{"".join(_heads(head))}</tr></thead>\n'
-            f"<tbody>\n{lines}\n</tbody></table></div></section>")
+def _body(rows: Sequence[Sequence[float | str]]) -> str:
+    return "\n".join("<tr>" + "".join(f"<td>{_cell(value)}</td>" for value in row) + "</tr>" for row in rows)
 
 
-# ---- the page
+def _is_long(table: Table) -> bool:
+    _, _, rows = table
+    return len(rows) > _MOST_ROWS
 
 
-def _short(value: float) -> float | None:
-    """Six digits are enough at the pointer; JSON has no infinity."""
-    if isinstance(value, int):
-        return value
-    return float(f"{value:.6g}") if math.isfinite(value) else None
+def _table(number: int, table: Table, is_open: bool) -> str:
+    """The rows of a long one are the script's."""
+    name, names, rows = table
+    own, body = (f' data-table="{number}"', "") if _is_long(table) else ("", f"\n{_body(rows)}\n")
+    kind = "days" if names[0] in ("day", "week", "month") else "named"
+    state = f"{own}{' open' if is_open else ''}"
+    return (f'<details class="rows{" many" if len(names) > 12 else ""}"{state}><summary>{escape(name)}</summary>\n'
+            f'<div class="scroll"><table class="{kind}"><thead><tr>{"".join(_heads(names, rows[0]))}</tr></thead>\n'
+            f"<tbody>{body}</tbody></table></div></details>")
 
 
-def _shorts(values: Sequence[float]) -> list[float | None]:
-    return [_short(value) for value in values]
+# ---- what the script tells
 
 
-def _values(courses: Sequence[Course]) -> str:
-    """What the script tells at the pointer."""
+def _short(value: float | str) -> float | str | None:
+    """As the tables have it; JSON has no infinity."""
+    if isinstance(value, float):
+        return round(value, _DIGITS) if math.isfinite(value) else None
+    return value
+
+
+def _columns(kind: str, shown: Shown) -> dict[str, Sequence[object]]:
+    names = {} if kind == "day" else {kind: shown.names}
+    dates = {"date": shown.dates} if shown.dates else {}
+    values = {name: list(map(_short, column)) for name, column in shown.columns.items()}
+    return {**names, "day": shown.first, **dates, **values}
+
+
+def _values(courses: Sequence[Course], shown: Sequence[View], tables: Sequence[Table]) -> str:
+    """The columns of every view, for the pointer, and those of long tables."""
     told = {
-        "left": picture.LEFT, "right": picture.RIGHT, "top": picture.TOP, "bottom": picture.BOTTOM,
+        "left": axes.LEFT, "right": axes.RIGHT, "top": axes.TOP, "bottom": axes.BOTTOM,
         "colours": picture.COLOURS,
-        "last": picture.last_day(courses), "days": max(course.span for course in courses),
-        "courses": [{
-            "name": course.name,
-            "columns": {name: _shorts(values) for name, values in course.columns.items() if name in picture.TITLES},
-            "bands": {name: {"mean": _shorts(band.mean), "p10": _shorts(band.p10), "p90": _shorts(band.p90)}
-                      for name, band in course.bands.items() if name in picture.TITLES},
-        } for course in courses],
+        "names": [course.name for course in courses],
+        "views": {view.kind: {"last": view.last, "courses": [_columns(view.kind, each) for each in view.courses]}
+                  for view in shown},
+        "tables": {number: [list(map(_short, column)) for column in zip(*table[2])]
+                   for number, table in enumerate(tables) if _is_long(table)},
     }
     # A name must not end the script element.
     return json.dumps(told, separators=(",", ":")).replace("<", "\\u003c")
+
+
+# ---- the page
 
 
 def _beside(name: str) -> str:
@@ -116,23 +188,36 @@ def _beside(name: str) -> str:
 
 def _title(courses: Sequence[Course]) -> str:
     names = [course.name for course in courses]
-    return escape(", ".join(names) if _few(courses) else f"{names[0]} and {len(names) - 1} others")
+    return ", ".join(names) if _few(courses) else f"{names[0]} and {len(names) - 1} others"
 
 
-def page(courses: Sequence[Course], streets: int | None = None, tables: Sequence[Table] = ()) -> str:
-    """The page of courses; `streets` is what --open asks for. Without tables it has those of the courses' days."""
-    columns = [column for column in picture.TITLES if any(column in course.columns for course in courses)]
-    pictures = "\n".join(picture.picture(courses, column, streets) for column in columns)
-    title = _title(courses)
-    shown = "\n".join(_table(*each) for each in tables or [days_table(course) for course in courses])
+def document(title: str, parts: Sequence[str], rules: str = "", values: str = "{}") -> str:
+    """A page of these parts, with the values that its script tells."""
     return "\n".join([
         '<!DOCTYPE html>\n<html lang="en">\n<head>\n<meta charset="utf-8">',
         '<meta name="viewport" content="width=device-width, initial-scale=1">',
-        f"<title>Street drill forecast: {title}</title>\n<style>\n{_beside('page.css')}</style>\n</head>\n<body>",
-        f"<h1><span>Street drill forecast</span> {title}</h1>",
-        f"<main>\n{_summary(courses, streets, len(columns))}\n{pictures}\n</main>",
-        "<p>Days count from 0; cost is in seconds, memorized is the number of streets held in memory.</p>",
-        shown,
-        f'<script id="values" type="application/json">{_values(courses)}</script>',
+        f"<title>Street drill forecast: {escape(title)}</title>\n<style>\n{_beside('page.css')}{rules}</style>",
+        f"</head>\n<body>\n<h1><span>Street drill forecast</span> {escape(title)}</h1>",
+        *parts,
+        f'<script id="values" type="application/json">{values}</script>',
         f"<script>\n{_beside('page.js')}</script>\n</body>\n</html>\n",
     ])
+
+
+def page(given: Sequence[Course], streets: int | None = None, tables: Sequence[Table] = (),
+         made: date | None = None) -> str:
+    """The page of courses: `streets` is what --open asks for, and `made` the day, today where it is None. The given
+    tables stand open; behind them are those of the courses' weeks, months and days."""
+    courses = head.told_apart(given)
+    shown = views(courses)
+    columns = [column for column in picture.TITLES if any(column in course.columns for course in courses)]
+    legend = _legend(courses)
+    pictures = [picture.picture(view, courses, column, streets, legend) for column in columns for view in shown]
+    own = [table(course) for course in courses for table in (weeks_table, months_table, days_table)]
+    listed = [*tables, *own]
+    return document(_title(courses), [
+        _made(courses, made or date.today()),
+        f"<main>\n{_summary(courses, streets, shown)}", *pictures, "</main>",
+        "<p>Days count from 0; cost is in seconds, memorized is the number of streets held in memory.</p>",
+        *(_table(number, table, number < len(tables)) for number, table in enumerate(listed)),
+    ], _off(courses), _values(courses, shown, listed))

@@ -1,200 +1,168 @@
-"""A picture: one column of all courses over the days, as SVG.
+"""A picture: one column of all courses over the days, weeks or months, as SVG.
 
-  picture     the whole figure
-  axis        where an axis has its marks
-  swatch      a course's line, for its name
+  picture   the whole figure
+  frame     a figure's svg, of any parts
+  swatch    a course's line, for its name
 """
 
 import math
 from collections.abc import Iterable, Iterator, Sequence
-from dataclasses import dataclass
+from datetime import date
 
-from .course import Course, line, opening
+from .axes import BOTTOM, HEIGHT, LEFT, RIGHT, WIDTH, Scale, amount, axis, below, grid
+from .course import STANDING, Course, line, opening
+from .series import smoothed, stretches, thinned, thinned_band, window
+from .views import Shown, View
 
 TITLES = {
-    "cost": "Time a day",
+    "cost": "Time",
     "memorized": "Streets held in memory",
-    "learned": "Streets learned a day",
-    "reviewed": "Streets reviewed a day",
-    "due": "Streets due each day",
+    "learned": "Streets learned",
+    "reviewed": "Streets reviewed",
+    "due": "Streets due",
 }
-# A picture's own units; the browser scales it to the window.
-WIDTH, HEIGHT = 480, 256
-LEFT, RIGHT, TOP, BOTTOM = 58, 472, 14, 216
 COLOURS = 8
 _DASHES = ("", "7 4", "2 3", "9 3 2 3")
-_TIME_STEPS = (1, 2, 5, 10, 20, 30, 60, 120, 300, 600, 900, 1800, 3600, 7200, 10800, 21600, 43200, 86400)
-_MARKS = 5
 # More days than these would stand on each other's names.
 _MOST_OPENINGS = 4
 
-# ---- axes
+# ---- the axis below
 
 
-@dataclass(frozen=True)
-class _Scale:
-    """From values to a picture's units."""
-
-    last_day: int
-    top: float
-
-    def x(self, day: float) -> float:
-        """From the left."""
-        return LEFT + day / self.last_day * (RIGHT - LEFT)
-
-    def y(self, value: float) -> float:
-        """From the top."""
-        return BOTTOM - value / self.top * (BOTTOM - TOP)
+def _short_date(text: str, days: int) -> str:
+    shown = date.fromisoformat(text)
+    return f"{shown.day} {shown:%b}" if days < 365 else f"{shown:%b %Y}"
 
 
-def _round_step(least: float) -> float:
-    """The first of 1, 2, 5, 10, 20, 25, 50, .. that is not below."""
-    power = 10.0 ** math.floor(math.log10(max(least, 1)))
-    # 2.5 is no step of whole numbers.
-    factors = (1, 2, 5, 10, 20) if power < 10 else (1, 2, 2.5, 5, 10, 20)
-    return next(factor * power for factor in factors if factor * power >= least)
+def _named(view: View) -> Iterator[tuple[float, str]]:
+    """Marks of the days, weeks or months, by their dates where there are any."""
+    shown = view.longest
+    # Long names need more room, also in a narrow window.
+    marks = 5 if shown.dates or view.last >= 1000 else 8
+    # Days count from 0, weeks and months from 1.
+    offset = 1 if shown.names[0] == "1" else 0
+    for place in (round(mark) - offset for mark in axis(view.last, marks=marks)):
+        if 0 <= place < len(shown.names):
+            by_date = shown.dates and view.kind != "month"
+            yield place, _short_date(shown.dates[place], shown.first[-1]) if by_date else _grouped(shown.names[place])
 
 
-def axis(most: float, time: bool = False, marks: int = _MARKS) -> list[float]:
-    """Marks from 0 up to the first that is not below `most`."""
-    least = most / marks
-    if time:
-        step = next((step for step in _TIME_STEPS if step >= least), None) or 3600 * _round_step(least / 3600)
-    else:
-        step = _round_step(least)
-    return [number * step for number in range(max(1, math.ceil(most / step - 1e-9)) + 1)]
-
-
-def _mark(value: float, time: bool = False) -> str:
-    if not time:
-        return f"{value:,.0f}" if value < 1e6 else f"{value:.3g}"
-    if value >= 360_000_000:
-        return f"{value / 3600:.2g} h"
-    if value < 60:
-        return f"{value:g} s" if value else "0"
-    minutes = round(value / 60)
-    if minutes < 60:
-        return f"{minutes} min"
-    return f"{minutes // 60:,} h {minutes % 60:02}" if minutes % 60 else f"{minutes // 60:,} h"
-
-
-def _grid(scale: _Scale, marks: Sequence[float], time: bool) -> Iterator[str]:
-    for mark in marks:
-        y = scale.y(mark)
-        yield f'<line class="grid" x1="{LEFT}" x2="{RIGHT}" y1="{y:.1f}" y2="{y:.1f}"/>'
-        yield f'<text x="{LEFT - 6}" y="{y + 4:.1f}" text-anchor="end">{_mark(mark, time)}</text>'
-    # Long numbers need more room, also in a narrow window.
-    for day in axis(scale.last_day, marks=8 if scale.last_day < 1000 else _MARKS):
-        if day <= scale.last_day:
-            x = scale.x(day)
-            yield f'<line class="grid" x1="{x:.1f}" x2="{x:.1f}" y1="{BOTTOM}" y2="{BOTTOM + 4}"/>'
-            yield f'<text x="{x:.1f}" y="{BOTTOM + 18}" text-anchor="middle">{_mark(day)}</text>'
-    yield f'<text x="{(LEFT + RIGHT) / 2}" y="{HEIGHT - 4}" text-anchor="middle">day</text>'
+def _grouped(name: str) -> str:
+    return f"{int(name):,}" if name.isdigit() else name
 
 
 # ---- lines and bands
 
 
-def _stretches(values: Iterable[tuple[float, ...]]) -> Iterator[list[tuple[int, tuple[float, ...]]]]:
-    """The days in stretches without a value that is infinite or no number: there a line is broken."""
-    stretch: list[tuple[int, tuple[float, ...]]] = []
-    for day, places in enumerate(values):
-        if all(map(math.isfinite, places)):
-            stretch.append((day, places))
-        elif stretch:
-            yield stretch
-            stretch = []
-    if stretch:
-        yield stretch
+def _points(scale: Scale, places: Iterable[tuple[float, float]]) -> str:
+    return "L".join(f"{scale.x(place):.1f} {scale.y(value):.1f}" for place, value in places)
 
 
-def _points(scale: _Scale, places: Iterable[tuple[int, float]]) -> str:
-    return "L".join(f"{scale.x(day):.1f} {scale.y(value):.1f}" for day, value in places)
+def _classes(kind: str, course: int) -> str:
+    """By its colour, and by the course, whose line may be switched off."""
+    return f"{kind} c{course % COLOURS} l{course}"
 
 
-def _line(scale: _Scale, values: Sequence[float], colour: int, kind: str = "course") -> Iterator[str]:
-    dash = _DASHES[colour // COLOURS % len(_DASHES)]
-    for stretch in _stretches(zip(values)):
+def _dash(course: int) -> str:
+    return _DASHES[course // COLOURS % len(_DASHES)]
+
+
+def _line(scale: Scale, values: Iterable[float], course: int, kind: str) -> Iterator[str]:
+    for whole in stretches(zip(values)):
+        stretch = thinned(whole)
         points = _points(scale, [(day, value) for day, (value,) in stretch])
         # A stretch of one day is a dot: a line to itself with round ends.
         lone = f"L{points}" if len(stretch) == 1 else ""
-        yield f'<path class="{kind} c{colour % COLOURS}" stroke-dasharray="{dash}" d="M{points}{lone}"/>'
+        yield f'<path class="{_classes(kind, course)}" stroke-dasharray="{_dash(course)}" d="M{points}{lone}"/>'
 
 
-def _band(scale: _Scale, lows: Sequence[float], highs: Sequence[float], colour: int) -> Iterator[str]:
-    for stretch in _stretches(zip(lows, highs)):
+def _band(scale: Scale, lows: Iterable[float], highs: Iterable[float], course: int) -> Iterator[str]:
+    for whole in stretches(zip(lows, highs)):
+        stretch = thinned_band(whole)
         there = _points(scale, [(day, high) for day, (_, high) in stretch])
         back = _points(scale, [(day, low) for day, (low, _) in reversed(stretch)])
-        yield f'<path class="band c{colour % COLOURS}" d="M{there}L{back}Z"/>'
+        yield f'<path class="{_classes("band", course)}" d="M{there}L{back}Z"/>'
 
 
-def swatch(colour: int) -> str:
+def swatch(course: int) -> str:
     """A piece of a course's line, to stand before its name."""
-    dash = _DASHES[colour // COLOURS % len(_DASHES)]
     return (f'<svg class="swatch" viewBox="0 0 28 8" aria-hidden="true">'
-            f'<path class="course c{colour % COLOURS}" stroke-dasharray="{dash}" d="M2 4L26 4"/></svg>')
+            f'<path class="course c{course % COLOURS}" stroke-dasharray="{_dash(course)}" d="M2 4L26 4"/></svg>')
 
 
-# ---- the day that holds so many streets
+# ---- the day from which so many streets stay held
 
 
-def _openings(scale: _Scale, courses: Sequence[Course], streets: int) -> Iterator[str]:
+def _openings(view: View, scale: Scale, courses: Sequence[Course], streets: int) -> Iterator[str]:
     """A line across at so many streets, and at each course's day a dot, a line down and the day."""
     openings = [opening(line(course, "memorized"), streets) for course in courses]
-    days = sorted((day, colour) for colour, day in enumerate(openings) if day is not None)
+    places = [None if day is None else shown.place(day) for shown, day in zip(view.courses, openings)]
+    marks = sorted((place, number) for number, place in enumerate(places) if place is not None)
     y = scale.y(streets)
     yield f'<line class="open" x1="{LEFT}" x2="{RIGHT}" y1="{y:.1f}" y2="{y:.1f}"/>'
-    for day, _ in days:
-        yield f'<line class="open" x1="{scale.x(day):.1f}" x2="{scale.x(day):.1f}" y1="{y:.1f}" y2="{BOTTOM}"/>'
+    for place, number in marks:
+        x = scale.x(place)
+        yield f'<line class="open l{number}" x1="{x:.1f}" x2="{x:.1f}" y1="{y:.1f}" y2="{BOTTOM}"/>'
     # The place below its end is free where every course has come to it, or is over, long before; else above its start.
-    clear = max(course.span - 1 if day is None else day for course, day in zip(courses, openings))
+    clear = max(len(shown.names) - 1 if place is None else place for shown, place in zip(view.courses, places))
     is_free = scale.x(clear) < RIGHT - 110 and y < BOTTOM - 20
-    end, below, side = (RIGHT - 5, 14, "end") if is_free else (LEFT + 5, -5, "start")
-    yield f'<text class="over" x="{end}" y="{y + below:.1f}" text-anchor="{side}">{_mark(streets)} streets</text>'
-    for row, (day, colour) in enumerate(days):
-        x = scale.x(day)
-        yield f'<circle class="dot c{colour % COLOURS}" cx="{x:.1f}" cy="{y:.1f}" r="4"/>'
-        if len(days) <= _MOST_OPENINGS:
+    end, under, side = (RIGHT - 5, 14, "end") if is_free else (LEFT + 5, -5, "start")
+    yield f'<text class="over" x="{end}" y="{y + under:.1f}" text-anchor="{side}">{amount(streets)} streets</text>'
+    for row, (place, number) in enumerate(marks):
+        x = scale.x(place)
+        yield f'<circle class="{_classes("dot", number)}" cx="{x:.1f}" cy="{y:.1f}" r="4"/>'
+        if len(marks) <= _MOST_OPENINGS:
+            day = openings[number]
+            assert day is not None, "it has a place"
             side, gap = ("start", 5) if x < (LEFT + RIGHT) / 2 else ("end", -5)
-            yield (f'<text class="over c{colour % COLOURS}" x="{x + gap:.1f}" y="{BOTTOM - 7 - 17 * row}" '
-                   f'text-anchor="{side}">day {day}</text>')
+            yield (f'<text class="{_classes("over", number)}" x="{x + gap:.1f}" y="{BOTTOM - 7 - 17 * row}" '
+                   f'text-anchor="{side}">{courses[number].date(day) or f"day {day}"}</text>')
 
 
 # ---- the whole
 
 
-def last_day(courses: Sequence[Course]) -> int:
-    """Where the axis of days ends: of a span of one day at 1, since it needs some width."""
-    return max(1, *(course.span - 1 for course in courses))
+def _most(shown: Shown, column: str) -> float:
+    names = (column, f"{column}_p90", f"{column}_first")
+    return max((value for name in names for value in shown.columns.get(name, ()) if math.isfinite(value)), default=0)
 
 
-def _most(courses: Sequence[Course], column: str) -> float:
-    values = [value for course in courses for value in course.columns.get(column, ())]
-    values += [value for course in courses if column in course.bands for value in course.bands[column].p90]
-    return max((value for value in values if math.isfinite(value)), default=0)
-
-
-def _lines(scale: _Scale, courses: Sequence[Course], column: str) -> Iterator[str]:
+def _lines(view: View, scale: Scale, column: str, days: int) -> Iterator[str]:
     """Bands at the back; of several runs the first is a thin line, and the mean the strong one."""
-    for colour, course in enumerate(courses):
-        if column in course.bands:
-            yield from _band(scale, course.bands[column].p10, course.bands[column].p90, colour)
-    for colour, course in enumerate(courses):
-        if column in course.bands:
-            yield from _line(scale, course.columns[column], colour, "first")
-        yield from _line(scale, line(course, column), colour)
+    for number, shown in enumerate(view.courses):
+        lows, highs = [shown.columns.get(f"{column}_{end}", ()) for end in ("p10", "p90")]
+        yield from _band(scale, lows, highs, number)
+    for number, shown in enumerate(view.courses):
+        values = shown.columns.get(column, ())
+        yield from _line(scale, shown.columns.get(f"{column}_first", ()), number, "first")
+        yield from _line(scale, values, number, "course")
+        yield from _line(scale, smoothed(values, days) if days else (), number, "smooth")
 
 
-def picture(courses: Sequence[Course], column: str, streets: int | None) -> str:
-    """`streets` is what --open asks for."""
+def frame(title: str, parts: Iterable[str]) -> str:
+    """The parts as one svg."""
+    return (f'<svg viewBox="0 0 {WIDTH} {HEIGHT}" role="img" aria-label="{title}" tabindex="0">'
+            f'{"".join(parts)}<g class="pointer"></g></svg>')
+
+
+def _title(view: View, column: str) -> str:
+    if column in STANDING:
+        return TITLES[column]
+    return f"{TITLES[column]} a {view.kind}"
+
+
+def picture(view: View, courses: Sequence[Course], column: str, streets: int | None, legend: str = "") -> str:
+    """`streets` is what --open asks for; the legend stands below the title."""
     time = column == "cost"
     goal = streets if streets and column == "memorized" else 0
-    marks = axis(max(_most(courses, column), goal) or 1, time)
-    scale = _Scale(last_day(courses), marks[-1])
-    parts = [*_grid(scale, marks, time), *_lines(scale, courses, column)]
+    most = max(_most(shown, column) for shown in view.courses)
+    marks = axis(max(most, goal) or 1, time)
+    scale = Scale(view.last, marks[-1])
+    # What stands at a day's end does not jump, and smoothed it would come to so many streets on another day.
+    days = window(view.last + 1) if view.kind == "day" and column not in STANDING else 0
+    parts = [*grid(scale, marks, time), *below(scale, _named(view), view.kind), *_lines(view, scale, column, days)]
     if goal:
-        parts += _openings(scale, courses, goal)
-    title = TITLES[column]
-    return (f'<figure data-column="{column}" data-top="{marks[-1]:g}"><figcaption>{title}</figcaption>'
-            f'<svg viewBox="0 0 {WIDTH} {HEIGHT}" role="img" aria-label="{title}" tabindex="0">'
-            f'{"".join(parts)}<g class="pointer"></g></svg></figure>')
+        parts += _openings(view, scale, courses, goal)
+    title = _title(view, column)
+    return (f'<figure class="{"jumps" if days else ""}" data-view="{view.kind}" data-column="{column}" '
+            f'data-top="{marks[-1]:g}"><figcaption>{title}</figcaption>{legend}{frame(title, parts)}</figure>')

@@ -1,97 +1,151 @@
 """A region: a folder with a settings file for each depot, NAME.toml, and its deck NAME.csv where there is one.
 
-  read      the folder's files
+  read      the folder's files; notes: what of the folder is left out
   courses   the forecast of each, on several processes
   total     all depots as one course
-  table     a row a depot
 """
 
 import math
-from collections.abc import Sequence
-from concurrent.futures import BrokenExecutor, Executor
-from dataclasses import dataclass
+import os
+from collections.abc import Callable, Iterable, Sequence
+from dataclasses import dataclass, replace
+from functools import partial
 from pathlib import Path
 
-from . import course, deck, files, runs, settings
-from .course import COLUMNS, Course, Table
-from .errors import Mistake
+from . import course, deck, files, runs, settings, streets
+from .course import COLUMNS, STANDING, Columns, Course
+from .errors import Mistake, Mistakes
+from .settings import Settings, Source
 
 
 @dataclass(frozen=True)
 class Depot:
-    """A depot's files as texts, so that a worker needs none of the files itself."""
+    """Its settings, or what is wrong with them, and its deck as a text: a worker needs none of the files itself."""
 
     path: str
-    settings: str
+    given: Settings | Mistake
     deck_path: str
     deck: str | None
 
 
-def read(folder: str) -> list[Depot]:
+# ---- the folder
+
+
+def _check_cases(folder: str, names: Iterable[str]) -> None:
+    """North.toml and north.csv are no pair, and on another machine two such names may be one file."""
+    seen: dict[str, str] = {}
+    for name in sorted(names):
+        stem, kind = os.path.splitext(name)
+        other = seen.setdefault(stem.casefold(), stem)
+        if (other, kind) != (stem, kind.lower()):
+            like = f"{other}{kind.lower()}" if other == stem else f"{other}, the name of another file,"
+            raise Mistake(str(Path(folder) / name), f"differs from {like} in capital and small letters alone")
+
+
+def _settings(path: str, options: Sequence[Source]) -> Settings | Mistake:
+    try:
+        return settings.read(path, options)
+    except Mistake as mistake:
+        return mistake
+
+
+def _names(folder: str) -> list[str]:
+    """The settings and decks of the folder."""
+    try:
+        return [name for name in os.listdir(folder) if name.lower().endswith((".toml", ".csv"))]
+    except OSError as error:
+        raise Mistake(folder, error.strerror or str(error)) from error
+
+
+def read(folder: str, options: Sequence[Source] = ()) -> list[Depot]:
     """The depots in the order of their names."""
+    _check_cases(folder, _names(folder))
     depots = []
     for path in sorted(Path(folder).glob("*.toml")):
         beside = path.with_suffix(".csv")
         known = files.read(str(beside)) if beside.exists() else None
-        depots.append(Depot(str(path), files.read(str(path)), str(beside), known))
+        depots.append(Depot(str(path), _settings(str(path), options), str(beside), known))
     if not depots:
         raise Mistake(folder, "has no settings file, NAME.toml")
     return depots
 
 
-def _course(depot: Depot) -> Course | Mistake:
+def notes(folder: str, depots: Sequence[Depot], outputs: Iterable[str]) -> list[str]:
+    """Decks without settings, which are left out. The summary of an earlier call is none."""
+    used = {depot.deck_path for depot in depots}
+    written = set(map(os.path.realpath, outputs))
+    decks = sorted(str(Path(folder) / name) for name in _names(folder) if name.endswith(".csv"))
+    return [f"{path}: has no settings, {Path(path).stem}.toml, and is left out" for path in decks
+            if path not in used and os.path.realpath(path) not in written]
+
+
+def sources(depots: Sequence[Depot]) -> list[str]:
+    """The files that were read."""
+    own = [path for depot in depots if isinstance(depot.given, Settings) for path in depot.given.sources]
+    return [*own, *(depot.deck_path for depot in depots)]
+
+
+# ---- forecasts
+
+
+def _course(depot: Depot, number: int) -> Course | Mistake:
     # A mistake is given back and not raised, so that one depot's does not hide the others'.
+    given = depot.given
+    if isinstance(given, Mistake):
+        return given
     try:
-        given = settings.of_text(depot.path, depot.settings)
-        known = deck.NO_DECK if depot.deck is None else deck.of_text(depot.deck_path, depot.deck)
-        return course.of_runs(given.name, runs.forecasts(given, known, 1, 1))
+        day = given.first_day
+        known = deck.no_deck(day) if depot.deck is None else deck.of_text(depot.deck_path, depot.deck, day)
+        known = streets.prepared(given, known)
+        drawn, _ = runs.drilled(given, known, number, 1)
+        return drawn
     except Mistake as mistake:
         return mistake
 
 
-def courses(folder: str, depots: Sequence[Depot], executor: Executor) -> list[Course | Mistake]:
-    """The forecast of each depot, in their order. The executor may be of any kind that `concurrent.futures` knows."""
-    try:
-        return list(executor.map(_course, depots))
-    except BrokenExecutor as error:
-        raise Mistake(folder, "a worker ended before its forecast") from error
+def _check_first_days(folder: str, depots: Sequence[Depot]) -> None:
+    days = {depot.given.first_day for depot in depots if isinstance(depot.given, Settings)}
+    if len(days) > 1:
+        told = " and ".join(sorted("none" if day is None else str(day) for day in days))
+        raise Mistake(folder, f"the depots must have one first_day, and have {told}")
 
 
-# What a depot has when its span is over, and keeps in the region's sum.
-_KEPT = ("introduced", "memorized")
+def courses(folder: str, depots: Sequence[Depot], number: int, mapped: Callable[..., Iterable[Course | Mistake]],
+            done: Callable[[], None] = lambda: None) -> list[Course]:
+    """The forecasts of each depot, so many runs each, in their order; `mapped` calls side by side, as `map` does."""
+    _check_first_days(folder, depots)
+    made, mistakes = [], []
+    for each in mapped(partial(_course, number=number), depots):
+        done()
+        if isinstance(each, Course):
+            made.append(each)
+        else:
+            mistakes += each.mistakes if isinstance(each, Mistakes) else [each]
+    if mistakes:
+        raise Mistakes(mistakes)
+    return made
 
 
-def _on(depot: Course, column: str, day: int) -> float:
-    if day < depot.span:
-        return depot.columns[column][day]
-    return depot.columns[column][-1] if column in _KEPT else 0
+# ---- all depots as one
 
 
-def total(depots: Sequence[Course]) -> Course:
-    """Each day's sum over the depots."""
-    days = range(max(depot.span for depot in depots))
-    sums = {column: tuple(_sum([_on(depot, column, day) for depot in depots]) for day in days) for column in COLUMNS}
-    return Course(f"region of {len(depots)} depots", sums, {})
+def _on(run: Columns, column: str, day: int) -> float:
+    """A depot whose span is over costs nothing, and keeps its streets."""
+    if day < len(run[column]):
+        return run[column][day]
+    return run[column][-1] if column in STANDING else 0
 
 
-def _sum(values: Sequence[float]) -> float:
+def total_of(values: Sequence[float]) -> float:
     """Counts stay whole numbers; fsum rounds once, whatever the order."""
     if all(isinstance(value, int) for value in values):
         return sum(values)
     return math.fsum(values) if all(map(math.isfinite, values)) else sum(values)
 
 
-def table(depots: Sequence[Course], streets: int | None) -> Table:
-    """A row a depot; `opens` is empty where so many streets are held on no day."""
-    head = ["depot", "days", "seconds", "busiest_day", "busiest_seconds", "introduced", "memorized"]
-    return "Depots", [*head, "opens"] if streets else head, [_row(depot, streets) for depot in depots]
-
-
-def _row(depot: Course, streets: int | None) -> list[float | str]:
-    costs, busiest = depot.columns["cost"], course.busiest(depot)
-    row: list[float | str] = [depot.name, depot.span, _sum(costs), busiest, costs[busiest],
-                              depot.columns["introduced"][-1], depot.columns["memorized"][-1]]
-    if streets is None:
-        return row
-    day = course.opening(depot.columns["memorized"], streets)
-    return [*row, "" if day is None else day]
+def total(depots: Sequence[Course]) -> Course:
+    """Each day's sum over the depots, of each run."""
+    days = range(max(depot.span for depot in depots))
+    sums = [{column: tuple(total_of([_on(run, column, day) for run in together]) for day in days) for column in COLUMNS}
+            for together in zip(*(depot.runs for depot in depots))]
+    return replace(course.of_columns(f"region of {len(depots)} depots", sums), first_day=depots[0].first_day)

@@ -1,15 +1,15 @@
 """The search for the retention, from 0.70 to 0.95, at which a drill costs least for each street held at its end."""
 
 import math
-import os
 import time
-from collections.abc import Callable, Sequence
-from concurrent.futures import ThreadPoolExecutor
+from collections.abc import Callable, Iterable
 from dataclasses import dataclass
+from typing import Any
 
-from . import library
+from . import given, library
 from .errors import Refusal
-from .model import FIRST_TABLE, Card, Runner, SimulatorConfig
+from .model import FIRST_TABLE, Cards, Runner, SimulatorConfig
+from .threads import mapping
 
 MOST_ROUNDS = 64
 FIRST_SEED = 42
@@ -30,18 +30,33 @@ class Optimum:
 
 @dataclass(frozen=True)
 class Trial:
-    """A retention that was tried: its number from 1, the mean of its runs, and the seconds that they took."""
+    """A retention that was tried: its number from 1, the mean of its runs, and the seconds that they took.
+
+    `held` is how many streets the runs hold on their last day, on the mean.
+    """
 
     number: int
     retention: float
     mean: float
     seconds: float
+    held: float
 
 
-def _trial_mean(runner: Runner, retention: float, threads: ThreadPoolExecutor) -> float:
+def _tried(runner: Runner, number: int, retention: float, mapped: Callable[..., Any]) -> Trial:
+    begun = time.monotonic()
     seeds = range(FIRST_SEED, FIRST_SEED + library.sample_size(runner.inputs.learn_span))
-    # map gives the targets, and the first refusal, in the order of the seeds, as one thread would.
-    return library.mean(list(threads.map(lambda seed: runner.target(retention, seed), seeds)))
+    # They come, and the first refusal, in the order of the seeds, as one thread would.
+    outcomes = list(mapped(lambda seed: runner.outcome(retention, seed), seeds))
+    mean = library.mean([target for target, _ in outcomes])
+    held = sum(streets for _, streets in outcomes) / len(outcomes)
+    return Trial(number, retention, mean, time.monotonic() - begun, held)
+
+
+def trial(config: SimulatorConfig, parameters: Iterable[float], cards: Cards = (), *, retention: float,
+          workers: int | None = None) -> Trial:
+    """What a retention costs by the runs that the search would make for it; its number is 0."""
+    with mapping(workers) as mapped:
+        return _tried(Runner(config, parameters, cards), 0, retention, mapped)
 
 
 def _optimum(found: library.Found) -> Optimum:
@@ -50,7 +65,7 @@ def _optimum(found: library.Found) -> Optimum:
     return Optimum(found.retention, found.mean, found.rounds)
 
 
-def optimal_retention(config: SimulatorConfig, parameters: Sequence[float], cards: Sequence[Card] = (), *,
+def optimal_retention(config: SimulatorConfig, parameters: Iterable[float], cards: Cards = (), *,
                       rounds: int = MOST_ROUNDS, workers: int | None = None,
                       progress: Callable[[Trial], None] | None = None, table: int = FIRST_TABLE) -> Optimum:
     """The cheapest retention, each trial's runs on `workers` threads (all cores where it is None).
@@ -59,18 +74,17 @@ def optimal_retention(config: SimulatorConfig, parameters: Sequence[float], card
     rounds were not enough.
     """
     runner = Runner(config, parameters, cards, table)
-    if not 1 <= rounds <= MOST_ROUNDS:
+    if not 1 <= given.index("rounds", rounds) <= MOST_ROUNDS:
         # The library's own entry refuses these, in the order of its table.
         return _optimum(library.optimal_retention(runner.inputs, min(max(rounds, 0), MOST_ROUNDS + 1),
                                                   library.Lists(runner.inputs, table)))
     search = library.Search(rounds)
-    with ThreadPoolExecutor(workers or os.cpu_count()) as threads:
+    with mapping(workers) as mapped:
         number = 0
         while not math.isnan(retention := search.next_retention()):
             number += 1
-            begun = time.monotonic()
-            mean = _trial_mean(runner, retention, threads)
-            search.take_mean(mean)
+            tried = _tried(runner, number, retention, mapped)
+            search.take_mean(tried.mean)
             if progress:
-                progress(Trial(number, retention, mean, time.monotonic() - begun))
+                progress(tried)
     return _optimum(search.answer())

@@ -1,107 +1,83 @@
-"""Settings from a TOML file: the fields of `SimulatorConfig`, and parameters, desired_retention and seed.
+"""Settings from a TOML file: the fields of `SimulatorConfig`, and parameters, retentions, seed and the first day.
 
-A missing key takes its default; parameters have none, which the library refuses. Each error names its key.
+A missing key takes its default; parameters have none, which the library refuses. Each error names its key, and all of
+a file's are told at once. What the command line sets goes before what the file says.
 """
 
 import itertools
 import re
 import tomllib
-from collections.abc import Callable
-from dataclasses import dataclass, fields
+from collections.abc import Mapping, Sequence
+from dataclasses import dataclass, field
+from datetime import date
 from pathlib import Path
 from typing import Any
 
 from . import files
-from .decimals import exact, nearest
-from .errors import Mistake
+from .decimals import rounded
+from .errors import Mistake, raise_all
+from .keys import CONFIG, READERS, Written, Wrong
 from .model import DESIRED_RETENTION, SEED, SimulatorConfig
+
+PARAMETERS = 34
+
+# Where something is set, a file or an option, and its text.
+Source = tuple[str, str]
 
 
 @dataclass(frozen=True)
 class Settings:
-    """What one file says. `path` is its name as the planner wrote it."""
+    """What one file says. `path` is its name as the planner wrote it.
+
+    `first_day` is the date of day 0. `desired_retention` is for new streets; `desired_retention_for_deck` for the
+    deck's, which keep their own where it is None. `places` tells which option set a key, `sources` are the files read.
+    """
 
     path: str
     config: SimulatorConfig
     parameters: tuple[float, ...]
     desired_retention: float
     seed: int
+    desired_retention_for_deck: float | None = None
+    first_day: date | None = None
+    places: Mapping[str, str] = field(default_factory=dict)
+    sources: tuple[str, ...] = ()
 
     @property
     def name(self) -> str:
         """What the file is called, for a head or a row."""
         return Path(self.path).stem
 
-
-@dataclass(frozen=True)
-class _Written:
-    """A float as it stands in the file, so that it is rounded once and an error can name its key."""
-
-    text: str
+    def place(self, key: str) -> str:
+        """Where a key is set, or would be; it may have an index."""
+        return f"{self.places.get(key.partition('[')[0], self.path)}: {key}"
 
 
-class _Wrong(Exception):
-    """A value that is not as it must be: its place below the key, and what is wrong."""
+# ---- parameters from a file of their own
 
 
-_KINDS = {bool: "true or false", str: "a text", int: "a whole number", _Written: "a decimal number", list: "a list",
-          dict: "a table"}
+def _numbers(path: str) -> tuple[float, ...]:
+    """Between the numbers stand blanks, commas, semicolons, brackets or the ends of lines; # begins a comment."""
+    text = re.sub("#.*", "", files.read(path))
+    numbers, mistakes = [], []
+    for word in re.finditer(r"[^\s,;\[\]]+", text):
+        try:
+            numbers.append(rounded(word[0]))
+        except ValueError as error:
+            mistakes.append(Mistake(f"{path}: {_line(text, word.start())}", f"{word[0][:40]!r} {error}"))
+    raise_all(path, mistakes)
+    return tuple(numbers)
 
 
-def _is(value: Any) -> str:
-    return _KINDS.get(type(value), "a date or a time")
+def _parameters(value: Any, folder: Path) -> tuple[float, ...]:
+    numbers = _numbers(str(folder / value)) if type(value) is str else READERS["parameters"](value, "parameters")
+    # The library reads the first ones, and asks nothing of more.
+    if len(numbers) > PARAMETERS:
+        raise Wrong("parameters", f"has {len(numbers)} numbers, and must have {PARAMETERS}")
+    return tuple(numbers)
 
 
-def _float(value: Any, place: str) -> float:
-    if type(value) is int:
-        value = _Written(str(value))
-    if type(value) is not _Written:
-        raise _Wrong(place, f"must be a number and is {_is(value)}")
-    try:
-        return nearest(exact(value.text.replace("_", "")))
-    except ValueError as error:
-        raise _Wrong(place, str(error)) from error
-
-
-def _whole(bits: int) -> Callable[[Any, str], int]:
-    def read(value: Any, place: str) -> int:
-        if type(value) is not int:
-            raise _Wrong(place, f"must be a whole number and is {_is(value)}")
-        if not 0 <= value < 2**bits:
-            raise _Wrong(place, f"must be 0 to {2**bits - 1}")
-        return value
-
-    return read
-
-
-def _bool(value: Any, place: str) -> bool:
-    if type(value) is not bool:
-        raise _Wrong(place, f"must be true or false and is {_is(value)}")
-    return value
-
-
-def _list(value: Any, place: str, read: Callable[[Any, str], Any], length: int | None = None) -> tuple[Any, ...]:
-    if type(value) is not list:
-        raise _Wrong(place, f"must be a list and is {_is(value)}")
-    if length is not None and len(value) != length:
-        raise _Wrong(place, f"must have {length} entries and has {len(value)}")
-    return tuple(read(entry, f"{place}[{index}]") for index, entry in enumerate(value))
-
-
-def _reader(default: Any) -> Callable[[Any, str], Any]:
-    """How a key is read, by its default: a list must have its length and the like entries."""
-    if type(default) is tuple:
-        return lambda value, place: _list(value, place, _reader(default[0]), len(default))
-    return {bool: _bool, int: _whole(32), float: _float}[type(default)]
-
-
-_CONFIG = {field.name: _reader(field.default) for field in fields(SimulatorConfig)}
-_READERS = {
-    **_CONFIG,
-    "parameters": lambda value, place: _list(value, place, _float),
-    "desired_retention": _float,
-    "seed": _whole(64),
-}
+# ---- the whole
 
 
 def _line(text: str, place: int) -> str:
@@ -110,7 +86,7 @@ def _line(text: str, place: int) -> str:
 
 def _parsed(path: str, text: str) -> dict[str, Any]:
     try:
-        return tomllib.loads(text, parse_float=_Written)
+        return tomllib.loads(text, parse_float=Written)
     except tomllib.TOMLDecodeError as error:
         sentence, _, place = str(error).rpartition(" (at ")
         raise Mistake(f"{path}: {place.rstrip(')')}", sentence) from error
@@ -123,28 +99,66 @@ def _parsed(path: str, text: str) -> dict[str, Any]:
         raise Mistake(f"{path}: {_line(text, depths.index(max(depths)))}", "lists lie too deep") from error
 
 
-def of_text(path: str, text: str) -> Settings:
-    """Settings from a text; `path` is for the errors."""
+def _value(key: str, value: Any, folder: Path) -> Any:
+    if key not in READERS:
+        raise Wrong(_shown(key), "is no setting; the settings are " + ", ".join(READERS))
+    return _parameters(value, folder) if key == "parameters" else READERS[key](value, key)
+
+
+def _shown(key: str) -> str:
+    """A key may be any text: it is shown so that it stays on one line."""
+    return key if re.fullmatch(r"[\w-]{1,80}", key) else repr(key[:80])
+
+
+def _values(source: Source, folder: Path, mistakes: list[Mistake]) -> dict[str, Any]:
+    """What a source sets; what is wrong in it is added to the mistakes."""
+    place, text = source
     values: dict[str, Any] = {}
-    for key, value in _parsed(path, text).items():
-        if key not in _READERS:
-            # A key may be any text: it is shown so that it stays on one line.
-            shown = key if re.fullmatch(r"[\w-]{1,80}", key) else repr(key[:80])
-            raise Mistake(f"{path}: {shown}", "is no setting; the settings are " + ", ".join(_READERS))
-        try:
-            values[key] = _READERS[key](value, key)
-        except _Wrong as wrong:
-            place, sentence = wrong.args
-            raise Mistake(f"{path}: {place}", sentence) from wrong
-    return Settings(
+    try:
+        for key, value in _parsed(place, text).items():
+            if key == "parameters" and type(value) is str:
+                values["sources"] = (str(folder / value),)
+            try:
+                values[key] = _value(key, value, folder)
+            except Wrong as wrong:
+                below, sentence = wrong.args
+                mistakes.append(Mistake(f"{place}: {below}", sentence))
+    except Mistake as mistake:
+        mistakes.append(mistake)
+    return values
+
+
+def _check_calendar(given: Settings) -> None:
+    """The forecast, and what is due half a span later, must lie in it."""
+    if given.first_day and given.first_day.toordinal() + 2 * given.config.learn_span > date.max.toordinal():
+        raise Mistake(given.place("first_day"), "the span does not end before the year 9999")
+
+
+def of_text(path: str, text: str, options: Sequence[Source] = ()) -> Settings:
+    """Settings from a text, and from what options of the command line set; `path` is for the errors."""
+    mistakes: list[Mistake] = []
+    values = _values((path, text), Path(path).parent, mistakes)
+    places: dict[str, str] = {}
+    for option in options:
+        told = _values(option, Path(), mistakes)
+        values |= told
+        places |= dict.fromkeys(told, option[0])
+    raise_all(path, mistakes)
+    given = Settings(
         path=path,
-        config=SimulatorConfig(**{key: value for key, value in values.items() if key in _CONFIG}),
+        config=SimulatorConfig(**{key: value for key, value in values.items() if key in CONFIG}),
         parameters=values.get("parameters", ()),
         desired_retention=values.get("desired_retention", DESIRED_RETENTION),
         seed=values.get("seed", SEED),
+        desired_retention_for_deck=values.get("desired_retention_for_deck"),
+        first_day=values.get("first_day"),
+        places=places,
+        sources=(path, *values.get("sources", ())),
     )
+    _check_calendar(given)
+    return given
 
 
-def read(path: str) -> Settings:
+def read(path: str, options: Sequence[Source] = ()) -> Settings:
     """Settings from a file."""
-    return of_text(path, files.read(path))
+    return of_text(path, files.read(path), options)

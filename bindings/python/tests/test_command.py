@@ -5,10 +5,12 @@ import csv
 import errno
 import io
 import os
+import re
 import signal
 import subprocess
 import sys
 import tempfile
+import textwrap
 import time
 import unittest
 import unittest.mock
@@ -17,8 +19,9 @@ from pathlib import Path
 
 from street_drill import settings, simulate
 from street_drill.command import main
-from street_drill.course import duration, percentile
+from street_drill.course import Course, duration, percentile
 from street_drill.decimals import exact, nearest
+from street_drill.facts import summary
 
 from . import damage
 from .common import LISTING, PACKAGE, printed
@@ -64,10 +67,10 @@ class Command(unittest.TestCase):
         self.assertEqual(first.read_bytes(), second.read_bytes())
         costs = sorted(self.forecast(seed).rows[9].cost for seed in range(7, 12))
         row = rows_of(first)[9]
-        self.assertAlmostEqual(float(row["cost_mean"]), sum(costs) / 5, places=3)
+        self.assertAlmostEqual(float(row["cost"]), sum(costs) / 5, places=3)
         self.assertAlmostEqual(float(row["cost_p10"]), 0.6 * costs[0] + 0.4 * costs[1], places=3)
         self.assertAlmostEqual(float(row["cost_p90"]), 0.4 * costs[3] + 0.6 * costs[4], places=3)
-        self.assertEqual(nearest(exact(row["cost"])), self.forecast(7).rows[9].cost)
+        self.assertEqual(nearest(exact(row["cost_first"])), self.forecast(7).rows[9].cost)
 
     def test_percentile(self) -> None:
         self.assertEqual([percentile([1, 2, 4], share) for share in (0, 0.25, 0.5, 1)], [1, 1.5, 2, 4])
@@ -82,44 +85,47 @@ class Command(unittest.TestCase):
         for row, before in zip(rows_of(later), rows_of(cards), strict=True):
             self.assertGreaterEqual(int(row["reps"]), int(before["reps"]))
 
-    def test_summary(self) -> None:
+    def told(self, label: str, *arguments: object) -> str:
+        """What the summary says by a label."""
+        said = run("forecast", EXAMPLE, *arguments)[1]
+        return dict(line.strip().split(": ", 1) for line in said.splitlines()[1:])[label]
+
+    def test_open(self) -> None:
+        """115 streets are held on day 14, are fewer again later, and stay from day 27."""
         held = [day.memorized for day in self.forecast(7).rows]
-        day = next(number for number, streets in enumerate(held) if streets >= 100)
-        self.assertIn(f"100 streets held: from day {day}\n", run("forecast", EXAMPLE, "--open", 100)[1])
-        self.assertIn("121 streets held: on no day\n", run("forecast", EXAMPLE, "--open", 121)[1])
+        self.assertTrue(held[13] < 115 <= held[14] and held[26] < 115 <= min(held[27:]))
+        self.assertEqual(self.told("115 streets held", "--open", 115), "from day 27 to the end, though first on day 14")
+        first = next(day for day, streets in enumerate(held) if streets >= 100)
+        self.assertEqual(self.told("100 streets held", "--open", 100), f"from day {first} to the end")
+        self.assertEqual(self.told("121 streets held", "--open", 121), "on no day")
+
+    def test_open_does_not_stay(self) -> None:
+        """As forgetting has it: nothing is learned or reviewed any more."""
+        course = Course("round", {"memorized": (1, 3, 2, 1), "cost": (0,) * 4, "introduced": (3,) * 4}, {})
+        self.assertIn("2 streets held: on no day to the end, though first on day 1\n", summary(course, 2))
+
+    def test_open_of_runs(self) -> None:
+        """So many of the runs are there by which day, as a look at each run has it."""
+        helds = [[day.memorized for day in self.forecast(seed).rows] for seed in range(7, 17)]
+        stay = sorted(min(day for day in range(31) if all(streets >= 114 for streets in held[day:])) for held in helds)
+        stay = [day for day in stay if day < 30]
+        self.assertEqual(stay, [14, 14, 14, 14, 14, 14, 14, 14, 23, 24])
+        told = self.told("114 streets held", "--open", 114, "--runs", 10)
+        self.assertEqual(told, "to the end in 8 of 10 runs from day 14, in 9 of 10 runs from day 23, "
+                               "in all 10 runs from day 24")
+        self.assertEqual(self.told("120 streets held", "--open", 120, "--runs", 3), "on no day in all 3 runs")
 
     def test_summary_of_runs(self) -> None:
-        """The mean's hours, and the first day on which the mean holds so many, beside the first run's."""
+        """Means with their tenth and ninetieth percentile, and nothing of the first run alone."""
         runs = [self.forecast(seed).rows for seed in range(7, 12)]
-        held = [sum(day.memorized for day in days) / 5 for days in zip(*runs)]
-        day = next(number for number, streets in enumerate(held) if streets >= 100)
-        said = run("forecast", EXAMPLE, "--open", 100, "--runs", 5)[1]
-        self.assertIn(f"100 streets held, mean of 5 runs: from day {day}\n", said)
-        hours = duration(sum(day.cost for days in runs for day in days) / 5)
-        self.assertIn(f"in all, mean of 5 runs: {hours}\n", said)
-
-    def test_cheapest_is_quiet(self) -> None:
-        status, said, errors = run("cheapest", EXAMPLE)
-        self.assertEqual((status, errors), (0, ""))
-        self.assertIn("retention 0.7 costs least, 86.59116 seconds", said)
-
-    def test_cheapest_tells_a_terminal_its_trials(self) -> None:
-        class Terminal(io.StringIO):
-            def isatty(self) -> bool:
-                return True
-
-        errors = Terminal()
-        with contextlib.redirect_stdout(io.StringIO()), contextlib.redirect_stderr(errors):
-            self.assertEqual(main(["cheapest", str(EXAMPLE)]), 0)
-        self.assertRegex(errors.getvalue(), r"^(trial \d: retention 0\.\d+, mean \d+\.\d\d, \d+\.\d s\n){4}$")
-
-    def test_cheapest_of_no_street(self) -> None:
-        with tempfile.TemporaryDirectory() as folder:
-            path = Path(folder, "none.toml")
-            path.write_text(EXAMPLE.read_text().replace("learn_limit = 8", "learn_limit = 0"))
-            status, said, errors = run("cheapest", path)
-        self.assertEqual((status, said), (2, ""))
-        self.assertIn("no retention is the cheapest", errors)
+        for label, values in {"in all": [sum(day.cost for day in days) for days in runs],
+                              "busiest day": [max(day.cost for day in days) for days in runs],
+                              "worst week": [max(sum(day.cost for day in days[start : start + 7])
+                                                 for start in range(0, 30, 7)) for days in runs]}.items():
+            values.sort()
+            ends = 0.6 * values[0] + 0.4 * values[1], 0.4 * values[3] + 0.6 * values[4]
+            told = f"{duration(sum(values) / 5)} ({duration(ends[0])} to {duration(ends[1])})"
+            self.assertEqual(self.told(label, "--runs", 5).partition(",")[0], told)
 
     def test_nothing_is_written(self) -> None:
         rows, blocked = self.folder / "rows.csv", self.folder / "no folder" / "cards.csv"
@@ -149,16 +155,23 @@ class Command(unittest.TestCase):
         self.assertEqual(errors, f"street_drill: {page}: No space left on device\n")
         self.assertEqual((os.listdir(self.folder), rows.read_text()), (["rows.csv"], "before"))
 
+    def test_first_screen_of_the_readme(self) -> None:
+        """It shows what the command prints."""
+        readme = (PACKAGE / "README.md").read_text()
+        asked, told = re.search(r"street-drill (forecast .*)\n\n((    .*\n)+)", readme).groups()[:2]
+        words = [PACKAGE / word if word.startswith("examples/") else word for word in asked.split()]
+        self.assertEqual(textwrap.dedent(told), run(*words)[1])
+
     def test_missing_files(self) -> None:
         self.assertEqual(run("forecast", "none.toml"), (2, "", "street_drill: none.toml: No such file or directory\n"))
         self.assertEqual(run("forecast", EXAMPLE, "--deck", self.folder)[0], 2)
 
     def test_card_is_told_by_its_place(self) -> None:
         deck = self.folder / "deck.csv"
-        deck.write_bytes(damage.DECK.replace(b"12.5,-10", b"12.5,99999999"))
+        deck.write_bytes(damage.DECK.replace(b"-10,2.5", b"-10,99999999"))
         for command in ["forecast", "cheapest"]:
             errors = run(command, EXAMPLE, "--deck", deck)[2]
-            self.assertIn("deck.csv: line 3, column 4 (last_date): refused 5 1: must be within", errors)
+            self.assertIn("deck.csv: line 3, column 5 (due): refused 5 1: must be within", errors)
 
     def test_setting_is_told_by_its_key(self) -> None:
         own, parameters = self.folder / "own.toml", EXAMPLE.read_text().split("]")[0] + "]\n"

@@ -3,9 +3,9 @@
 import math
 import random
 import unittest
-from decimal import Decimal
+from decimal import Decimal, localcontext
 
-from street_drill.decimals import exact, nearest, shortest
+from street_drill.decimals import exact, nearest, rounded, shortest
 
 from .common import bits_of, float_of
 
@@ -27,10 +27,23 @@ class Decimals(unittest.TestCase):
         self.assertEqual(bits_of(nearest(exact("1e-45"))), "00000001")
         self.assertTrue(math.isnan(nearest(exact("nan"))))
 
+    def test_rounded_as_nearest(self) -> None:
+        """At ties and a hair beside them, where the short way through an f64 would go wrong, and at both ends."""
+        draw = random.Random(28)
+        texts = ["1e999999", "-1e-999999", "3.4028235677973366e38", "3.4028235677973367e38", "7e-46", "-inf", "-0"]
+        with localcontext(prec=180):
+            for _ in range(3000):
+                low = draw.randrange(0x7F7F_FFFF)
+                tie = (Decimal(float_of(f"{low:08X}")) + Decimal(float_of(f"{low + 1:08X}"))) / 2
+                texts += [str(tie), str(tie.next_plus()), str(tie.next_minus()), f"{tie:.{draw.randrange(1, 12)}e}"]
+        for text in texts:
+            self.assertEqual(bits_of(rounded(text)), bits_of(nearest(exact(text))), text)
+
     def test_no_number(self) -> None:
         for text in ["", " 1", "1_0", "0x1", "1,5", "snan", "Infinity", "١", "1e99999999999999999999"]:
-            with self.assertRaises(ValueError, msg=text):
-                exact(text)
+            for read in [exact, rounded]:
+                with self.assertRaises(ValueError, msg=text):
+                    read(text)
 
     def test_written_short(self) -> None:
         for text in ["0.9", "0.1", "1800", "36500", "0.0001", "16777216", "-0", "0", "inf", "-inf", "1e-45", "3e+38"]:

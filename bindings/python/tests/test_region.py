@@ -11,7 +11,7 @@ import unittest.mock
 from pathlib import Path
 
 from street_drill import settings, simulate
-from street_drill.course import COLUMNS, Course
+from street_drill.course import COLUMNS, Course, of_columns
 from street_drill.deck import of_text
 from street_drill.region import total
 
@@ -49,7 +49,7 @@ class Region(unittest.TestCase):
         self.assertAlmostEqual(float(rows[1]["seconds"]), sum(day.cost for day in forecast.rows), places=2)
         held = [number for number, day in enumerate(forecast.rows) if day.memorized >= 100]
         self.assertEqual(rows[1]["opens"], str(held[0]) if held else "")
-        self.assertEqual(len(re.findall("<figure ", (self.out / "a.html").read_text())), 5)
+        self.assertEqual(len(re.findall('<figure [^>]*data-view="day"', (self.out / "a.html").read_text())), 5)
 
     def test_same_bytes(self) -> None:
         self.region("one", "--workers", 1)
@@ -71,6 +71,81 @@ class Region(unittest.TestCase):
         status, said, errors = self.region("a")
         self.assertEqual((status, said, os.listdir(self.out)), (2, "", ["depots"]))
         self.assertRegex(errors, r"^street_drill: .*depot 0.toml: deck: .*\nstreet_drill: .*depot 1.csv: line 1: .*\n$")
+
+    def test_all_mistakes_of_all_files(self) -> None:
+        (self.depots / "depot 0.toml").write_text("deck = 3\nseed = -1\n")
+        (self.depots / "depot 1.csv").write_bytes(damage.DECK.replace(b"5.25", b"x").replace(b"12.5", b"y"))
+        places = [line.split(": ")[2] for line in self.region("a")[2].splitlines()]
+        self.assertEqual(places, ["deck", "seed", "line 2, column 2 (difficulty)", "line 3, column 3 (stability)"])
+
+    def test_deck_without_settings(self) -> None:
+        """It is told, and left out; what the command itself wrote there is no deck."""
+        (self.depots / "south.csv").write_bytes(damage.DECK)
+        outputs = ["--summary", self.depots / "region.csv", "--page", self.out / "a.html"]
+        for _ in range(2):
+            status, said, errors = run("region", self.depots, *outputs)
+            told = f"street_drill: note: {self.depots / 'south.csv'}: has no settings, south.toml, and is left out\n"
+            self.assertEqual((status, errors), (0, told))
+        self.assertIn("region of 3 depots", said)
+
+    def test_names_that_differ_in_case(self) -> None:
+        for name, told in {"Depot 1.csv": "differs from depot 1", "DEPOT 0.toml": "differs from depot 0",
+                           "depot 2.CSV": "differs from depot 2.csv", "south.TOML": "differs from south.toml"}.items():
+            (self.depots / name).write_text("")
+            status, _, errors = self.region("a")
+            self.assertEqual((status, errors.count("\n")), (2, 1))
+            self.assertRegex(errors, r"[Dd](epot|EPOT) \d\S*: differs from .* in capital and small letters alone"
+                             if "south" not in name else "south.TOML: differs from south.toml in capital and")
+            (self.depots / name).unlink()
+
+    def test_line_a_depot(self) -> None:
+        said = self.region("a", "--open", 100)[1]
+        for number in range(3):
+            path = self.depots / f"depot {number}.toml"
+            deck = ["--deck", self.depots / "depot 1.csv"] if number == 1 else []
+            alone = dict(line.strip().split(": ", 1) for line in
+                         run("forecast", path, *deck, "--open", 100)[1].splitlines()[1:])
+            line = next(line for line in said.splitlines() if line.startswith(f"depot {number} "))
+            told = [alone[label] for label in ("span", "100 streets held", "held on the last day", "in all", "busiest day")]
+            self.assertEqual(re.split("  +", line), [f"depot {number}", *told])
+            self.assertIn(f"<td>{alone['100 streets held']}</td>", (self.out / "a.html").read_text())
+
+    def test_runs(self) -> None:
+        """A depot's numbers are those of its runs, and the region's those of the sums of each run."""
+        self.assertEqual(self.region("a", "--runs", 5, "--open", 100)[0], 0)
+        with (self.out / "a.csv").open(newline="") as file:
+            row = list(csv.DictReader(file))[2]
+        given = settings.read(str(self.depots / "depot 2.toml"))
+        made = [simulate(given.config, given.parameters, seed=seed).rows for seed in range(7, 12)]
+        seconds = sorted(sum(day.cost for day in days) for days in made)
+        self.assertAlmostEqual(float(row["seconds"]), sum(seconds) / 5, places=2)
+        self.assertAlmostEqual(float(row["seconds_p10"]), 0.6 * seconds[0] + 0.4 * seconds[1], places=2)
+        self.assertEqual((row["opens_half"], row["opens_most"], row["opens_all"]), ("12", "13", "13"))
+        self.region("b", "--runs", 5, "--workers", 1, "--open", 100)
+        self.assertEqual((self.out / "a.csv").read_bytes(), (self.out / "b.csv").read_bytes())
+
+    def test_total_of_runs(self) -> None:
+        def depot(*costs: tuple[float, ...]) -> Course:
+            return of_columns("depot", [dict.fromkeys(COLUMNS, cost) for cost in costs])
+
+        whole = total([depot((1, 2), (3, 4)), depot((10,), (20,))])
+        self.assertEqual([run["cost"] for run in whole.runs], [(11, 2), (23, 4)])
+        self.assertEqual(whole.bands["cost"].mean, (17, 3))
+
+    def test_first_days(self) -> None:
+        self.assertEqual(self.region("a", "--set", "first_day=2026-11-23")[0], 0)
+        with (self.out / "a.csv").open(newline="") as file:
+            row = next(csv.DictReader(file))
+        self.assertEqual((row["busiest_day"], row["busiest_day_date"]), ("12", "2026-12-05"))
+        (self.depots / "depot 0.toml").write_text(f"first_day = 2026-11-24\n{EXAMPLE}")
+        told = "the depots must have one first_day, and have 2026-11-24 and none\n"
+        self.assertIn(told, self.region("a")[2])
+
+    def test_no_process(self) -> None:
+        with unittest.mock.patch("os.fork", side_effect=BlockingIOError(11, "Resource temporarily unavailable")):
+            told = "street_drill: --workers: no process can be started: Resource temporarily unavailable; 1 needs none\n"
+            self.assertEqual(self.region("a", "--workers", 2), (2, "", told))
+            self.assertEqual(self.region("a", "--workers", 1)[0], 0)
 
     def test_no_depot(self) -> None:
         self.assertIn("has no settings file", run("region", self.out)[2])

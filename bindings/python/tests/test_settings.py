@@ -1,16 +1,19 @@
 """Settings from TOML."""
 
+import tempfile
 import unittest
+from datetime import date
+from pathlib import Path
 
 from street_drill import Mistake, SimulatorConfig
-from street_drill.settings import of_text
+from street_drill.settings import of_text, read
 
 from .common import PACKAGE, PARAMETERS
 
 
-def mistake_of(text: str) -> str:
+def mistake_of(text: str, *options: tuple[str, str]) -> str:
     try:
-        of_text("s.toml", text)
+        of_text("s.toml", text, options)
     except Mistake as mistake:
         return str(mistake)
     return ""
@@ -52,5 +55,77 @@ class Reading(unittest.TestCase):
             "\nseed = " + "1" * 5000: "s.toml: line 2: a number is too long",
             "\nseed = [\n" + "[" * 5000: "s.toml: line 3: lists lie too deep",
             "seed = 2020-13-41": "s.toml: ",
+            "first_day = '2026-11-23'": "s.toml: first_day: must be a date such as 2026-11-23 and is a text",
+            "first_day = 2026-11-23T08:00:00": "s.toml: first_day: must be a date such as 2026-11-23 and is a date or a t",
+            "first_day = 9999-01-01": "s.toml: first_day: the span does not end before the year 9999",
         }.items():
             self.assertIn(place, mistake_of(text))
+
+    def test_senseless(self) -> None:
+        """What the library takes and no planner means."""
+        for text, told in {
+            "desired_retention = 90": "desired_retention: must be above 0 and below 1; 90 % is written 0.9",
+            "desired_retention = 0": "desired_retention: must be above 0 and below 1",
+            "desired_retention = 1.0": "desired_retention: must be above 0 and below 1",
+            "desired_retention_for_deck = 85": "desired_retention_for_deck: must be above 0 and below 1",
+            "max_cost_perday = -1": "max_cost_perday: must be 0 or more; inf is no limit",
+            f"parameters = {[*PARAMETERS, 0.5]}": "parameters: has 35 numbers, and must have 34",
+        }.items():
+            self.assertIn(f"s.toml: {told}", mistake_of(text))
+        for text in ["desired_retention = 0.999", "max_cost_perday = 0", "max_cost_perday = inf"]:
+            self.assertEqual(mistake_of(text), "")
+
+    def test_all_mistakes(self) -> None:
+        told = mistake_of("deck = 5\nseed = -1\ndeck_size = 'x'\nlearn_span = 9")
+        self.assertEqual([line.split(": ")[1] for line in told.splitlines()], ["deck", "seed", "deck_size"])
+
+    def test_first_day(self) -> None:
+        self.assertEqual(of_text("s.toml", "first_day = 2026-11-23").first_day, date(2026, 11, 23))
+
+
+class Options(unittest.TestCase):
+    """What the command line sets goes before the file."""
+
+    def test_before_the_file(self) -> None:
+        given = of_text("s.toml", "seed = 3\ndeck_size = 9", [("--set 'a'", "deck_size = 7"), ("--seed", "seed = 4")])
+        self.assertEqual((given.config.deck_size, given.seed), (7, 4))
+        self.assertEqual((given.place("seed"), given.place("max_ivl")), ("--seed: seed", "s.toml: max_ivl"))
+        self.assertEqual(of_text("s.toml", "", [("--set", "max_ivl = 5")]).place("max_ivl[2]"), "--set: max_ivl[2]")
+
+    def test_places(self) -> None:
+        told = mistake_of("seed = -1", ("--retention", "desired_retention = 90"), ("--set 'x'", "x"))
+        self.assertEqual([line.split(": ")[0] for line in told.splitlines()], ["s.toml", "--retention", "--set 'x'"])
+
+
+class Parameters(unittest.TestCase):
+    """From a file of their own."""
+
+    def setUp(self) -> None:
+        folder = tempfile.TemporaryDirectory()
+        self.addCleanup(folder.cleanup)
+        self.folder = Path(folder.name)
+        (self.folder / "s.toml").write_text('parameters = "fsrs.txt"\n')
+
+    def read(self, text: str) -> tuple[float, ...]:
+        (self.folder / "fsrs.txt").write_text(text)
+        return read(str(self.folder / "s.toml")).parameters
+
+    def test_written_in_any_way(self) -> None:
+        words = [repr(number) for number in PARAMETERS]
+        for text in ["\n".join(words), f"[{', '.join(words)}]", ";".join(words) + "  # FSRS-7, of May\n"]:
+            self.assertEqual(list(self.read(text)), PARAMETERS)
+        given = read(str(self.folder / "s.toml"))
+        self.assertEqual([Path(path).name for path in given.sources], ["s.toml", "fsrs.txt"])
+
+    def test_mistakes(self) -> None:
+        for text, told in {"1 2\n3 x\n": r"fsrs\.txt: line 2: 'x' is no decimal number$",
+                           " ".join(["1"] * 35): r"s\.toml: parameters: has 35 numbers, and must have 34$"}.items():
+            with self.assertRaisesRegex(Mistake, told):
+                self.read(text)
+        (self.folder / "fsrs.txt").unlink()
+        with self.assertRaisesRegex(Mistake, r"fsrs\.txt: No such file"):
+            read(str(self.folder / "s.toml"))
+
+
+if __name__ == "__main__":
+    unittest.main()

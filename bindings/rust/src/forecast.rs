@@ -1,7 +1,8 @@
 //! A run, and what it forecasts.
+use crate::blame;
 use crate::config::{Card, SimulatorConfig};
-use crate::error::Error;
-use crate::lists::{FIRST_PLACES, Inputs, Lists};
+use crate::error::{Error, Refused};
+use crate::lists::{FIRST_PLACES, Inputs, Lists, card_of};
 use crate::native::{self, Ended};
 
 /// What a run forecasts.
@@ -57,38 +58,68 @@ pub fn simulate(
     seed: u64,
     existing_cards: &[Card],
 ) -> Result<Forecast, Error> {
-    let inputs = Inputs::new(config, parameters, existing_cards);
-    let mut lists = Lists::new(config, FIRST_PLACES);
-    let ended = run(&inputs, desired_retention, seed, &mut lists)?;
-    Ok(forecast_of(lists, ended))
+    Runner::new(config, parameters, existing_cards).simulate(desired_retention, seed)
+}
+
+/// Runs of the same configuration, parameters and existing cards, over lists that are kept from one run to the next.
+///
+/// ```
+/// use street_drill::{Runner, SimulatorConfig, simulate};
+///
+/// let config = SimulatorConfig { deck_size: 50, learn_span: 30, ..Default::default() };
+/// let mut runner = Runner::new(&config, &[0.5; 34], &[]);
+/// let held = |seed| Ok(runner.simulate(0.9, seed)?.days[29].memorized);
+/// let most = (1..=10).map(held).collect::<Result<Vec<f32>, street_drill::Error>>()?.into_iter().fold(0.0, f32::max);
+/// assert!(most > 40.0);
+/// # Ok::<(), street_drill::Error>(())
+/// ```
+pub struct Runner<'a> {
+    inputs: Inputs<'a>,
+    lists: Lists,
+}
+
+impl<'a> Runner<'a> {
+    /// The arguments are those of [`simulate`].
+    pub fn new(config: &'a SimulatorConfig, parameters: &'a [f32], existing_cards: &[Card]) -> Runner<'a> {
+        Runner { inputs: Inputs::new(config, parameters, existing_cards), lists: Lists::new(config, FIRST_PLACES) }
+    }
+
+    /// The forecast that [`simulate`] gives.
+    pub fn simulate(&mut self, desired_retention: f32, seed: u64) -> Result<Forecast, Error> {
+        match run(&self.inputs, desired_retention, seed, &mut self.lists) {
+            Ok(ended) => Ok(forecast_of(&self.lists, ended)),
+            Err(refused) => Err(blame::error(refused, &self.inputs, "desired_retention")),
+        }
+    }
 }
 
 /// A run, made again with a longer interval table for as long as it is full. The length plays no part in what it
 /// forecasts (docs/RULES.md, D6), and a table with a place for each turn is never full, so there is an end.
-pub fn run(inputs: &Inputs, desired_retention: f32, seed: u64, lists: &mut Lists) -> Result<Ended, Error> {
+pub fn run(inputs: &Inputs, desired_retention: f32, seed: u64, lists: &mut Lists) -> Result<Ended, Refused> {
     loop {
         match native::simulate(inputs, desired_retention, seed, lists) {
-            Err(Error::TableFull { .. }) => lists.lengthen(),
+            Err(Refused { number: 8, .. }) => lists.lengthen(),
             answer => return answer,
         }
     }
 }
 
 /// The forecast that a run which ended left in its lists.
-fn forecast_of(lists: Lists, ended: Ended) -> Forecast {
-    let sums = lists.costs.into_iter().zip(lists.memorized);
-    let day = |(row, (cost, memorized)): ([u32; 4], (f32, f32))| {
-        let [learned, reviewed, correct, introduced] = row;
-        Day { learned, reviewed, correct, introduced, cost, memorized }
+fn forecast_of(lists: &Lists, ended: Ended) -> Forecast {
+    let sums = lists.costs.iter().zip(&lists.memorized);
+    let day = |(&[learned, reviewed, correct, introduced], (&cost, &memorized)): (&[u32; 4], (&f32, &f32))| Day {
+        learned,
+        reviewed,
+        correct,
+        introduced,
+        cost,
+        memorized,
     };
-    let card = |(row, [reps, lapses]): ([f32; 6], [u32; 2])| {
-        let [difficulty, stability, last_date, due, interval, desired_retention] = row;
-        Card { difficulty, stability, last_date, due, interval, desired_retention, reps, lapses }
-    };
+    let cards = lists.cards.iter().zip(&lists.counts).take(ended.cards);
     Forecast {
-        days: lists.days.into_iter().zip(sums).map(day).collect(),
-        due: lists.due,
-        cards: lists.cards.into_iter().zip(lists.counts).take(ended.cards).map(card).collect(),
+        days: lists.days.iter().zip(sums).map(day).collect(),
+        due: lists.due.clone(),
+        cards: cards.map(|(&row, &counts)| card_of(row, counts)).collect(),
         turns: ended.turns,
         draws: ended.draws,
     }
@@ -104,13 +135,13 @@ mod tests {
         let inputs = Inputs::new(config, &[0.5; 34], existing);
         let mut lists = Lists::new(config, places);
         let short = native::simulate(&inputs, 0.9, 7, &mut lists);
-        assert!(matches!(short, Err(Error::TableFull { .. })), "{places} places are too few");
+        assert!(matches!(short, Err(Refused { number: 8, .. })), "{places} places are too few");
         let ended = run(&inputs, 0.9, 7, &mut lists).unwrap();
         assert!(lists.intervals.len() > places);
         let mut long = Lists::new(config, enough);
         assert!(native::simulate(&inputs, 0.9, 7, &mut long).is_ok());
         let ended_long = run(&inputs, 0.9, 7, &mut long).unwrap();
-        assert_eq!(forecast_of(lists, ended), forecast_of(long, ended_long));
+        assert_eq!(forecast_of(&lists, ended), forecast_of(&long, ended_long));
     }
 
     #[test]
@@ -134,5 +165,20 @@ mod tests {
         let config =
             SimulatorConfig { deck_size: 1000, learn_span: 90, max_cost_perday: f32::INFINITY, ..Default::default() };
         from_short(&config, &existing, FIRST_PLACES, 100_000);
+    }
+
+    /// Runs of one runner are those of `simulate`, also after one that was refused, and none makes lists of its own.
+    #[test]
+    fn lists_are_kept() {
+        let config = SimulatorConfig { deck_size: 60, learn_span: 40, ..Default::default() };
+        let mut runner = Runner::new(&config, &[0.5; 34], &[]);
+        let places =
+            |runner: &Runner| (runner.lists.cards.as_ptr(), runner.lists.days.as_ptr(), runner.lists.due.as_ptr());
+        let before = places(&runner);
+        for seed in [7, 8, 7] {
+            assert_eq!(runner.simulate(0.85, seed), simulate(&config, &[0.5; 34], 0.85, seed, &[]));
+            assert_eq!(runner.simulate(f32::NAN, seed), Err(Error::Config { field: "desired_retention" }));
+        }
+        assert_eq!(places(&runner), before);
     }
 }

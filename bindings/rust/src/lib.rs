@@ -3,9 +3,11 @@
 //! crate lends it lists of the needed lengths and gives back what they hold.
 //!
 //! - [`simulate`]: a [`Forecast`] from a [`SimulatorConfig`], 34 parameters, a retention, a seed and known [`Card`]s;
+//! - [`Runner`]: the same for many retentions and seeds, over lists that are kept;
 //! - [`optimal_retention`]: the retention at which a street held in the end costs least, as an [`Optimum`];
 //! - [`optimal_retention_on_threads`]: the same search with the same answer, a trial's runs on threads;
-//! - [`Error`]: why a call was refused.
+//! - [`optimal_retention_with_progress`]: the same, which tells each [`Trial`] and ends when it is told to;
+//! - [`Error`]: why a call was refused, with the field that it is about.
 //!
 //! What is promised holds in the default float modes, which Rust itself takes for granted.
 //!
@@ -25,6 +27,7 @@
 //! assert_eq!((forecast.days[0].learned, forecast.days[0].cost), (2, 16.0));
 //! # Ok::<(), street_drill::Error>(())
 //! ```
+mod blame;
 mod config;
 mod error;
 mod forecast;
@@ -34,5 +37,7 @@ mod search;
 
 pub use config::{Card, SimulatorConfig};
 pub use error::Error;
-pub use forecast::{Day, Forecast, simulate};
-pub use search::{MOST_ROUNDS, Optimum, optimal_retention, optimal_retention_on_threads};
+pub use forecast::{Day, Forecast, Runner, simulate};
+pub use search::{
+    MOST_ROUNDS, Optimum, Trial, optimal_retention, optimal_retention_on_threads, optimal_retention_with_progress,
+};

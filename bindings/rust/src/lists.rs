@@ -26,6 +26,17 @@ impl<'a> Inputs<'a> {
             existing_counts: existing.iter().map(|c| [c.reps, c.lapses]).collect(),
         }
     }
+
+    /// An existing card.
+    pub fn card(&self, place: usize) -> Card {
+        card_of(self.existing_cards[place], self.existing_counts[place])
+    }
+}
+
+/// A card from its rows.
+pub fn card_of(row: [f32; 6], [reps, lapses]: [u32; 2]) -> Card {
+    let [difficulty, stability, last_date, due, interval, desired_retention] = row;
+    Card { difficulty, stability, last_date, due, interval, desired_retention, reps, lapses }
 }
 
 /// The lists that a run writes.

@@ -2,7 +2,7 @@
 //! places of their arguments and answers.
 #![allow(unsafe_code)]
 use crate::config::SimulatorConfig;
-use crate::error::Error;
+use crate::error::Refused;
 use crate::lists::{Inputs, Lists};
 use crate::search::Optimum;
 
@@ -217,19 +217,19 @@ pub struct Ended {
 }
 
 /// A run over the lists.
-pub fn simulate(inputs: &Inputs, desired_retention: f32, seed: u64, lists: &mut Lists) -> Result<Ended, Error> {
+pub fn simulate(inputs: &Inputs, desired_retention: f32, seed: u64, lists: &mut Lists) -> Result<Ended, Refused> {
     // SAFETY: each list is given with its own length; the lists that are written are vectors of their own, borrowed for
     // the call alone, and so overlap nothing.
     let answer = unsafe { call!(drill_simulate, inputs, (desired_retention, seed), lists) };
-    Error::check(answer.refusal, answer.second)?;
+    Refused::check(answer.refusal, answer.second)?;
     Ok(Ended { turns: answer.turns.into(), cards: answer.cards as usize, draws: answer.draws })
 }
 
 /// A whole search over the lists.
-pub fn optimal_retention(inputs: &Inputs, rounds: u32, lists: &mut Lists) -> Result<Optimum, Error> {
+pub fn optimal_retention(inputs: &Inputs, rounds: u32, lists: &mut Lists) -> Result<Optimum, Refused> {
     // SAFETY: as of `simulate`.
     let found = unsafe { call!(drill_optimal_retention, inputs, (rounds), lists) };
-    Error::check(found.refusal, found.second)?;
+    Refused::check(found.refusal, found.second)?;
     Ok(Optimum { retention: found.retention, mean: found.mean, rounds: found.rounds })
 }
 
@@ -268,8 +268,8 @@ impl Stepper {
     }
 
     /// Of a search that has nothing more to try.
-    pub fn answer(self) -> Result<Optimum, Error> {
-        Error::check(drill_search_answer(self), self.state.done)?;
+    pub fn answer(self) -> Result<Optimum, Refused> {
+        Refused::check(drill_search_answer(self), self.state.done)?;
         Ok(Optimum { retention: self.state.x, mean: self.state.fx, rounds: self.state.done })
     }
 }

@@ -1,10 +1,13 @@
-//! The search for the retention at which a run costs least for each card memorized in the end: whole, and on threads.
+//! The search for the retention at which a run costs least for each card memorized in the end: whole, on threads, and
+//! told trial by trial.
+use crate::blame;
 use crate::config::{Card, SimulatorConfig};
-use crate::error::Error;
+use crate::error::{Error, Refused};
 use crate::forecast::run;
 use crate::lists::{FIRST_PLACES, Inputs, Lists};
 use crate::native::{self, Stepper};
 use std::num::NonZeroUsize;
+use std::ops::ControlFlow;
 
 /// The most rounds that a search may be given. With so many it is the search of fsrs-rs, and never refused for their
 /// number: it ends before them, which is proved.
@@ -26,6 +29,17 @@ pub struct Optimum {
     pub rounds: u32,
 }
 
+/// A retention that was tried.
+#[derive(Clone, Copy, Debug, PartialEq)]
+pub struct Trial {
+    /// Its number, from 1; a search of so many rounds has one trial more at most.
+    pub number: u32,
+    /// The retention.
+    pub retention: f32,
+    /// The mean of its runs: seconds of the span for each card memorized on the last day.
+    pub mean: f32,
+}
+
 /// Searches for the cheapest retention, in at most so many rounds, 1 to [`MOST_ROUNDS`]. Existing cards keep their own
 /// retentions.
 ///
@@ -43,15 +57,16 @@ pub fn optimal_retention(
     existing_cards: &[Card],
     rounds: u32,
 ) -> Result<Optimum, Error> {
-    whole(&Inputs::new(config, parameters, existing_cards), rounds, FIRST_PLACES)
+    let inputs = Inputs::new(config, parameters, existing_cards);
+    whole(&inputs, rounds, FIRST_PLACES).map_err(|refused| blame::error(refused, &inputs, "rounds"))
 }
 
 /// The whole search, made again with a longer interval table for as long as some run's is full.
-fn whole(inputs: &Inputs, rounds: u32, places: usize) -> Result<Optimum, Error> {
+fn whole(inputs: &Inputs, rounds: u32, places: usize) -> Result<Optimum, Refused> {
     let mut lists = Lists::new(inputs.config, places);
     loop {
         match native::optimal_retention(inputs, rounds, &mut lists) {
-            Err(Error::TableFull { .. }) => lists.lengthen(),
+            Err(Refused { number: 8, .. }) => lists.lengthen(),
             answer => return answer,
         }
     }
@@ -75,28 +90,69 @@ pub fn optimal_retention_on_threads(
     rounds: u32,
     threads: NonZeroUsize,
 ) -> Result<Optimum, Error> {
+    let go_on = |_| ControlFlow::Continue(());
+    let found = optimal_retention_with_progress(config, parameters, existing_cards, rounds, threads, go_on)?;
+    Ok(found.expect("nothing ended the search"))
+}
+
+/// The same search, told trial by trial on the calling thread; there is no answer where `progress` breaks it off.
+///
+/// ```
+/// use std::ops::ControlFlow;
+/// use street_drill::{MOST_ROUNDS, SimulatorConfig, optimal_retention_with_progress};
+///
+/// let config = SimulatorConfig { deck_size: 10, learn_span: 20, ..Default::default() };
+/// let one = std::num::NonZeroUsize::MIN;
+/// let mut tried = vec![];
+/// let found = optimal_retention_with_progress(&config, &[0.5; 34], &[], MOST_ROUNDS, one, |trial| {
+///     tried.push(trial.retention);
+///     if tried.len() < 2 { ControlFlow::Continue(()) } else { ControlFlow::Break(()) }
+/// })?;
+/// assert_eq!((found, tried.len(), tried[0]), (None, 2, 0.7));
+/// # Ok::<(), street_drill::Error>(())
+/// ```
+pub fn optimal_retention_with_progress(
+    config: &SimulatorConfig,
+    parameters: &[f32],
+    existing_cards: &[Card],
+    rounds: u32,
+    threads: NonZeroUsize,
+    progress: impl FnMut(Trial) -> ControlFlow<()>,
+) -> Result<Option<Optimum>, Error> {
     let inputs = Inputs::new(config, parameters, existing_cards);
-    stepped(&inputs, rounds, threads, FIRST_PLACES)
+    stepped(&inputs, rounds, threads, FIRST_PLACES, progress)
+        .map_err(|refused| blame::error(refused, &inputs, "rounds"))
 }
 
 /// The search one trial at a time.
-fn stepped(inputs: &Inputs, rounds: u32, threads: NonZeroUsize, places: usize) -> Result<Optimum, Error> {
+fn stepped(
+    inputs: &Inputs,
+    rounds: u32,
+    threads: NonZeroUsize,
+    places: usize,
+    mut progress: impl FnMut(Trial) -> ControlFlow<()>,
+) -> Result<Option<Optimum>, Refused> {
     if !(1..=MOST_ROUNDS).contains(&rounds) {
         // Refused at the entry, which no run of a trial tests: by 4, or by what comes before it in the table.
-        return whole(inputs, rounds, places);
+        return whole(inputs, rounds, places).map(Some);
     }
     let runs = native::sample_size(inputs);
     let mut lists: Vec<Lists> = (0..threads.get().min(runs)).map(|_| Lists::new(inputs.config, places)).collect();
     let mut search = Stepper::start(rounds);
-    while let Some(retention) = search.next_retention() {
-        search.take_mean(native::mean(&trial(inputs, retention, runs, &mut lists)?));
+    for number in 1.. {
+        let Some(retention) = search.next_retention() else { break };
+        let mean = native::mean(&trial(inputs, retention, runs, &mut lists)?);
+        search.take_mean(mean);
+        if progress(Trial { number, retention, mean }).is_break() {
+            return Ok(None);
+        }
     }
-    search.answer()
+    search.answer().map(Some)
 }
 
 /// The targets of a trial's runs in the order of their seeds, or the refusal of the first that is refused; a thread for
 /// each of the lists, with neighbouring seeds.
-fn trial(inputs: &Inputs, retention: f32, runs: usize, lists: &mut [Lists]) -> Result<Vec<f32>, Error> {
+fn trial(inputs: &Inputs, retention: f32, runs: usize, lists: &mut [Lists]) -> Result<Vec<f32>, Refused> {
     let part = runs.div_ceil(lists.len());
     let mut targets = vec![Ok(0.0); runs];
     std::thread::scope(|scope| {
@@ -126,8 +182,9 @@ mod tests {
         let inputs = Inputs::new(&config, &[0.5; 34], &[]);
         let found = whole(&inputs, MOST_ROUNDS, FIRST_PLACES).unwrap();
         let short = native::optimal_retention(&inputs, MOST_ROUNDS, &mut Lists::new(&config, 1));
-        assert_eq!(short.unwrap_err().number(), 8);
+        assert_eq!(short.unwrap_err().number, 8);
         assert_eq!(whole(&inputs, MOST_ROUNDS, 1), Ok(found));
-        assert_eq!(stepped(&inputs, MOST_ROUNDS, NonZeroUsize::new(3).unwrap(), 1), Ok(found));
+        let go_on = |_| ControlFlow::Continue(());
+        assert_eq!(stepped(&inputs, MOST_ROUNDS, NonZeroUsize::new(3).unwrap(), 1, go_on), Ok(Some(found)));
     }
 }

@@ -1,7 +1,11 @@
 //! The same numbers as the built programs print for the texts of examples/.
 use crate::common::{USUAL, example, float, printed, settings, words};
 use std::num::NonZeroUsize;
-use street_drill::{Day, Forecast, MOST_ROUNDS, Optimum, optimal_retention, optimal_retention_on_threads, simulate};
+use std::ops::ControlFlow;
+use street_drill::{
+    Day, Forecast, MOST_ROUNDS, Optimum, Trial, optimal_retention, optimal_retention_on_threads,
+    optimal_retention_with_progress, simulate,
+};
 
 /// The head of a listing (days, turns, cards) and its rows.
 fn listed(text: &str) -> ([u64; 3], Vec<Day>) {
@@ -93,4 +97,25 @@ fn cheapest() {
             assert_eq!(found, Ok(listed), "{name} on {threads} threads");
         }
     }
+}
+
+/// Each trial is told, the one found among them; and the search ends with the trial at which it is told to.
+#[test]
+fn progress() {
+    let s = settings(&example("new_round.txt"));
+    let threads = NonZeroUsize::new(3).unwrap();
+    let search = |most: usize| {
+        let mut tried: Vec<Trial> = vec![];
+        let found = optimal_retention_with_progress(&s.config, &s.parameters, &[], MOST_ROUNDS, threads, |trial| {
+            tried.push(trial);
+            if tried.len() < most { ControlFlow::Continue(()) } else { ControlFlow::Break(()) }
+        });
+        (found, tried)
+    };
+    let (found, tried) = search(usize::MAX);
+    let best = optimal_retention(&s.config, &s.parameters, &[], MOST_ROUNDS).unwrap();
+    assert_eq!(found, Ok(Some(best)));
+    assert!(tried.iter().map(|trial| trial.number).eq(1..=best.rounds + 1));
+    assert!(tried.iter().any(|trial| (trial.retention, trial.mean) == (best.retention, best.mean)));
+    assert_eq!(search(2), (Ok(None), tried[..2].to_vec()));
 }

@@ -1,7 +1,14 @@
 //! Each refusal that a caller can meet, of a run and of a search, whole and on threads.
 use crate::common::USUAL;
 use std::num::NonZeroUsize;
-use street_drill::{Card, Error, SimulatorConfig, optimal_retention, optimal_retention_on_threads, simulate};
+use std::ops::ControlFlow;
+use street_drill::{
+    Card, Error, SimulatorConfig, optimal_retention, optimal_retention_on_threads, optimal_retention_with_progress,
+    simulate,
+};
+
+/// A field, and a change after which it is refused.
+type Wrong<T> = (&'static str, fn(&mut T));
 
 fn small() -> SimulatorConfig {
     SimulatorConfig { deck_size: 5, learn_span: 60, ..SimulatorConfig::default() }
@@ -62,51 +69,58 @@ fn deck_and_span() {
 
 #[test]
 fn settings() {
-    let wrong: [fn(&mut SimulatorConfig); 12] = [
-        |c| c.first_rating_prob[3] = -0.1,
-        |c| c.first_rating_prob = [0.0; 4],
-        |c| c.review_rating_prob[0] = f32::NAN,
-        |c| c.learning_step_transitions[2] = [0.0; 4],
-        |c| c.learning_step_transitions[0] = [f32::MAX; 4],
-        |c| c.relearning_step_transitions[1][1] = f32::INFINITY,
-        |c| c.state_rating_costs[0][0] = -1.0,
-        |c| c.state_rating_costs[2][3] = f32::NAN,
-        |c| c.max_cost_perday = f32::NAN,
-        |c| c.max_ivl = 0.5,
-        |c| c.max_ivl = 36_501.0,
-        |c| c.max_ivl = f32::NAN,
+    let wrong: [Wrong<SimulatorConfig>; 12] = [
+        ("first_rating_prob", |c| c.first_rating_prob[3] = -0.1),
+        ("first_rating_prob", |c| c.first_rating_prob = [0.0; 4]),
+        ("review_rating_prob", |c| c.review_rating_prob[0] = f32::NAN),
+        ("learning_step_transitions", |c| c.learning_step_transitions[2] = [0.0; 4]),
+        ("learning_step_transitions", |c| c.learning_step_transitions[0] = [f32::MAX; 4]),
+        ("relearning_step_transitions", |c| c.relearning_step_transitions[1][1] = f32::INFINITY),
+        ("state_rating_costs", |c| c.state_rating_costs[0][0] = -1.0),
+        ("state_rating_costs", |c| c.state_rating_costs[2][3] = f32::NAN),
+        ("max_cost_perday", |c| c.max_cost_perday = f32::NAN),
+        ("max_ivl", |c| c.max_ivl = 0.5),
+        ("max_ivl", |c| c.max_ivl = 36_501.0),
+        ("max_ivl", |c| c.max_ivl = f32::NAN),
     ];
-    for change in wrong {
+    for (field, change) in wrong {
         let mut config = small();
         change(&mut config);
-        assert_eq!(numbers(refused(&config, &USUAL, &[])), (4, 0), "{config:?}");
+        let error = refused(&config, &USUAL, &[]);
+        assert_eq!((numbers(error), error), ((4, 0), Error::Config { field }));
+        assert!(error.to_string().starts_with(field), "{error}");
     }
     for retention in [f32::NAN, f32::NEG_INFINITY] {
-        assert_eq!(simulate(&small(), &USUAL, retention, 42, &[]), Err(Error::Config));
+        let told = Error::Config { field: "desired_retention" };
+        assert_eq!(simulate(&small(), &USUAL, retention, 42, &[]), Err(told));
     }
     for rounds in [0, 65, u32::MAX] {
-        assert_eq!(numbers(searches(&small(), &USUAL, &[], rounds)), (4, 0));
+        assert_eq!(searches(&small(), &USUAL, &[], rounds), Error::Config { field: "rounds" });
     }
 }
 
 #[test]
 fn existing_cards() {
-    let wrong: [fn(&mut Card); 8] = [
-        |c| c.stability = f32::INFINITY,
-        |c| c.due = f32::NEG_INFINITY,
-        |c| c.due = 16_777_218.0,
-        |c| c.desired_retention = f32::NAN,
-        |c| c.last_date = f32::NAN,
-        |c| c.last_date = -16_777_218.0,
-        |c| c.difficulty = f32::NEG_INFINITY,
-        |c| c.lapses = 4_000_000_001,
+    let wrong: [Wrong<Card>; 8] = [
+        ("stability", |c| c.stability = f32::INFINITY),
+        ("due", |c| c.due = f32::NEG_INFINITY),
+        ("due", |c| c.due = 16_777_218.0),
+        ("desired_retention", |c| c.desired_retention = f32::NAN),
+        ("last_date", |c| c.last_date = f32::NAN),
+        ("last_date", |c| c.last_date = -16_777_218.0),
+        ("difficulty", |c| c.difficulty = f32::NEG_INFINITY),
+        ("lapses", |c| c.lapses = 4_000_000_001),
     ];
-    for change in wrong {
+    for (field, change) in wrong {
         let mut cards = [known(), Card::default(), known(), known()];
         change(&mut cards[2]);
         change(&mut cards[3]);
-        assert_eq!(numbers(refused(&small(), &USUAL, &cards)), (5, 2), "{:?}", cards[2]);
+        let error = refused(&small(), &USUAL, &cards);
+        assert_eq!((numbers(error), error), ((5, 2), Error::ExistingCard { place: 2, field }));
     }
+    // A card without a last date needs no difficulty: it is refused for its due date.
+    let new = Card { difficulty: f32::NEG_INFINITY, last_date: f32::NEG_INFINITY, due: f32::NAN, ..known() };
+    assert_eq!(refused(&small(), &USUAL, &[new]), Error::ExistingCard { place: 0, field: "due" });
 }
 
 /// A card whose stability is not above 1e-9 is dropped, whatever else it holds.
@@ -138,6 +152,21 @@ fn order() {
     let config = SimulatorConfig { deck_size: 1, ..config };
     assert_eq!(searches(&config, &USUAL, &[], 0), Error::LearnSpan);
     let unfit = Card { due: f32::NAN, ..known() };
-    assert_eq!(searches(&SimulatorConfig { deck_size: 1, ..small() }, &USUAL, &[unfit; 2], 0), Error::Config);
+    assert_eq!(searches(&SimulatorConfig { deck_size: 1, ..small() }, &USUAL, &[unfit; 2], 0).number(), 4);
     assert_eq!(refused(&SimulatorConfig { deck_size: 1, ..small() }, &USUAL, &[unfit; 2]), Error::TooManyCards);
+}
+
+/// A search that is refused at its first run, or at its entry, tells no trial.
+#[test]
+fn no_trial_is_told() {
+    let threads = NonZeroUsize::MIN;
+    let mut told = 0;
+    let mut count = |_| {
+        told += 1;
+        ControlFlow::Continue(())
+    };
+    let refused = optimal_retention_with_progress(&small(), &[2.0; 34], &[], 64, threads, &mut count);
+    assert_eq!(refused, Err(Error::ChanceOutOfRange { card: 2 }));
+    assert!(optimal_retention_with_progress(&small(), &USUAL, &[], 65, threads, &mut count).is_err());
+    assert_eq!(told, 0);
 }

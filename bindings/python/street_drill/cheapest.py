@@ -1,0 +1,72 @@
+"""What the search for the cheapest retention found, in words.
+
+  in_order   what was tried, by retention
+  curve      a line a trial
+  advice     what is advised, or why nothing is
+  told       a retention
+"""
+
+import math
+from collections.abc import Sequence
+
+from .errors import Mistake
+from .search import Trial
+from .streets import Streets
+
+
+def told(retention: float) -> str:
+    """More digits would be more than the runs tell."""
+    return f"{retention:.4f}".rstrip("0")
+
+
+def in_order(path: str, tried: Sequence[Trial], present: Trial) -> list[Trial]:
+    """All by their retention, the present setting's among them; a mistake where no retention can be the cheapest."""
+    trials = sorted({each.retention: each for each in [present, *tried]}.values(), key=lambda each: each.retention)
+    if any(math.isnan(each.mean) for each in trials) or not 0 <= min(each.mean for each in trials) < math.inf:
+        raise Mistake(path, "what a trial costs for each street held is no time, as where none is held at its end: no "
+                      "retention is the cheapest")
+    return trials
+
+
+def curve(trials: Sequence[Trial], present: Trial) -> str:
+    """A line a trial."""
+    lines = ["  retention  seconds a street held  streets held\n"]
+    for each in trials:
+        mark = "  the present setting" if each.retention == present.retention else ""
+        lines.append(f"  {told(each.retention):<9}  {each.mean:>21.2f}  {each.held:>12.1f}{mark}\n")
+    return "".join(lines)
+
+
+def _advice(trials: Sequence[Trial], streets: Streets) -> str:
+    """Of trials in the order of their retention."""
+    best = min(trials, key=lambda each: each.mean)
+    if all(each.mean == best.mean for each in trials):
+        why = "" if streets.new else ", since no street is new: a deck's streets keep their own retention"
+        return f"no retention is advised: all that were tried cost the same{why}"
+    for end, which, beyond in [(trials[0], "lowest", "lower"), (trials[-1], "highest", "higher")]:
+        if best is end:
+            return (f"no retention is advised: {told(best.retention)} costs least, and is the {which} that was tried; "
+                    f"the cheapest may lie {beyond} still")
+    return f"retention {told(best.retention)} costs least"
+
+
+def _beside(best: Trial, present: Trial) -> str:
+    """What the present setting costs beside the best."""
+    if present.mean == best.mean:
+        return f"the present {told(present.retention)} costs as much"
+    more = present.mean - best.mean
+    fewer = "more" if present.held >= best.held else "fewer"
+    return (f"the present {told(present.retention)} costs {more:.2f} seconds a street more "
+            f"({more / best.mean:.0%}), and holds {abs(present.held - best.held):.1f} streets {fewer}")
+
+
+def advice(trials: Sequence[Trial], present: Trial, streets: Streets) -> list[str]:
+    """What is advised, or why nothing is, and what the present setting costs."""
+    best = min(trials, key=lambda each: each.mean)
+    lines = [_advice(trials, streets)]
+    if best.retention != present.retention:
+        lines.append(_beside(best, present))
+    if streets.known and streets.new:
+        lines.append(f"desired_retention is for the {streets.new:,} new streets; "
+                     f"the deck's {streets.known:,} keep theirs")
+    return lines

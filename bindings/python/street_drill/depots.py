@@ -1,0 +1,67 @@
+"""The depots of a region, a row each.
+
+  table        for a file
+  page_table   to be read; lines: the same for the terminal
+"""
+
+from collections.abc import Sequence
+
+from . import course, facts
+from .course import Course, Table
+from .region import total_of
+
+
+def _cells(name: str, values: Sequence[float]) -> dict[str, float]:
+    """One value, or of several runs the mean and the tenth and the ninetieth percentile."""
+    return dict(zip((name, f"{name}_p10", f"{name}_p90"), course.spread(values) if len(values) > 1 else values))
+
+
+def _days(depot: Course, days: dict[str, int | None]) -> dict[str, float | str]:
+    """Days, and their dates where there are dates."""
+    told: dict[str, float | str] = {}
+    for name, day in days.items():
+        told[name] = "" if day is None else day
+        if depot.first_day:
+            told[f"{name}_date"] = "" if day is None else depot.date(day)
+    return told
+
+
+def _openings(depot: Course, streets: int) -> dict[str, int | None]:
+    """From when so many streets stay held; of several runs, in half, nine of ten and all of them."""
+    if not depot.each:
+        held = depot.columns["memorized"]
+        return {"opens": course.opening(held, streets), "first_held": course.touch(held, streets)}
+    return dict(zip(("opens_half", "opens_most", "opens_all"), facts.openings(depot, streets)))
+
+
+def _row(depot: Course, streets: int | None) -> dict[str, float | str]:
+    costs = [run["cost"] for run in depot.runs]
+    busiest, worst = facts.worst(costs)
+    return {"depot": depot.name, "days": depot.span, **_cells("seconds", list(map(total_of, costs))),
+            **_days(depot, {"busiest_day": busiest}), **_cells("busiest_seconds", worst),
+            **_cells("introduced", [run["introduced"][-1] for run in depot.runs]),
+            **_cells("memorized", [run["memorized"][-1] for run in depot.runs]),
+            **(_days(depot, _openings(depot, streets)) if streets else {})}
+
+
+def table(depots: Sequence[Course], streets: int | None) -> Table:
+    """A row a depot, for a file; a day is empty where so many streets stay held on no day."""
+    rows = [_row(depot, streets) for depot in depots]
+    return "Depots", list(rows[0]), [list(row.values()) for row in rows]
+
+
+def page_table(depots: Sequence[Course], streets: int | None) -> Table:
+    """A row a depot, to be read."""
+    wanted = ("span", f"{streets or 0:,} streets held", "held on the last day", "in all", "busiest day")
+    told = [{label: value for label, value in facts.facts(depot, streets) if label in wanted} for depot in depots]
+    labels = list(dict.fromkeys(label for each in told for label in each))
+    rows = [[depot.name, *(each.get(label, "") for label in labels)] for depot, each in zip(depots, told)]
+    return "Depots", ["depot", *labels], rows
+
+
+def lines(depots: Sequence[Course], streets: int | None) -> str:
+    """A line a depot, for the terminal."""
+    _, head, rows = page_table(depots, streets)
+    widths = [max(map(len, column)) for column in zip(head, *rows)]
+    padded = ["  ".join(cell.ljust(width) for cell, width in zip(row, widths)).rstrip() for row in [head, *rows]]
+    return "\n".join(padded) + "\n"

@@ -1,0 +1,78 @@
+"""A course by weeks and months: seven days each from the first, and months of the calendar where the first day is
+given, else thirty days each.
+
+  weeks, months               the stretches of days
+  costs                       what each stretch costs, of each run
+  weeks_table, months_table   a row a week, a row a month
+"""
+
+from collections.abc import Sequence
+from dataclasses import dataclass
+from datetime import timedelta
+from itertools import groupby
+
+from .course import STANDING, Columns, Course, Table, of_columns, values_table
+
+WEEK, MONTH = 7, 30
+
+
+@dataclass(frozen=True)
+class Stretch:
+    """Some days in a row: a week by its number from 1, a month by its number or as 2026-11."""
+
+    name: str
+    days: range
+
+
+def _blocks(span: int, length: int) -> list[Stretch]:
+    starts = range(0, span, length)
+    return [Stretch(str(number), range(start, min(start + length, span)))
+            for number, start in enumerate(starts, start=1)]
+
+
+def weeks(course: Course) -> list[Stretch]:
+    """The last may have fewer days."""
+    return _blocks(course.span, WEEK)
+
+
+def months(course: Course) -> list[Stretch]:
+    """The last, and the first of the calendar's, may have fewer days."""
+    first = course.first_day
+    if first is None:
+        return _blocks(course.span, MONTH)
+    grouped = groupby(range(course.span), lambda day: f"{first + timedelta(day):%Y-%m}")
+    listed = [(name, list(days)) for name, days in grouped]
+    return [Stretch(name, range(days[0], days[-1] + 1)) for name, days in listed]
+
+
+def _sums(values: Sequence[float], stretches: Sequence[Stretch]) -> list[float]:
+    return [sum(values[each.days.start : each.days.stop]) for each in stretches]
+
+
+def costs(course: Course, stretches: Sequence[Stretch]) -> list[list[float]]:
+    """Seconds of each stretch, of each run."""
+    return [_sums(run["cost"], stretches) for run in course.runs]
+
+
+def _by(stretches: Sequence[Stretch], columns: Columns) -> Columns:
+    """A value a stretch: what its days come to, or what stands at its end."""
+    return {name: [values[each.days[-1]] for each in stretches] if name in STANDING else _sums(values, stretches)
+            for name, values in columns.items()}
+
+
+def _table(kind: str, course: Course, stretches: Sequence[Stretch]) -> Table:
+    days = [each.days for each in stretches]
+    lead = {kind: [each.name for each in stretches], "day": [each.start for each in days]}
+    dates = {"date": [course.date(each.start) for each in days]} if course.first_day else {}
+    summed = of_columns(course.name, [_by(stretches, run) for run in course.runs])
+    return values_table(f"{course.name} by {kind}", {**lead, **dates, "days": list(map(len, days))}, summed)
+
+
+def weeks_table(course: Course) -> Table:
+    """A row a week: `day` is its first."""
+    return _table("week", course, weeks(course))
+
+
+def months_table(course: Course) -> Table:
+    """A row a month: `day` is its first."""
+    return _table("month", course, months(course))

@@ -1,0 +1,92 @@
+"""A table as spreadsheets write it: commas, semicolons or tabs between the cells, blanks and capitals in the head, rows
+that are empty; and what is wrong with a cell that should be a number.
+
+  read     the head and the rows of a text
+  cause    why a cell is no number, in words
+"""
+
+import csv
+import io
+import re
+from collections.abc import Sequence
+from dataclasses import dataclass
+
+from .errors import Mistake, raise_all
+
+_DELIMITERS = ",;\t"
+
+
+@dataclass(frozen=True)
+class Sheet:
+    """The head as it is written, and the rows below it, each with the line on which it begins."""
+
+    path: str
+    delimiter: str
+    head: Sequence[str]
+    head_line: int
+    rows: Sequence[Sequence[str]]
+    lines: Sequence[int]
+
+    def names(self) -> list[str]:
+        """The head in small letters, with _ for blanks."""
+        return [re.sub(r"[\s_-]+", "_", name.strip()).lower() for name in self.head]
+
+
+def _delimiter(text: str) -> str:
+    """What stands most often in the first line that is not blank."""
+    first = text.lstrip().partition("\n")[0]
+    return max(_DELIMITERS, key=first.count)
+
+
+def _records(path: str, text: str, delimiter: str) -> tuple[list[int], list[list[str]]]:
+    """The rows that have something in them, and the line on which each begins."""
+    lines, records = [], []
+    reader = csv.reader(io.StringIO(text, newline=""), strict=True, delimiter=delimiter)
+    line = 1
+    try:
+        for record in reader:
+            if any(map(str.strip, record)):
+                lines.append(line)
+                records.append(record)
+            line = reader.line_num + 1
+    except csv.Error as error:
+        raise Mistake(f"{path}: line {line}", str(error)) from error
+    return lines, records
+
+
+def _length_mistake(path: str, delimiter: str, line: int, cells: int, head: int) -> Mistake:
+    sentence = f"has {cells} columns, and the head has {head}"
+    if cells > head and delimiter == ",":
+        sentence += "; a decimal comma ends a cell here: write a point, or have semicolons between the cells"
+    return Mistake(f"{path}: line {line}", sentence)
+
+
+def read(path: str, text: str) -> Sheet:
+    """Of a text; `path` is for the errors. Empty cells beyond the head are left out."""
+    delimiter = _delimiter(text)
+    lines, records = _records(path, text, delimiter)
+    head_line, head = (lines.pop(0), records.pop(0)) if records else (1, [])
+    while head and not head[-1].strip():
+        head.pop()
+    width, mistakes = len(head), []
+    for number, record in enumerate(records):
+        if len(record) != width:
+            if len(record) < width or any(map(str.strip, record[width:])):
+                mistakes.append(_length_mistake(path, delimiter, lines[number], len(record), width))
+            records[number] = record[:width]
+    raise_all(path, mistakes)
+    return Sheet(path, delimiter, head, head_line, records, lines)
+
+
+_CAUSES = {
+    r".*%": "is a percentage: 90% is written 0.9",
+    r"\d{4}-\d\d-\d\d": "is a date",
+    r"\d+([./-])\d+\1\d+": "is a date, perhaps: dates are written as 2026-11-23",
+    r"[+-]?\d{1,3}([.,'\s])\d{3}(\1\d{3})*[.,]\d+": "has marks between its thousands: write the digits alone",
+    r"[+-]?\d+,\d+": "has a decimal comma: write a point, or have semicolons or tabs between the cells",
+}
+
+
+def cause(text: str, otherwise: str) -> str:
+    """Why a cell is no number, as far as it can be seen."""
+    return next((told for pattern, told in _CAUSES.items() if re.fullmatch(pattern, text)), otherwise)

@@ -1,0 +1,54 @@
+"""A text as the program `forecast` reads it, with an exit status.
+
+The program itself reads it and makes the run: its reading is proved, and a second one in Python could differ. Rattle
+has no exit status, so what was printed is judged here: a refusal, a listing that is whole, or neither.
+"""
+
+import math
+import os
+import re
+import subprocess
+import sys
+from pathlib import Path
+
+from . import listing
+from .errors import Mistake
+
+# The repository's.
+PROGRAM = os.path.relpath(Path(__file__).resolve().parents[3] / "target" / "bin" / "forecast")
+_INPUT = "standard input"
+_CHEAPEST = re.compile(r"\(cheapest [0-9A-F]{8} \(rounds \d+\) \(mean ([0-9A-F]{8})\)\)\n", re.ASCII)
+
+
+def _printed(program: str) -> str:
+    """What the program prints for this process's own input."""
+    try:
+        ended = subprocess.run([program], stdout=subprocess.PIPE, check=True)
+        return ended.stdout.decode("ascii")
+    except OSError as error:
+        told = f"{error.strerror}; tools/build forecast makes the program, and --program names it"
+        raise Mistake(program, told) from error
+    except (subprocess.CalledProcessError, UnicodeDecodeError) as error:
+        raise Mistake(program, "did not end as it should") from error
+
+
+def _check(printed: str) -> None:
+    """A mistake where it is no answer."""
+    if told := listing.refused(printed.removesuffix("\n")):
+        raise Mistake(_INPUT, told)
+    found = _CHEAPEST.fullmatch(printed)
+    if not found:
+        listing.of_text(_INPUT, printed)
+    elif not 0 <= listing.float_of(found[1]) < math.inf:
+        raise Mistake(_INPUT, "what a trial costs for each street held is no time: no retention is the cheapest")
+
+
+def answer(program: str) -> str:
+    """What the program prints, which is shown in any case; a mistake where it refused the text."""
+    printed = _printed(program)
+    try:
+        _check(printed)
+    except Mistake:
+        print(printed, end="", flush=True)
+        raise
+    return printed
