@@ -20,9 +20,9 @@ use Rattle.entry.specs.Entry.{Check, passed, inputs}
 use Rattle.runs.specs.State.{State, with_draws}
 use Rattle.entry.proofs.FirstWhere.{none_before}
 use Rattle.entry.proofs.Tests.{passes, settings_passed, lengths_pass}
-use Rattle.entry.specs.Entry.{most_cards, most_days, Inputs, first_where, not_ok, lengths_ok, check_cards}
+use Rattle.entry.specs.Entry.{most_cards, most_days, Inputs, first_where, not_ok, check_cards}
 use Rattle.runs.specs.Checked.{lists_ok, checked_with, checked, lengths_of}
-use Rattle.turns.proofs.Logic.{both, not-false}
+use Rattle.turns.proofs.Logic.{not-false}
 
 pub record Accepted {C : Type 0} (i : Inputs) (s : State C) : Type 0 where
   pub parameters_long : 34 ≤ length i.parameters

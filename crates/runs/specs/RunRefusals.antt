@@ -11,13 +11,10 @@ use Rattle.float32.specs.Ops.{◌-ᶠ◌}
 use Rattle.cards.specs.declared.card.Card.{Card}
 use Rattle.cards.specs.declared.choice.Choice.{Choice}
 use Rattle.cards.specs.declared.choice.Choice.TheVariants as choice
-use Rattle.cards.specs.Day.{is_new, day_of}
+use Rattle.cards.specs.Day.{is_new}
 use Rattle.cards.specs.declared.card.Card.{Card}
 use Rattle.cards.specs.declared.choice.Choice.{Choice}
 use Rattle.cards.specs.declared.choice.Choice.TheVariants as choice
-use Rattle.cards.specs.Choices.{today, choice_of}
-use Rattle.days.specs.Counts.{learned_at, reviewed_at}
-use Rattle.days.specs.Sums.{cost_at}
 use Rattle.days.specs.Due.{none_due}
 use Rattle.events.specs.declared.Memory.{Memory}
 use Rattle.events.specs.Events.{chance_ok}

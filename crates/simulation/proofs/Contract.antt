@@ -3,32 +3,25 @@
 --   refused_is, accepted_is   the contract of a call that is refused at its entry, and of one that is accepted
 use mathlib.Core.Path.{◌≡◌, refl, sym, ap, ◌∙◌, subst}
 use mathlib.Core.Option.{some}
-use mathlib.Core.Bool.{Bool, true}
-use Prim.Native.Nat.{◌<◌}
-use lib.ListN.{length}
 use lib.Ieee.{Float}
-use Rattle.float32.specs.Numbers.{0ᶠ}
-use Rattle.float32.specs.Float32.{is_finite}
 use Rattle.draws.specs.Draws.{split_mix}
 use Rattle.model.specs.Runtime as Runtime
 use Rattle.events.specs.Scalars.{Scalars, kept}
 use Rattle.events.proofs.Loops.{kept_is}
 use Rattle.entry.specs.declared.Refusal.{Refusal}
-use Rattle.entry.specs.Entry.{Check}
 use Rattle.entry.specs.Entry.{passed}
 use Rattle.std.specs.Prelude.{Err}
 use Rattle.runs.specs.declared.Progress.{Progress}
 use Rattle.runs.specs.Simulate.{Answer}
 use Rattle.runs.specs.Simulate.{finished, refused}
-use Rattle.runs.specs.State.{State, Lent, lists_of, with_draws}
+use Rattle.runs.specs.State.{State, Lent, lists_of}
 use Rattle.runs.specs.Rules.{rules_of}
-use Rattle.entry.specs.Entry.{Inputs, inputs}
-use Rattle.runs.specs.Checked.{lists_ok, checked_with, checked}
+use Rattle.entry.specs.Entry.{Inputs}
+use Rattle.runs.specs.Checked.{checked}
 use Rattle.runs.specs.Simulate.{progress, rules_for, result_from, simulated_by, simulated, IsResult}
 use Rattle.simulation.specs.Steps.{InnerContract}
 use Rattle.runs.specs.Demands.{start_of, RunContract}
 use Rattle.runs.proofs.Accepted.{accepted}
-use Rattle.entry.proofs.Tests.{settings_passed}
 use Rattle.runs.proofs.run.Suits.{suits}
 use Rattle.runs.proofs.run.DemandThree.{has_stopped, stops_so}
 use Rattle.runs.proofs.run.Answers.{ok_demand}

@@ -6,27 +6,25 @@
 --   ended_is                           a turn of an empty queue
 --   acted_is, event_is                 a turn of each choice
 use mathlib.Core.Path.{◌≡◌, refl, sym, ap, ◌∙◌}
-use mathlib.Core.Bool.{Bool, true, false, true≢false, false≢true}
+use mathlib.Core.Bool.{Bool, true, false}
 use mathlib.Core.List.{List}
 use mathlib.Core.Logic.{◌≢◌, ◌⊎◌, inl, inr}
 use borrow.Author.Tests.{eq-eqb, ne_eqb}
 use Prim.Native.Nat.{ℕ}
 use lib.Ieee.{Float}
 use Rattle.std.specs.Prelude.{Result, Ok, Err, Option, Some, None}
-use Rattle.turns.specs.Run.{takes}
 use Rattle.cards.specs.declared.card.Card.{Card}
 use Rattle.cards.specs.declared.choice.Choice.{Choice}
 use Rattle.cards.specs.declared.choice.Choice.TheVariants as choice
 use Rattle.cards.specs.Day.{day_of, is_new}
-use Rattle.cards.specs.Cards.{card_at, write_floats, write_counts}
+use Rattle.cards.specs.Cards.{write_floats, write_counts}
 use Rattle.cards.specs.Choices.{retires, blocked, choose, today, choice_of}
 use Rattle.days.specs.Counts.{learned_at, reviewed_at, add_event}
 use Rattle.days.specs.Sums.{cost_at, add_cost}
 use Rattle.days.specs.Due.{add_due, move_due, none_due}
 use Rattle.events.specs.declared.Memory.{Memory}
-use Rattle.queue.specs.Queue.{queue, front, front_changed, popped}
+use Rattle.queue.specs.Queue.{queue, front_changed, popped}
 use Rattle.intervals.specs.declared.Slot.{Slot}
-use Rattle.intervals.specs.declared.Slot.TheVariants as slot
 use Rattle.intervals.specs.Table.{Table, table}
 use Rattle.intervals.specs.Schedule.{is_full, interval_of, entered}
 use Rattle.entry.specs.declared.RunRefusal.{RunRefusal}
@@ -34,7 +32,7 @@ use Rattle.entry.specs.declared.RunRefusal.TheVariants as refusal
 use Rattle.runs.specs.declared.Place.{Place}
 use Rattle.runs.specs.State.{State, Lent, lent, state, key_of}
 use Rattle.runs.specs.Rules.{Rules}
-use Rattle.runs.specs.Turn.{refuses, event_turn, card_after_put_off, card_after_event, add_forgetting_curve}
+use Rattle.runs.specs.Turn.{event_turn, card_after_put_off, card_after_event, add_forgetting_curve}
 use Rattle.runs.specs.Turn.{after_retire, after_put_off, after_event, event_with_slot, event_on, act, next}
 use Rattle.runs.specs.Turn.{first, turn_choice}
 use Rattle.runs.specs.declared.First.{First}
@@ -165,5 +163,5 @@ module _ (R : Rules Float) (l : Lent Float) (len draws : ℕ) where
         let n = is_new k.last_date in
         let a = retires R.span R.lapse_limit k in
         let b = blocked R.limits d n
-            (today (learned_at l.days d) (reviewed_at l.days d) (cost_at R.costs.none l.costs d)) in
+        (today (learned_at l.days d) (reviewed_at l.days d) (cost_at R.costs.none l.costs d)) in
         rw (next_is ∙ ap (act R st f) eh ∙ event_by a b n (rw eh at h)) p

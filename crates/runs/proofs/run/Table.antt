@@ -13,17 +13,12 @@ use Rattle.float32.specs.Numbers.{0ᶠ}
 use Rattle.turns.specs.Turns.{Turn, put_off}
 use Rattle.turns.specs.Run.{Next, takes, stops, run}
 use Rattle.turns.proofs.Loop.{Keeps, run_keeps}
-use Rattle.cards.specs.declared.card.Card.{Card}
 use Rattle.cards.specs.declared.choice.Choice.{Choice}
 use Rattle.cards.specs.declared.choice.Choice.TheVariants as choice
-use Rattle.cards.specs.Day.{day_of, is_new}
-use Rattle.cards.specs.Choices.{today, choice_of}
-use Rattle.days.specs.Counts.{learned_at, reviewed_at}
-use Rattle.days.specs.Sums.{cost_at}
+use Rattle.cards.specs.Day.{is_new}
 use Rattle.days.specs.Due.{none_due}
 use Rattle.events.specs.declared.Memory.{Memory}
 use Rattle.std.specs.Prelude.{Option, Some, None}
-use Rattle.queue.specs.Queue.{front}
 use Rattle.intervals.specs.declared.Slot.{Slot}
 use Rattle.intervals.specs.declared.Slot.TheVariants as slot
 use Rattle.intervals.specs.Schedule.{entered}
@@ -35,7 +30,7 @@ use Rattle.runs.specs.Turn.{Stop}
 use Rattle.runs.specs.Turn.{first, turn_choice}
 use Rattle.runs.specs.declared.First.{First}
 use Rattle.std.specs.Prelude.{Ok}
-use Rattle.runs.specs.State.{State, card_in}
+use Rattle.runs.specs.State.{State}
 use Rattle.runs.specs.Rules.{Rules}
 use Rattle.entry.specs.Entry.{Inputs}
 use Rattle.runs.specs.SetUp.{set_up}

@@ -9,17 +9,12 @@ use lib.Dec.{eqb}
 use Rattle.turns.specs.Turns.{Turn, put_off}
 use Rattle.turns.specs.Run.{Next, takes, stops, run}
 use Rattle.turns.proofs.Loop.{Follows, Same, run_follows}
-use Rattle.cards.specs.declared.card.Card.{Card}
 use Rattle.cards.specs.declared.choice.Choice.{Choice}
 use Rattle.cards.specs.declared.choice.Choice.TheVariants as choice
-use Rattle.cards.specs.Day.{day_of, is_new}
-use Rattle.cards.specs.Choices.{today, choice_of}
-use Rattle.days.specs.Counts.{learned_at, reviewed_at}
-use Rattle.days.specs.Sums.{cost_at}
+use Rattle.cards.specs.Day.{is_new}
 use Rattle.days.specs.Due.{none_due}
 use Rattle.events.specs.declared.Memory.{Memory}
 use Rattle.std.specs.Prelude.{Option, Some, None}
-use Rattle.queue.specs.Queue.{front}
 use Rattle.intervals.specs.declared.Slot.{Slot}
 use Rattle.intervals.specs.declared.Slot.TheVariants as slot
 use Rattle.intervals.specs.Table.{Table, places}
@@ -31,7 +26,7 @@ use Rattle.runs.specs.Turn.{Stop}
 use Rattle.runs.specs.Turn.{first, turn_choice}
 use Rattle.runs.specs.declared.First.{First}
 use Rattle.std.specs.Prelude.{Ok, Err}
-use Rattle.runs.specs.State.{State, card_in, with_table}
+use Rattle.runs.specs.State.{State, with_table}
 use Rattle.runs.specs.Rules.{Rules}
 use Rattle.runs.specs.Turn.{refuses, turn_as, after_retire, after_put_off, after_event, event_with_slot, event_with_draw, event_on, act, turn_of, next}
 use Rattle.runs.proofs.turn.Slots.{Slots}

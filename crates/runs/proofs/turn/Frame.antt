@@ -19,9 +19,8 @@ use Rattle.cards.specs.declared.choice.Choice.{Choice}
 use Rattle.cards.specs.declared.choice.Choice.TheVariants as choice
 use Rattle.cards.specs.Day.{day_of, is_new}
 use Rattle.cards.specs.Cards.{no_floats, no_counts, card_at, floats_of, counts_of, write_floats, write_counts}
-use Rattle.cards.specs.Choices.{retires, today, choice_of}
-use Rattle.days.specs.Counts.{learned_at, reviewed_at}
-use Rattle.days.specs.Sums.{cost_at, add_forgetting_curve_range}
+use Rattle.cards.specs.Choices.{retires, choice_of}
+use Rattle.days.specs.Sums.{add_forgetting_curve_range}
 use Rattle.days.specs.Due.{due_days, none_due}
 use Rattle.days.proofs.Laws.{cost_long}
 use Rattle.days.proofs.Frame.{event_own, event_long, cost_own, range_own, range_long, add_due-own, move_due-own}

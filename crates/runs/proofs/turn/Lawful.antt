@@ -21,7 +21,7 @@ use Rattle.turns.proofs.Columns.{SetUp}
 use Rattle.turns.proofs.Demand.{Step, run_demand, run-rows}
 use Rattle.turns.proofs.Loop.{Lawful, lawful_keeps, run_chain, run_keeps, run_ends}
 use Rattle.cards.specs.declared.card.Card.{Card}
-use Rattle.cards.specs.Day.{IntervalInRange, day_of, is_new}
+use Rattle.cards.specs.Day.{IntervalInRange, is_new}
 use Rattle.cards.specs.Cards.{card_at}
 use Rattle.cards.specs.Choices.{retires, blocked, limited, choose, today, choice_of}
 use Rattle.days.specs.Counts.{learned_at, reviewed_at}
@@ -29,7 +29,6 @@ use Rattle.days.specs.Sums.{cost_at}
 use Rattle.days.specs.Due.{none_due}
 use Rattle.events.specs.declared.Memory.{Memory}
 use Rattle.std.specs.Prelude.{Option, Some, None}
-use Rattle.queue.specs.Queue.{front}
 use Rattle.intervals.specs.declared.Slot.{Slot}
 use Rattle.intervals.specs.declared.Slot.TheVariants as slot
 use Rattle.intervals.specs.Schedule.{is_full, interval_of}
@@ -39,7 +38,7 @@ use Rattle.runs.specs.Turn.{Stop}
 use Rattle.runs.specs.Turn.{first}
 use Rattle.runs.specs.declared.First.{First}
 use Rattle.std.specs.Prelude.{Ok}
-use Rattle.runs.specs.State.{State, card_in}
+use Rattle.runs.specs.State.{State}
 use Rattle.runs.specs.Turn.{refuses, turn_as, event_turn, after_put_off, after_event, event_with_slot, event_with_draw, event_on, act, turn_of, next}
 use Rattle.runs.specs.Rules.{Rules}
 use Rattle.runs.specs.Invariant.{RunBounds, StateInvariant}

@@ -24,7 +24,6 @@ use Rattle.std.specs.Prelude.{Option, Some, None}
 use Rattle.events.specs.Scalars.{Scalars}
 use Rattle.events.specs.Drawn.{Drawn}
 use Rattle.events.specs.Events.{chance_ok, chance_on, learning, success, lapse, reviewing, event_at, event_of}
-use Rattle.queue.specs.Queue.{front}
 use Rattle.intervals.specs.declared.Slot.{Slot}
 use Rattle.intervals.specs.declared.Slot.TheVariants as slot
 use Rattle.intervals.specs.Schedule.{is_full}

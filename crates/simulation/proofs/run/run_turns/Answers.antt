@@ -2,7 +2,7 @@ use Rattle.entry.proofs.Lent.{same_lists, same_then}
 use Rattle.std.specs.Prelude.{Ok, Err}
 use Rattle.runs.specs.Rules.{rules_as}
 use Rattle.runs.specs.State.{state_at}
-use Rattle.simulation.proofs.run.Loop.{going_start, going_on, going_stops, going_cut}
+use Rattle.simulation.proofs.run.Loop.{going_start, going_on, going_stops}
 use Rattle.simulation.proofs.run.run_turns.Goals as goal
 
 pub loop-turns-init : goal.loop-turns-init
