@@ -3,9 +3,9 @@
 // one, and refusals, verdicts and answers are told as numbers.
 #![tactic(auto)]
 
-mod heap;
-mod memory;
+mod intervals;
+mod model;
 mod numbers;
+mod queue;
 mod run;
 mod search;
-mod table;

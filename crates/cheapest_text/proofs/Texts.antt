@@ -7,17 +7,17 @@ use lib.ListN.{length, replicate}
 use lib.Ieee.{Float}
 use Rattle.float32.specs.Numbers.{0ᶠ}
 use Rattle.cards.specs.declared.configuration.SimulatorConfig.{SimulatorConfig}
-use Rattle.listing.specs.declared.Settings.{Settings}
-use Rattle.listing.specs.declared.Reading.{Reading}
+use Rattle.settings_text.specs.declared.Settings.{Settings}
+use Rattle.settings_text.specs.declared.Reading.{Reading}
 use Rattle.std.specs.Prelude.{Result, Ok, Err}
-use Rattle.listing.specs.declared.ReadError.{ReadError}
-use Rattle.listing.specs.Forms.{reading, told}
+use Rattle.settings_text.specs.declared.ReadError.{ReadError}
+use Rattle.settings_text.specs.Forms.{reading, told}
 use Rattle.report.specs.Lines.{refused_line}
 use Rattle.report.proofs.WriteLaws.{refused-short, cheapest-short}
 use Rattle.entry.specs.Refusals.{number_of, second_of}
 use Rattle.runs.specs.State.{Lent}
 use Rattle.retention.specs.Trials.{search_inputs}
-use Rattle.retention.specs.Retention.{SearchAnswer, answer_of, SearchContract}
+use Rattle.retention.specs.Retention.{SearchAnswer, optimum_of, SearchContract}
 use Rattle.forecast_text.specs.Settings.{most_span, default_settings, config_of, parameters_of}
 use Rattle.forecast_text.specs.Forecast.{lists}
 use Rattle.cheapest_text.specs.Cheapest.{cheapest_search, answer_text, verdict_text, cheapest_text}
@@ -27,7 +27,7 @@ pub searched_is : (s : Settings) (g : SimulatorConfig) (w : List Float) (r : Sea
     → g ≡ config_of s → w ≡ parameters_of s
     → SearchContract (search_inputs g w [] []) 64
     (lists (replicate most_span (replicate 4 0)) (replicate most_span 0ᶠ) (replicate most_span 0ᶠ)) r l
-    → r ≡ answer_of (cheapest_search s).answer
+    → r ≡ optimum_of (cheapest_search s).answer
 unfolding cheapest_search
 searched_is s g w r l eg ew k = rw (sym eg, sym ew) k.result.answer
 
@@ -36,7 +36,7 @@ module _ (text : List ℕ) (base : Settings) (x : Reading) (b : base ≡ default
   unfolding cheapest_text verdict_text
   line_text r v = rw (sym b, sym e, v)
 
-  pub read_text : x.verdict ≡ Ok tt → cheapest_text text ≡ answer_text (answer_of (cheapest_search x.settings).answer)
+  pub read_text : x.verdict ≡ Ok tt → cheapest_text text ≡ answer_text (optimum_of (cheapest_search x.settings).answer)
   unfolding cheapest_text verdict_text
   read_text v = rw (sym b, sym e, v)
 
@@ -49,7 +49,7 @@ answer_fits (Err r) = omega (arith, refused-short (number_of r) (second_of r))
 verdict_fits : (v : Result Unit ReadError) (s : Settings) → length (verdict_text v s) ≤ 90
 unfolding verdict_text
 verdict_fits (Err e) s = omega (arith, refused-short 11 (told e))
-verdict_fits (Ok u) s = answer_fits (answer_of (cheapest_search s).answer)
+verdict_fits (Ok u) s = answer_fits (optimum_of (cheapest_search s).answer)
 
 pub text_fits : (text : List ℕ) → length (cheapest_text text) ≤ 90
 unfolding cheapest_text

@@ -3,17 +3,17 @@
 --   answer_text, cheapest_text   what is printed, of a search and of a text
 use Rattle.std.specs.Prelude.{ℕ, List, [], replicate, Float}
 use Rattle.float32.specs.Numbers.{0ᶠ}
-use Rattle.listing.specs.declared.Settings.{Settings}
+use Rattle.settings_text.specs.declared.Settings.{Settings}
 use Rattle.std.specs.Prelude.{Result, Ok, Err}
-use Rattle.listing.specs.declared.ReadError.{ReadError}
-use Rattle.listing.specs.Forms.{reading, told}
+use Rattle.settings_text.specs.declared.ReadError.{ReadError}
+use Rattle.settings_text.specs.Forms.{reading, told}
 use Rattle.report.specs.Lines.{refused_line, cheapest_line}
 use Rattle.entry.specs.declared.Refusal.{Refusal}
 use Rattle.entry.specs.Refusals.{number_of, second_of}
 use Rattle.runs.specs.State.{Lent}
 use Rattle.brent.specs.Search.{Searched}
 use Rattle.retention.specs.Trials.{search_inputs}
-use Rattle.retention.specs.Retention.{SearchAnswer, most_rounds, optimal_retention, answer_of}
+use Rattle.retention.specs.Retention.{SearchAnswer, most_rounds, optimal_retention, optimum_of}
 use Rattle.forecast_text.specs.Settings.{most_span, default_settings, config_of, parameters_of}
 use Rattle.forecast_text.specs.Forecast.{lists}
 
@@ -29,7 +29,7 @@ answer_text (Err r) = refused_line (number_of r) (second_of r)
 
 unfoldable pub verdict_text : Result Unit ReadError → Settings → List ℕ
 verdict_text (Err e) s = refused_line 11 (told e)
-verdict_text (Ok u) s = answer_text (answer_of (cheapest_search s).answer)
+verdict_text (Ok u) s = answer_text (optimum_of (cheapest_search s).answer)
 
 unfoldable pub cheapest_text : List ℕ → List ℕ
 cheapest_text text =

@@ -3,17 +3,17 @@
 
 ghost use Rattle.std.specs.Prelude.{◌≡◌};
 ghost use Rattle.report.specs.Lines.{placed, written};
-ghost use Rattle.retention.specs.Retention.{answer_of};
+ghost use Rattle.retention.specs.Retention.{optimum_of};
 ghost use Rattle.cheapest_text.specs.Cheapest.{cheapest_search, answer_text, cheapest_text};
 
 use entry::{Learner, Lists, Refusal, refusals};
 use forecast_text::settings;
-use listing::Settings;
+use settings_text::Settings;
 use retention::Optimum;
 
 // The search over settings, in 64 rounds at the most. Its lists stand here as in forecast_text.
 fn search(set: Settings) -> Result<Optimum, Refusal>
-    ensures { result ≡ answer_of (cheapest_search set).answer }
+    ensures { result ≡ optimum_of (cheapest_search set).answer }
 {
     let mut lists = Lists {
         cards: &mut [[0.0; 6]; 512],
@@ -55,7 +55,7 @@ pub fn cheapest(out: &mut [u8], text: &[u8]) -> Option<usize>
     ensures { (result ≡ placed out.old 0 (cheapest_text text.now))
         × (out.new ≡ written out.old 0 (cheapest_text text.now)) }
 {
-    let reading = listing::reader::read(text, settings::default_settings());
+    let reading = settings_text::reader::read(text, settings::default_settings());
     match reading.verdict {
         Err(e) => report::write_refused(out, 0, 11, e.told()),
         Ok(()) => write_answer(out, search(reading.settings)),

@@ -1,7 +1,7 @@
 -- One turn of the loop over short-term steps, and that what is kept of the parameters serves as they do.
 --     steps-many, steps_easy              steps that end: enough good ratings, or an easy one
 --     steps_on        one that goes on
---     kept_is w       THE MODEL KEPT BY VALUE is the model
+--     runtime_is w       THE MODEL KEPT BY VALUE is the model
 use mathlib.Core.Path.{◌≡◌, refl, sym, ap, ◌∙◌, fun_ext}
 use mathlib.Core.Bool.{Bool, true, false, ◌||◌, cond}
 use mathlib.Core.List.{List}
@@ -15,7 +15,7 @@ use Rattle.model.specs.Model as Model
 use Rattle.model.specs.Runtime as Runtime
 use Rattle.model.proofs.Runtime.{init_stability_is, curves_are}
 use Rattle.events.specs.declared.ShortTerm.{ShortTerm}
-use Rattle.events.specs.Scalars.{Scalars, plain, kept}
+use Rattle.events.specs.Scalars.{Scalars, of_parameters, of_runtime}
 use Rattle.events.specs.Events.{short_step, short_steps}
 
 module _ (w : DrawRule) (x : Scalars) (transitions costs : List Float) (limit : ℕ) where
@@ -45,6 +45,6 @@ module _ (w : DrawRule) (x : Scalars) (transitions costs : List Float) (limit : 
       one = unfold short_steps in rw (lt-leb limit t.consecutive h, lt-leb 4 t.rating k)
 
 -- THE MODEL KEPT BY VALUE is the model
-pub kept_is : (w : List Float) → kept (Runtime.runtime_of w) ≡ plain w
+pub runtime_is : (w : List Float) → of_runtime (Runtime.runtime_of w) ≡ of_parameters w
 unfolding Runtime.runtime_of Runtime.difficulty_of Model.init_difficulty Model.next_difficulty Model.stability_for_set
-kept_is w = rw (fun_ext (init_stability_is w), curves_are w)
+runtime_is w = rw (fun_ext (init_stability_is w), curves_are w)

@@ -1,5 +1,5 @@
--- What a run asks of a memory model, as functions (`Scalars`): FSRS-7 over its parameters (`plain w`), and as it is
--- computed from what is kept of them (`kept m`). `kept_is` (proofs/Loops) says that the two are the same. Definitions
+-- What a run asks of a memory model, as functions (`Scalars`): FSRS-7 over its parameters (`of_parameters w`), and over
+-- what is kept of them (`of_runtime m`). `runtime_is` (proofs/Loops) says that the two are the same. Definitions
 -- only.
 use Rattle.std.specs.Prelude.{ℕ, List, Float}
 use Rattle.float32.specs.Numbers.{1ᶠ}
@@ -25,8 +25,8 @@ pub record Scalars : Type 0 where
   pub interval : Float → Float → Float → Float
 
 -- FSRS-7 over its parameters
-abbrev pub plain : List Float → Scalars
-plain w = record {
+abbrev pub of_parameters : List Float → Scalars
+of_parameters w = record {
   init_stability = λ rating. Model.init_stability w rating;
   init_difficulty = λ rating. Model.init_difficulty w rating;
   next_difficulty = λ d rating. Model.next_difficulty w d rating 1ᶠ;
@@ -37,9 +37,9 @@ plain w = record {
   interval = λ s r longest. Model.scheduled (Model.curve_of w) s r longest;
 }
 
--- and from what is kept of them
-abbrev pub kept : Fsrs7Runtime → Scalars
-kept m = record {
+-- and over what is kept of them
+abbrev pub of_runtime : Fsrs7Runtime → Scalars
+of_runtime m = record {
   init_stability = λ rating. Runtime.init_stability m rating;
   init_difficulty = λ rating. Model.init_difficulty_by m.difficulty.w4 m.difficulty.w5 rating;
   next_difficulty = λ d rating. Model.next_difficulty_by m.difficulty.easy m.difficulty.w6 d rating 1ᶠ;

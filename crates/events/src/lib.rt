@@ -3,7 +3,7 @@
 
 ghost use Rattle.std.specs.Prelude.{◌≡◌, ◌+◌, ◌-◌, ◌≤◌, ◌<◌, min};
 ghost use Rattle.draws.specs.Draws.{word, weighted_index, split_mix};
-ghost use Rattle.events.specs.Scalars.{kept};
+ghost use Rattle.events.specs.Scalars.{of_runtime};
 ghost use Rattle.events.specs.Events.{of_rating, consecutive_after, short_step, short_steps, memory_of};
 ghost use Rattle.events.specs.Events.{learning_limit, learning, success, lapse, chance_ok, reviewing, event_at};
 
@@ -79,7 +79,7 @@ fn consecutive_after(n: u32, rating: u32) -> u32
 #[tactic(auto, unfolding(crate::specs::Events::short_step))]
 fn short_step(m: Fsrs7Runtime, transitions: [f32; 12], costs: [f32; 4], t: ShortTerm) -> ShortTerm
     requires { t.consecutive < 4294967295 }
-    ensures { result ≡ short_step split_mix (kept m) transitions costs t }
+    ensures { result ≡ short_step split_mix (of_runtime m) transitions costs t }
 {
     let drawn = SplitMix64::new(t.draws).next();
     let row = cards::row_of(transitions, t.rating.saturating_sub(1));
@@ -101,7 +101,7 @@ fn short_steps(
     limit: u32,
     first: ShortTerm,
 ) -> ShortTerm
-    ensures { result ≡ short_steps split_mix (kept m) transitions costs limit 5 first }
+    ensures { result ≡ short_steps split_mix (of_runtime m) transitions costs limit 5 first }
 {
     let mut t = first;
     for _ in 0..5u32 {
@@ -143,7 +143,7 @@ impl Rules {
     }
 
     fn learning(self, state: u64) -> Memory
-        ensures { result ≡ learning split_mix self.config (kept self.model) state }
+        ensures { result ≡ learning split_mix self.config (of_runtime self.model) state }
     {
         let drawn = SplitMix64::new(state).next();
         let rating = drawn_rating(self.config.first_rating_prob, drawn.output);
@@ -168,7 +168,7 @@ impl Rules {
 
     #[tactic(auto, unfolding(crate::specs::Events::success))]
     fn success(self, card: Card, chance: f32, state: u64) -> Memory
-        ensures { result ≡ success split_mix self.config (kept self.model) card chance state }
+        ensures { result ≡ success split_mix self.config (of_runtime self.model) card chance state }
     {
         let drawn = SplitMix64::new(state).next();
         let rating = drawn_rating(self.config.review_rating_prob, drawn.output);
@@ -185,7 +185,7 @@ impl Rules {
 
     #[tactic(auto, unfolding(crate::specs::Events::lapse))]
     fn lapse(self, card: Card, chance: f32, state: u64) -> Memory
-        ensures { result ≡ lapse split_mix self.config (kept self.model) card chance state }
+        ensures { result ≡ lapse split_mix self.config (of_runtime self.model) card chance state }
     {
         let m = self.model;
         let first = ShortTerm {
@@ -208,7 +208,7 @@ impl Rules {
     // None is refusal 7: the chance to recall is not within 0 to 1.
     #[tactic(auto, unfolding(crate::specs::Events::reviewing))]
     fn reviewing(self, card: Card, chance: f32, state: u64) -> Option<Memory>
-        ensures { result ≡ reviewing split_mix self.config (kept self.model) card chance state }
+        ensures { result ≡ reviewing split_mix self.config (of_runtime self.model) card chance state }
     {
         if !chance_ok(chance) {
             return None;
@@ -226,7 +226,7 @@ impl Rules {
     // `new` is a fact of the card: a closure in its place would have to be chosen by the same test.
     #[tactic(auto, unfolding(crate::specs::Events::event_at))]
     pub fn event_at(self, card: Card, new: bool, chance: f32, state: u64) -> Option<Memory>
-        ensures { result ≡ event_at split_mix self.config (kept self.model) card new chance state }
+        ensures { result ≡ event_at split_mix self.config (of_runtime self.model) card new chance state }
     {
         if new {
             Some(self.learning(state))

@@ -10,7 +10,7 @@ use lib.Dec.{ltb}
 use lib.Ieee.{Float, binary32, of_bits}
 use borrow.Author.Tests.{ltb-false}
 use Rattle.cards.specs.declared.configuration.SimulatorConfig.{SimulatorConfig}
-use Rattle.listing.specs.declared.Settings.{Settings}
+use Rattle.settings_text.specs.declared.Settings.{Settings}
 use Rattle.runs.specs.Simulate.{Answer}
 use Rattle.runs.specs.State.{Lent, state}
 use Rattle.entry.specs.Entry.{inputs}

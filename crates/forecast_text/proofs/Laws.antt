@@ -9,10 +9,10 @@ use lib.ListN.{length, length-append}
 use lib.Dec.{eqb, ltb}
 use lib.Ieee.{Float}
 use borrow.Author.Tests.{le-leb, le-ltb, ltb-false}
-use Rattle.listing.specs.declared.Settings.{Settings}
+use Rattle.settings_text.specs.declared.Settings.{Settings}
 use Rattle.std.specs.Prelude.{Result, Ok, Err}
-use Rattle.listing.specs.declared.ReadError.{ReadError}
-use Rattle.listing.specs.Forms.{reading, told}
+use Rattle.settings_text.specs.declared.ReadError.{ReadError}
+use Rattle.settings_text.specs.Forms.{reading, told}
 use Rattle.report.specs.Lines.{forecast_line, refused_line}
 use Rattle.report.specs.Rows.{day_lines}
 use Rattle.report.proofs.WriteLaws.{forecast-short, refused-short}

@@ -19,10 +19,10 @@ use Rattle.report.specs.Lines.{forecast_line, refused_line, placed, written}
 use Rattle.report.specs.Rows.{day_lines, has_rows, span_placed, span_written}
 use Rattle.report.proofs.WriteLaws.{sets_append, forecast-short, refused-short}
 use Rattle.report.proofs.RowLaws.{placed_to, placed-full, written_sets, days_whole, days_short}
-use Rattle.listing.specs.declared.Settings.{Settings}
-use Rattle.listing.specs.declared.Reading.{Reading}
-use Rattle.listing.specs.declared.ReadError.{ReadError}
-use Rattle.listing.specs.Forms.{reading, told}
+use Rattle.settings_text.specs.declared.Settings.{Settings}
+use Rattle.settings_text.specs.declared.Reading.{Reading}
+use Rattle.settings_text.specs.declared.ReadError.{ReadError}
+use Rattle.settings_text.specs.Forms.{reading, told}
 use Rattle.runs.specs.Simulate.{Answer}
 use Rattle.runs.specs.declared.Refused.{Refused}
 use Rattle.runs.specs.declared.Progress.{Progress}

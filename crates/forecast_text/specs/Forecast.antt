@@ -7,11 +7,11 @@
 use Rattle.std.specs.Prelude.{ℕ, ◌+◌, ◌*◌, cond, ◌≡◌, List, [], ◌++◌, length, drop, replicate, leb, Float}
 use Rattle.std.proofs.Math.Option.{Option, none, some}
 use Rattle.float32.specs.Numbers.{0ᶠ}
-use Rattle.listing.specs.declared.Settings.{Settings}
+use Rattle.settings_text.specs.declared.Settings.{Settings}
 use Rattle.std.specs.Prelude as std
 use Rattle.std.specs.Prelude.{Some, None, Ok, Err}
-use Rattle.listing.specs.declared.ReadError.{ReadError}
-use Rattle.listing.specs.Forms.{reading, told}
+use Rattle.settings_text.specs.declared.ReadError.{ReadError}
+use Rattle.settings_text.specs.Forms.{reading, told}
 use Rattle.report.specs.Lines.{forecast_line, refused_line}
 use Rattle.report.specs.Rows.{day_lines}
 use Rattle.entry.specs.Refusals.{number_of, second_of}

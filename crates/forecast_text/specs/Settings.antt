@@ -10,7 +10,7 @@ use Rattle.std.specs.Float.{binary32}
 use Rattle.std.specs.Float.Ieee.{round, to_bits, of_bits}
 use Rattle.model.specs.Defaults as Defaults
 use Rattle.cards.specs.declared.configuration.SimulatorConfig.{SimulatorConfig}
-use Rattle.listing.specs.declared.Settings.{Settings}
+use Rattle.settings_text.specs.declared.Settings.{Settings}
 use Rattle.entry.specs.Entry.{Inputs, inputs}
 
 -- `SimulatorConfig::default`; 4294967295 is no limit

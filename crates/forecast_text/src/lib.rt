@@ -10,7 +10,7 @@ ghost use Rattle.forecast_text.specs.Forecast.{forecast_text, printed, left};
 
 use days::DayRow;
 use entry::{Learner, Lists, refusals};
-use listing::Settings;
+use settings_text::Settings;
 use report::Rows;
 use simulation::{Progress, Refused};
 
@@ -97,7 +97,7 @@ pub fn forecast(out: &mut [u8], text: &[u8]) -> Option<usize>
     if out.len() < 133680 {
         return None;
     }
-    let reading = listing::reader::read(text, settings::default_settings());
+    let reading = settings_text::reader::read(text, settings::default_settings());
     match reading.verdict {
         Err(e) => report::write_refused(out, 0, 11, e.told()),
         Ok(()) => forecast_settings(out, reading.settings),

@@ -4,7 +4,7 @@ ghost use Rattle.forecast_text.specs.Settings.{default_config, bits_of, floats_o
 ghost use Rattle.forecast_text.specs.Settings.{zero_above, config_of};
 
 use cards::SimulatorConfig;
-use listing::Settings;
+use settings_text::Settings;
 use model::defaults;
 
 // `SimulatorConfig::default`.

@@ -15,7 +15,7 @@ use native.Mathlib.Omega.{arith}
 use lib.Ieee.{Float}
 use Rattle.intervals.specs.declared.Entry.{Entry}
 use Rattle.intervals.specs.declared.Entry.TheVariants.{Found, Free, Full}
-use Rattle.intervals.specs.Table.{Table, places, free_at, key_at, value_at, lookup_in, held_to, held_in, answer_of}
+use Rattle.intervals.specs.Table.{Table, places, free_at, key_at, value_at, lookup_in, held_to, held_in, found_interval}
 use Rattle.intervals.specs.Table.{Stands, Sound, LookupContract}
 use Rattle.intervals.proofs.Probe.{free, here, other, case_of, at_free, true_false, lookup_at_is, lookup_full_is}
 
@@ -116,17 +116,17 @@ module _ (t : Table) (ok : Sound t) (s r : ℕ) where
   pub free_none : (p : ℕ) → lookup_in t s r ≡ Free p → held_in t s r ≡ none
   free_none p e = not_held p e (view t s r (places t))
 
-  lookup_held_by : Answer t s r → answer_of (lookup_in t s r) ≡ held_in t s r
-  lookup_held_by (at p v e) = ap answer_of e ∙ sym (found_held p v e)
-  lookup_held_by (room p e) = ap answer_of e ∙ sym (free_none p e)
-  lookup_held_by (full e) = ap answer_of e ∙ sym (full-none t s r e)
+  lookup_held_by : Answer t s r → found_interval (lookup_in t s r) ≡ held_in t s r
+  lookup_held_by (at p v e) = ap found_interval e ∙ sym (found_held p v e)
+  lookup_held_by (room p e) = ap found_interval e ∙ sym (free_none p e)
+  lookup_held_by (full e) = ap found_interval e ∙ sym (full-none t s r e)
 
-  pub lookup_held : answer_of (lookup_in t s r) ≡ held_in t s r
+  pub lookup_held : found_interval (lookup_in t s r) ≡ held_in t s r
   lookup_held = lookup_held_by (answer t s r)
 
 -- what a lookup promises follows from its entry
 pub looked : (t : Table) (s r : ℕ) {f : Entry} → f ≡ lookup_in t s r → LookupContract t s r f
-looked t s r e = record { entry = e; answer = λ ok. ap answer_of e ∙ lookup_held t ok s r }
+looked t s r e = record { entry = e; answer = λ ok. ap found_interval e ∙ lookup_held t ok s r }
 
 -- ---- used places and keys held are one to one, so `count_in` counts keys
 

@@ -12,7 +12,7 @@ use lib.Ieee.{Float}
 use Rattle.intervals.specs.declared.Entry.{Entry}
 use Rattle.intervals.specs.declared.Entry.TheVariants.{Found, Free, Full}
 use Rattle.intervals.specs.Table.{Table, places, is_free, same_key, lookup_in, enter_in, clear_in, held_in, count_in}
-use Rattle.intervals.specs.Table.{answer_of, Sound}
+use Rattle.intervals.specs.Table.{found_interval, Sound}
 use Rattle.intervals.proofs.Probe.{true_false}
 use Rattle.intervals.proofs.Change.{same_is, same_self, enter-places}
 use Rattle.intervals.proofs.Held.{some_none, Answer, at, room, full, answer, found_held, free_none, full-none}
@@ -32,7 +32,7 @@ pub record SameEntries (t t' : Table) : Type 0 where
 
 -- what is held decides what a lookup gives, whatever the tables' lengths
 pub same_answer : (t t' : Table) → Sound t → Sound t' → (s r : ℕ) → held_in t s r ≡ held_in t' s r
-    → answer_of (lookup_in t s r) ≡ answer_of (lookup_in t' s r)
+    → found_interval (lookup_in t s r) ≡ found_interval (lookup_in t' s r)
 same_answer t t' ok ok' s r e = lookup_held t ok s r ∙ (e ∙ sym (lookup_held t' ok' s r))
 
 -- two answers: the same interval, or a free place each; a full first table says nothing of the second

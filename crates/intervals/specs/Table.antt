@@ -10,7 +10,7 @@
 --     clear_in t       the table with every place free
 --     held_in t s r    what is held under a key: it knows nothing of a hash
 --     count_in t       how many places are used, which is how many keys a sound table holds
---     answer_of f      what a lookup answers
+--     found_interval f      what a lookup answers
 use Rattle.std.specs.Prelude.{Bool, true, false, cond, ◌&&◌, List, [], ◌∷◌, ◌≡◌, ℕ, zero, suc, ◌+◌, ◌*◌, ◌/◌, ◌%◌, ◌<◌, min, eqb, Float, length, get_or, set, replicate}
 use Rattle.std.proofs.Math.Option.{Option, none, some}
 use Rattle.std.specs.Float.{nan}
@@ -99,10 +99,10 @@ abbrev pub count_in : Table → ℕ
 count_in t = count_to t (places t)
 
 -- what a lookup answers: an interval or nothing
-abbrev pub answer_of : Entry → Option Float
-answer_of (Found p v) = some v
-answer_of (Free p) = none
-answer_of Full = none
+abbrev pub found_interval : Entry → Option Float
+found_interval (Found p v) = some v
+found_interval (Free p) = none
+found_interval Full = none
 
 -- ---- the table of a run
 -- the key (s, r) stands at place p
@@ -120,4 +120,4 @@ pub record Sound (t : Table) : Type 0 where
 -- the key, whatever the table's length
 pub record LookupContract (t : Table) (s r : ℕ) (f : Entry) : Type 0 where
   pub entry : f ≡ lookup_in t s r
-  pub answer : Sound t → answer_of f ≡ held_in t s r
+  pub answer : Sound t → found_interval f ≡ held_in t s r

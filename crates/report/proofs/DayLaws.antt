@@ -1,7 +1,7 @@
 -- What is written for a day reads back: its line has the day's numbers as words, which say the numbers.
 --   day-lines           what is written is one line
 --   DayBack, day_back   one line, whose parts are the day's, and each number reads back
-use Rattle.listing.specs.Quoted.{bytes}
+use Rattle.settings_text.specs.Quoted.{bytes}
 use mathlib.Core.Path.{◌≡◌, refl}
 use Prim.Native.Nat.{◌<◌}
 use mathlib.Core.Bool.{true}
@@ -11,8 +11,8 @@ use lib.Ieee.{binary32, to_bits, of_bits, fits}
 use lib.Ieee.Bits.{to_bits-lt, of_bits-to_bits}
 use Rattle.std.specs.Prelude.{Some}
 use Rattle.report.specs.declared.Day.{Day}
-use Rattle.listing.specs.Text.{in_line, parts, lines}
-use Rattle.listing.specs.Numbers.{number32, bits}
+use Rattle.settings_text.specs.Text.{in_line, parts, lines}
+use Rattle.settings_text.specs.Numbers.{number32, bits}
 use Rattle.report.specs.Digits.{decimal, hex}
 use Rattle.report.specs.Lines.{day_line}
 use Rattle.report.specs.DayText.{day_parts, day_text}

@@ -9,10 +9,10 @@ use lib.ListN.{length, length-append}
 use lib.Dec.{ltb, eqb}
 use borrow.Author.Tests.{ltb-true, ltb-false, lt-ltb, le-leb, lt-leb, eq-eqb, ne_eqb}
 use Rattle.std.specs.Prelude.{Some}
-use Rattle.listing.specs.Numbers.{digit, digits, value, number, number32, number64, bits}
+use Rattle.settings_text.specs.Numbers.{digit, digits, value, number, number32, number64, bits}
 use Rattle.std.specs.Fmt.{digits as digits_text, digits_onto}
 use Rattle.report.specs.Digits.{decimal_in, decimal, hex_byte, hex_in, hex}
-use Rattle.listing.proofs.NumberLaws.{number_is}
+use Rattle.settings_text.proofs.NumberLaws.{number_is}
 use Rattle.report.proofs.WriteLaws.{hex-length, hex_length_in}
 
 -- ---- one digit

@@ -7,7 +7,7 @@
 --   word-deck, name_deck and so on   a form's name is a word, and names the form
 --   form-length, word-length, end-length, one-length, many-length   how long a form is
 --   Short, text_length               lines of at most 400 bytes, and how long a text of them is
-use Rattle.listing.specs.Quoted.{bytes}
+use Rattle.settings_text.specs.Quoted.{bytes}
 use mathlib.Core.Path.{◌≡◌, refl, ◌∙◌}
 use Prim.Native.Nat.{ℕ, suc, ◌+◌, ◌*◌, ◌≤◌, ◌<◌}
 use native.Mathlib.Omega.{arith}
@@ -16,15 +16,15 @@ use mathlib.Core.List.{List, [], ◌∷◌}
 use lib.ListN.{length, get_or, set, length-append}
 use Rattle.std.specs.Prelude.{Option, Some, None, nat_eq}
 use Rattle.std.specs.Cmp.Lexicographic.{unequal}
-use Rattle.listing.specs.declared.Name.{Name}
-use Rattle.listing.specs.declared.Name.TheVariants.{Parameters, Deck, Span, Seed, Learn, Review, Retention, Maxcost}
-use Rattle.listing.specs.declared.Name.TheVariants.{First, Cost}
-use Rattle.listing.specs.declared.Settings.{Settings}
-use Rattle.listing.specs.Text.{Part, closed, word, parts, blank, letter, in_line}
-use Rattle.listing.specs.Numbers.{bits}
-use Rattle.listing.specs.Forms.{name_of, place_of, ends, closes, alone, one, all, before, several, takes, form}
-use Rattle.listing.specs.Forms.{named, line, read_as, read_lines}
-use Rattle.listing.specs.With.{with_seen}
+use Rattle.settings_text.specs.declared.Name.{Name}
+use Rattle.settings_text.specs.declared.Name.TheVariants.{Parameters, Deck, Span, Seed, Learn, Review, Retention, Maxcost}
+use Rattle.settings_text.specs.declared.Name.TheVariants.{First, Cost}
+use Rattle.settings_text.specs.declared.Settings.{Settings}
+use Rattle.settings_text.specs.Text.{Part, closed, word, parts, blank, letter, in_line}
+use Rattle.settings_text.specs.Numbers.{bits}
+use Rattle.settings_text.specs.Forms.{name_of, place_of, ends, closes, alone, one, all, before, several, takes, form}
+use Rattle.settings_text.specs.Forms.{named, line, read_as, read_lines}
+use Rattle.settings_text.specs.With.{with_seen}
 use Rattle.report.specs.Digits.{hex}
 use Rattle.report.specs.Canonical.{spaced, form_text, text_of, hexes, AllFit}
 use Rattle.report.proofs.WriteLaws.{hex-length}

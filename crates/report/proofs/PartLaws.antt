@@ -1,13 +1,13 @@
 -- The parts of a day's line, label by label.
 --   day-parts   the line has the day's numbers as words, each behind its label
-use Rattle.listing.specs.Quoted.{bytes}
+use Rattle.settings_text.specs.Quoted.{bytes}
 use mathlib.Core.Path.{◌≡◌, refl}
 use Prim.Native.Nat.{ℕ}
 use mathlib.Core.Bool.{false}
 use mathlib.Core.List.{List, [], ◌∷◌, ◌++◌}
 use lib.Ieee.{binary32, to_bits}
 use Rattle.report.specs.declared.Day.{Day}
-use Rattle.listing.specs.Text.{opened, closed, word, blank, letter, parts, longer, in_word}
+use Rattle.settings_text.specs.Text.{opened, closed, word, blank, letter, parts, longer, in_word}
 use Rattle.report.specs.Digits.{decimal, hex}
 use Rattle.report.specs.DayText.{bracketed, day_parts, day_text}
 use Rattle.report.proofs.TextLaws.{decimal-word, hex-word, word_then}

@@ -1,7 +1,7 @@
 -- The lines of the scope's case, and a NaN, written by computation from the definitions.
 use mathlib.Core.Path.{◌≡◌, refl}
 use lib.Ieee.{nan, binary32, to_bits, of_bits, of_fields}
-use Rattle.listing.specs.Quoted.{bytes}
+use Rattle.settings_text.specs.Quoted.{bytes}
 use Rattle.report.specs.Digits.{decimal_in, decimal, hex_byte, hex_in, hex}
 use Rattle.report.specs.Lines.{day_line, forecast_line, refused_line, cheapest_line}
 

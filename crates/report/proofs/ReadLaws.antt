@@ -2,20 +2,20 @@
 --   after_0 to after_10   the settings before the first form is read, and once the k-th is
 --   cost_words            what stands behind the name of the last is words
 --   forms_read            the lines of the ten forms lead from the first settings to the last
-use Rattle.listing.specs.Quoted.{bytes}
+use Rattle.settings_text.specs.Quoted.{bytes}
 use mathlib.Core.Path.{◌≡◌, refl, sym, ◌∙◌}
 use mathlib.Core.Bool.{true, false}
 use mathlib.Core.List.{[], ◌∷◌, ◌++◌}
 use lib.ListN.{get_or, set, replicate}
 use Rattle.std.specs.Prelude.{Some}
-use Rattle.listing.specs.declared.Name.TheVariants.{Parameters, Deck, Span, Seed, Learn, Review, Retention, Maxcost}
-use Rattle.listing.specs.declared.Name.TheVariants.{First, Cost}
-use Rattle.listing.specs.declared.Settings.{Settings}
-use Rattle.listing.specs.Text.{parts}
-use Rattle.listing.specs.Numbers.{number32, number64, bits}
-use Rattle.listing.specs.Forms.{place_of, all_or, takes}
-use Rattle.listing.specs.Forms.{line, read_as, read_lines}
-use Rattle.listing.specs.With.{with_seen}
+use Rattle.settings_text.specs.declared.Name.TheVariants.{Parameters, Deck, Span, Seed, Learn, Review, Retention, Maxcost}
+use Rattle.settings_text.specs.declared.Name.TheVariants.{First, Cost}
+use Rattle.settings_text.specs.declared.Settings.{Settings}
+use Rattle.settings_text.specs.Text.{parts}
+use Rattle.settings_text.specs.Numbers.{number32, number64, bits}
+use Rattle.settings_text.specs.Forms.{place_of, all_or, takes}
+use Rattle.settings_text.specs.Forms.{line, read_as, read_lines}
+use Rattle.settings_text.specs.With.{with_seen}
 use Rattle.report.specs.Digits.{decimal, hex}
 use Rattle.report.specs.Canonical.{form_text, hexes, forms_of, Expressible}
 use Rattle.report.proofs.DigitLaws.{number32_back, number64_back, bits_back}

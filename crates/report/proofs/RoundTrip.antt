@@ -1,6 +1,6 @@
 -- Reading the canonical text of settings gives the settings back.
 --   canonical_back   the settings come back, with every form seen, whatever stood in their place before
-use Rattle.listing.specs.Quoted.{bytes}
+use Rattle.settings_text.specs.Quoted.{bytes}
 use mathlib.Core.Path.{◌≡◌, refl, sym, ap, ◌∙◌}
 use Prim.Native.Nat.{ℕ, ◌≤◌}
 use native.Mathlib.Omega.{arith}
@@ -9,9 +9,9 @@ use mathlib.Core.Bool.{true}
 use mathlib.Core.List.{List, [], ◌∷◌}
 use lib.ListN.{length, get_or, replicate}
 use borrow.Author.Tests.{le-ltb}
-use Rattle.listing.specs.declared.Settings.{Settings}
-use Rattle.listing.specs.Forms.{read_as, reading}
-use Rattle.listing.specs.With.{with_seen}
+use Rattle.settings_text.specs.declared.Settings.{Settings}
+use Rattle.settings_text.specs.Forms.{read_as, reading}
+use Rattle.settings_text.specs.With.{with_seen}
 use Rattle.report.specs.Digits.{decimal, hex}
 use Rattle.report.specs.Canonical.{text_of, hexes, forms_of, canonical, Expressible}
 use Rattle.report.proofs.WriteLaws.{decimal-short, hex-length}

@@ -15,10 +15,10 @@ use lib.ListN.{length}
 use lib.Seq.{take-append_seam, drop-append_seam}
 use lib.Dec.{ltb}
 use borrow.Author.Tests.{ne_eqb}
-use Rattle.listing.specs.Text.{Part, opened, closed, word, blank, letter, in_line, leading, parts, in_word, lines, onto}
+use Rattle.settings_text.specs.Text.{Part, opened, closed, word, blank, letter, in_line, leading, parts, in_word, lines, onto}
 use Rattle.report.specs.Digits.{decimal_in, decimal, hex_byte, hex_in, hex}
 use Rattle.report.specs.Canonical.{spaced, form_text, text_of}
-use Rattle.listing.proofs.PartLaws.{run}
+use Rattle.settings_text.proofs.PartLaws.{run}
 use Rattle.report.proofs.DigitLaws.{decimal_some}
 use Rattle.report.proofs.WriteLaws.{hex-length}
 

@@ -2,9 +2,9 @@
 --   form_text name ws, text_of ls   a form, and lines
 --   canonical s                   all ten forms of settings
 --   Expressible s                 settings that a text can say
-use Rattle.listing.specs.Quoted.{bytes}
+use Rattle.settings_text.specs.Quoted.{bytes}
 use Rattle.std.specs.Prelude.{ℕ, ◌<◌, ◌≡◌, List, [], ◌∷◌, ◌++◌, length, get_or, replicate}
-use Rattle.listing.specs.declared.Settings.{Settings}
+use Rattle.settings_text.specs.declared.Settings.{Settings}
 use Rattle.report.specs.Digits.{decimal, hex}
 
 -- words, each behind one space, and the closing bracket

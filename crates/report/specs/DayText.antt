@@ -1,10 +1,10 @@
 -- The parts of a day's line, as a reader of it finds them.
-use Rattle.listing.specs.Quoted.{bytes}
+use Rattle.settings_text.specs.Quoted.{bytes}
 use Rattle.std.specs.Prelude.{ℕ, List, [], ◌∷◌, ◌++◌}
 use Rattle.std.specs.Float.{binary32}
 use Rattle.std.specs.Float.Ieee.{to_bits}
 use Rattle.report.specs.declared.Day.{Day}
-use Rattle.listing.specs.Text.{Part, opened, closed, word}
+use Rattle.settings_text.specs.Text.{Part, opened, closed, word}
 use Rattle.report.specs.Digits.{decimal, hex}
 
 -- a number in brackets with its name before it

@@ -4,7 +4,7 @@
 use Rattle.std.specs.Prelude.{ℕ, ◌+◌, cond, List, ◌++◌, length, take, drop, leb, Float, Option, Some, None}
 use Rattle.std.specs.Float.{binary32}
 use Rattle.std.specs.Float.Ieee.{to_bits}
-use Rattle.listing.specs.Quoted.{bytes}
+use Rattle.settings_text.specs.Quoted.{bytes}
 use Rattle.report.specs.declared.Day.{Day}
 use Rattle.report.specs.Digits.{decimal, hex}
 

@@ -21,7 +21,7 @@ use Rattle.brent.proofs.Laws as Method
 use Rattle.brent.proofs.Trials as Trials
 use Rattle.brent.proofs.Asked.{left_as}
 use Rattle.retention.specs.Trials.{sample}
-use Rattle.retention.specs.Retention.{checked_search, optimal_retention, answer_of, number_of, IsSearched}
+use Rattle.retention.specs.Retention.{checked_search, optimal_retention, optimum_of, number_of, IsSearched}
 use Rattle.retention.specs.Retention.{SearchAnswer, SearchContract}
 use Rattle.retention.specs.Laws.{SearchLaws}
 use Rattle.retention.proofs.Entry.{SevenOrEight, Keeps, trials_lawful}
@@ -41,7 +41,7 @@ all_alike l = record {
 }
 
 -- 7 and 8 are not among 1 to 6
-run-number : (a : Answer Refusal) → RefusedBy SevenOrEight a → 0 < number_of (answer_of a) → number_of (answer_of a) ≤ 6 → ⊥
+run-number : (a : Answer Refusal) → RefusedBy SevenOrEight a → 0 < number_of (optimum_of a) → number_of (optimum_of a) ≤ 6 → ⊥
 run-number (found x mean done) h p q = omega arith
 run-number (not_found done) h p q = omega arith
 run-number (refused r) (inl e) p q = omega (arith, e)
@@ -76,7 +76,7 @@ module _ (i : Inputs) (rounds : ℕ) (l : Lent Float) where
       (left_as (sample i) (Keeps i l) SevenOrEight (λ w u h t. trials_lawful rounds i l e w u h t) rounds l
       (record { lengths = all_alike l; behind = refl }))
 
-  untouched : 0 < number_of (answer_of result.answer) → number_of (answer_of result.answer) ≤ 6 → result.left ≡ l
+  untouched : 0 < number_of (optimum_of result.answer) → number_of (optimum_of result.answer) ≤ 6 → result.left ≡ l
   unfolding ended
   untouched p q = go (checked_search rounds i l) refl
     where

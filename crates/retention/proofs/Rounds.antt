@@ -15,7 +15,7 @@ use Rattle.brent.specs.Search.{Sampled, gives, refuses, Searched, ended, noted, 
 use Rattle.brent.specs.Stepping.{started, next_retention, take_mean, told, answer, asked, closing, driven}
 use Rattle.brent.proofs.Driven.{driven_is}
 use Rattle.retention.specs.Trials.{sample, Trial, TrialContract}
-use Rattle.retention.specs.Retention.{SearchAnswer, answer_of, IsSearched}
+use Rattle.retention.specs.Retention.{SearchAnswer, optimum_of, IsSearched}
 use Rattle.retention.proofs.trials.Runs.{refused-mean, same-mean, same-refusal}
 
 -- two searches with the same answer and the same lists
@@ -25,10 +25,10 @@ pub record SameEnd (x y : Searched (Lent Float) Refusal) : Type 0 where
 
 is_searched : {x y : Searched (Lent Float) Refusal} {r : SearchAnswer} {l : Lent Float} → SameEnd x y → IsSearched x r l
     → IsSearched y r l
-is_searched s c = record { answer = c.answer ∙ ap answer_of s.answer; lists = c.lists ∙ s.left }
+is_searched s c = record { answer = c.answer ∙ ap optimum_of s.answer; lists = c.lists ∙ s.left }
 
 -- a stepper that is not asked again says its answer
-closed : (l : Lent Float) (t : Stepper) {r : SearchAnswer} → r ≡ answer_of (told t.state (answer t))
+closed : (l : Lent Float) (t : Stepper) {r : SearchAnswer} → r ≡ optimum_of (told t.state (answer t))
     → IsSearched (closing l t) r l
 unfolding closing ended
 closed l t e = record { answer = e; lists = refl }
@@ -70,7 +70,7 @@ module _ (i : Inputs) (rounds : ℕ) (l₀ : Lent Float) where
       }
 
   pub trying_spent : {l : Lent Float} {t : Stepper} {k : ℕ} → Trying l t k → rounds < k → {r : SearchAnswer}
-      → r ≡ answer_of (told t.state (answer t)) → IsSearched whole r l
+      → r ≡ optimum_of (told t.state (answer t)) → IsSearched whole r l
   unfolding driven
   trying_spent {l} {t} {k} g h e =
       let none : rounds + 1 - k ≡ 0 = omega arith in
@@ -89,7 +89,7 @@ module _ (i : Inputs) (rounds : ℕ) (l₀ : Lent Float) where
     unfolding driven
     split = rw a (rw one_left at g.left)
 
-    pub trying_ends : x ≡ None → {r : SearchAnswer} → r ≡ answer_of (told t.state (answer t)) → IsSearched whole r l
+    pub trying_ends : x ≡ None → {r : SearchAnswer} → r ≡ optimum_of (told t.state (answer t)) → IsSearched whole r l
     unfolding asked
     trying_ends none e = is_searched (rw none at split) (closed l t e)
 

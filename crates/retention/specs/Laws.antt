@@ -14,7 +14,7 @@ use Rattle.brent.specs.Stepping.{started, driven}
 use Rattle.runs.specs.SetUp.{kept_cards, new_card_count}
 use Rattle.runs.specs.Frame.{beyond, SameLengths}
 use Rattle.retention.specs.Trials.{run_of, trial_of, sample}
-use Rattle.retention.specs.Retention.{checked_search, optimal_retention, answer_of, number_of}
+use Rattle.retention.specs.Retention.{checked_search, optimal_retention, optimum_of, number_of}
 
 -- every run of a search has the same cards: the existing ones that are kept, and those created
 abbrev pub run_cards : Inputs → ℕ
@@ -32,7 +32,7 @@ pub record SearchLaws (i : Inputs) (rounds : ℕ) (l : Lent Float) : Type 0 wher
   pub run_refusal : checked_search rounds i l ≡ passed
       → RefusedBy (λ r. (Refusals.number_of r ≡ 7) ⊎ (Refusals.number_of r ≡ 8)) (optimal_retention i rounds l).answer
   -- so a search that answers 1 to 6 left every list as it was
-  pub untouched : (let number = number_of (answer_of (optimal_retention i rounds l).answer) in
+  pub untouched : (let number = number_of (optimum_of (optimal_retention i rounds l).answer) in
       0 < number → number ≤ 6 → (optimal_retention i rounds l).left ≡ l)
   -- every list keeps its length, and the places behind those that the runs need are as they were lent
   pub lengths_same : checked_search rounds i l ≡ passed → SameLengths l (optimal_retention i rounds l).left

@@ -3,7 +3,7 @@
 --   rounds_ok rounds               refusal 4 asks for 1 to 64
 --   checked_search rounds i l      the entry's tests
 --   optimal_retention i rounds l   a call: its trials, the lists that it leaves, its answer
---   answer_of, number_of, second_of  the answer as a call says it, and its numbers
+--   optimum_of, number_of, second_of  the answer as a call says it, and its numbers
 --   IsSearched x r l              what a call says and leaves is the search x
 --   SearchContract                what `optimal_retention` promises
 use Rattle.std.specs.Prelude.{ℕ, ◌≤◌, ◌<◌, Bool, ◌&&◌, ◌≡◌, leb, Float, Result, Ok, Err}
@@ -28,21 +28,21 @@ abbrev pub checked_search : ℕ → Inputs → Lent Float → Check
 checked_search rounds i l = checked_with (rounds_ok rounds) i (state l 0 i.seed)
 
 -- an entry refusal makes no trial and leaves the lists as they are
-abbrev pub after_check : Check → Lent Float → Searched (Lent Float) Refusal → Searched (Lent Float) Refusal
-after_check (Ok t) l x = x
-after_check (Err r) l x = ended l (refused r)
+abbrev pub searched_after : Check → Lent Float → Searched (Lent Float) Refusal → Searched (Lent Float) Refusal
+searched_after (Ok t) l x = x
+searched_after (Err r) l x = ended l (refused r)
 
 unfoldable pub optimal_retention : Inputs → ℕ → Lent Float → Searched (Lent Float) Refusal
-optimal_retention i rounds l = after_check (checked_search rounds i l) l (search (sample i) rounds l)
+optimal_retention i rounds l = searched_after (checked_search rounds i l) l (search (sample i) rounds l)
 
 -- ---- as a call says it: a retention that is not found is refusal 10 with the rounds done
 abbrev pub SearchAnswer : Type 0
 SearchAnswer = Result Optimum Refusal
 
-abbrev pub answer_of : Answer Refusal → SearchAnswer
-answer_of (found x mean done) = Ok (record { retention = x; mean = mean; rounds = done })
-answer_of (not_found done) = Err (refusal.NotFound done)
-answer_of (refused r) = Err r
+abbrev pub optimum_of : Answer Refusal → SearchAnswer
+optimum_of (found x mean done) = Ok (record { retention = x; mean = mean; rounds = done })
+optimum_of (not_found done) = Err (refusal.NotFound done)
+optimum_of (refused r) = Err r
 
 abbrev pub number_of : SearchAnswer → ℕ
 number_of (Ok x) = 0
@@ -54,7 +54,7 @@ second_of (Err r) = Refusals.second_of r
 
 -- an answer and lists are those of a search
 pub record IsSearched (x : Searched (Lent Float) Refusal) (r : SearchAnswer) (l : Lent Float) : Type 0 where
-  pub answer : r ≡ answer_of x.answer
+  pub answer : r ≡ optimum_of x.answer
   pub lists : l ≡ x.left
 
 -- WHAT A CALL OF THE SEARCH PROMISES: the answer and the lists are those of the definition; and a call that answers 1

@@ -7,7 +7,7 @@ ghost use Rattle.brent.specs.Stepping.{told, answer};
 ghost use Rattle.entry.specs.Lists.{SameLists};
 ghost use Rattle.runs.specs.State.{lent_of};
 ghost use Rattle.retention.specs.Trials.{search_of, sample};
-ghost use Rattle.retention.specs.Retention.{most_rounds, rounds_ok, answer_of, number_of, second_of};
+ghost use Rattle.retention.specs.Retention.{most_rounds, rounds_ok, optimum_of, number_of, second_of};
 ghost use Rattle.retention.specs.Retention.{IsSearched, SearchContract};
 
 use brent::{Stepper, Verdict};
@@ -57,7 +57,7 @@ fn rounds_ok(rounds: u32) -> bool
 
 // The answer of a stepper that asks for nothing more.
 fn ended(t: Stepper) -> Result<Optimum, Refusal>
-    ensures { result ≡ answer_of (told t.state (answer t)) }
+    ensures { result ≡ optimum_of (told t.state (answer t)) }
 {
     match brent::answer(t) {
         Verdict::Found(retention) => Ok(Optimum {

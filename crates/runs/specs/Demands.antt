@@ -15,7 +15,7 @@ use Rattle.days.specs.Sums.{rows_by_day}
 use Rattle.intervals.specs.Table.{held_in}
 use Rattle.draws.specs.Draws.{DrawRule}
 use Rattle.model.specs.Runtime.{SameRead}
-use Rattle.events.specs.Scalars.{plain}
+use Rattle.events.specs.Scalars.{of_parameters}
 use Rattle.events.specs.Drawn.{Drawn}
 use Rattle.entry.specs.declared.Refusal.{Refusal}
 use Rattle.entry.specs.declared.Refusal.TheVariants as refusal
@@ -140,5 +140,5 @@ pub record Demands {C : Type 0} (R : Rules C) (i : Inputs) (s : State C) : Type 
 abbrev pub UnreadParameters : DrawRule → Inputs → State Float → List Float → Type 0
 UnreadParameters w i s v =
     SameRead i.parameters v → checked i s ≡ passed → checked (with_parameters v i) s ≡ passed
-    → simulated_by (rules_with w i.config (plain v)) (with_parameters v i) s
-    ≡ simulated_by (rules_with w i.config (plain i.parameters)) i s
+    → simulated_by (rules_with w i.config (of_parameters v)) (with_parameters v i) s
+    ≡ simulated_by (rules_with w i.config (of_parameters i.parameters)) i s

@@ -1,4 +1,4 @@
--- WHAT A STATE MUST SATISFY for a run to be lawful from it, in parts: `Lengths`, `InOrder`, `TableInRange`, `Counts`,
+-- WHAT A STATE MUST SATISFY for a run to be lawful from it, in parts: `LongEnough`, `InOrder`, `TableInRange`, `Counts`,
 -- `DueCounts`. Set-up leaves such a state, and every turn keeps it one, by any rules whose slots are lawful;
 -- `DueBounds` is what it says of the due counts. Definitions only.
 --   day_in, new_in, key_in, lapses_in, ..   a card's numbers, by the lists of rows
@@ -53,7 +53,7 @@ pub record RunBounds (span cards : ℕ) : Type 0 where
 -- ---- the state
 
 -- a row for each card and for each day, and a due count for each day that is counted
-pub record Lengths {C : Type 0} (cards span : ℕ) (s : State C) : Type 0 where
+pub record LongEnough {C : Type 0} (cards span : ℕ) (s : State C) : Type 0 where
   pub cards_long : cards ≤ length s.cards
   pub counts_long : cards ≤ length s.counts
   pub days_long : span ≤ length s.days
@@ -85,7 +85,7 @@ pub record DueCounts (n span : ℕ) (cards : List (List Float)) (q : Queue) (due
   pub most : (d : ℕ) → d < due_days span → get_or due d 0 ≤ sum_to n (λ c. bit (leb d (day_in cards c)))
 
 pub record StateInvariant {C : Type 0} (cards span : ℕ) (s : State C) : Type 0 where
-  pub lengths : Lengths cards span s
+  pub lengths : LongEnough cards span s
   pub order : InOrder cards s
   pub table : TableInRange s.table
   pub counts : Counts cards span s

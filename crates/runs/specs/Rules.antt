@@ -9,7 +9,7 @@ use Rattle.cards.specs.declared.configuration.SimulatorConfig.{SimulatorConfig}
 use Rattle.cards.specs.Choices.{limits}
 use Rattle.model.specs.Runtime as Runtime
 use Rattle.events.specs.declared.Rules as events
-use Rattle.events.specs.Scalars.{Scalars, kept}
+use Rattle.events.specs.Scalars.{Scalars, of_runtime}
 use Rattle.events.specs.Drawn.{Drawn, costs}
 use Rattle.entry.specs.declared.lists.Learner.{Learner}
 use Rattle.entry.specs.declared.lists.Settings.{Settings}
@@ -42,7 +42,7 @@ rules_of = rules_with split_mix
 
 -- those that a turn is given, and those of a call
 abbrev pub rules_as : events.Rules → Rules Float
-rules_as r = rules_of r.config (kept r.model)
+rules_as r = rules_of r.config (of_runtime r.model)
 
 abbrev pub rules_of_learner : Learner → Settings → Rules Float
-rules_of_learner l s = rules_of s.config (kept (Runtime.runtime_of l.parameters.now))
+rules_of_learner l s = rules_of s.config (of_runtime (Runtime.runtime_of l.parameters.now))

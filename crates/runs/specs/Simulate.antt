@@ -9,7 +9,7 @@ use Rattle.std.specs.Prelude.{ℕ, suc, [], ◌≡◌, length, Float, Result, Ok
 use Rattle.std.proofs.Math.Option.{Option, none, some}
 use Rattle.turns.specs.Turns.{Turn, turn_bound}
 use Rattle.turns.specs.Run.{RunState, run, stop_of}
-use Rattle.events.specs.Scalars.{plain}
+use Rattle.events.specs.Scalars.{of_parameters}
 use Rattle.events.specs.Drawn.{Drawn}
 use Rattle.entry.specs.declared.Refusal.{Refusal}
 use Rattle.entry.specs.declared.Refusal.TheVariants as refusal
@@ -51,7 +51,7 @@ answer_if (some x) p = some (answer_of x p)
 
 -- the rules of a run's inputs: FSRS-7 by their parameters, and SplitMix64
 abbrev pub rules_for : Inputs → Rules Float
-rules_for i = rules_of i.config (plain i.parameters)
+rules_for i = rules_of i.config (of_parameters i.parameters)
 
 module _ {C : Type 0} (R : Rules C) where
   -- one turn more than is ever taken (`ends_within`)

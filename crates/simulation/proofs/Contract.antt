@@ -6,8 +6,8 @@ use mathlib.Core.Option.{some}
 use lib.Ieee.{Float}
 use Rattle.draws.specs.Draws.{split_mix}
 use Rattle.model.specs.Runtime as Runtime
-use Rattle.events.specs.Scalars.{Scalars, kept}
-use Rattle.events.proofs.Loops.{kept_is}
+use Rattle.events.specs.Scalars.{Scalars, of_runtime}
+use Rattle.events.proofs.Loops.{runtime_is}
 use Rattle.entry.specs.declared.Refusal.{Refusal}
 use Rattle.entry.specs.Entry.{passed}
 use Rattle.std.specs.Prelude.{Err}
@@ -40,11 +40,11 @@ module _ (i : Inputs) (s : State Float) where
   }
 
   module _ (e : checked i s ≡ passed) {r : Answer} {l' : Lent Float}
-      (d : InnerContract (rules_of i.config (kept (Runtime.runtime_of i.parameters)))
+      (d : InnerContract (rules_of i.config (of_runtime (Runtime.runtime_of i.parameters)))
       (start_of (rules_for i) i s) r l') where
     plainly : InnerContract (rules_for i) (start_of (rules_for i) i s) r l'
     plainly = subst (λ (x : Scalars). InnerContract (rules_of i.config x) (start_of (rules_for i) i s) r l')
-        (kept_is i.parameters) d
+        (runtime_is i.parameters) d
 
     result : IsResult (simulated i s) r l'
     unfolding simulated_by result_from

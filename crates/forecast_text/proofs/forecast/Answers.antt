@@ -1,4 +1,4 @@
-use Rattle.listing.specs.Forms.{told}
+use Rattle.settings_text.specs.Forms.{told}
 use Rattle.forecast_text.specs.Forecast.{forecast_text}
 use Rattle.forecast_text.proofs.Texts.{no_room, line_text, read_text, refused-printed, printed_is}
 use Rattle.forecast_text.proofs.forecast.Goals as goal

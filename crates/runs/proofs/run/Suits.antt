@@ -13,7 +13,7 @@ use Rattle.model.proofs.Laws.{scheduled_between}
 use Rattle.cards.specs.declared.configuration.SimulatorConfig.{SimulatorConfig}
 use Rattle.cards.specs.Config.{row_of, three_of, weights_ok, transitions_ok, costs_ok, interval_ok, config_ok}
 use Rattle.cards.proofs.Later.{one_is}
-use Rattle.events.specs.Scalars.{plain}
+use Rattle.events.specs.Scalars.{of_parameters}
 use Rattle.cards.specs.Day.{longest_interval, IntervalInRange}
 use Rattle.runs.specs.State.{State}
 use Rattle.runs.specs.Rules.{Rules, rules_with}
@@ -71,10 +71,10 @@ pub record Suits {C : Type 0} (R : Rules C) (i : Inputs) : Type 0 where
 
 -- so WHATEVER IS DRAWN
 pub suits : (w : DrawRule) (i : Inputs) (s : State Float) → Accepted i s
-    → Suits (rules_with w i.config (plain i.parameters)) i
+    → Suits (rules_with w i.config (of_parameters i.parameters)) i
 suits w i s ok = record {
   span_is = refl;
-  slots = table_slots i.config (plain i.parameters)
+  slots = table_slots i.config (of_parameters i.parameters)
       (λ x y. scheduled_fair (curve_of i.parameters) x y i.config.max_ivl
       (interval-ok i.config ok.config_passes));
 }

@@ -1,6 +1,6 @@
 use mathlib.Core.Path.{sym, ◌∙◌}
 use Rattle.draws.specs.Draws.{split_mix}
-use Rattle.events.specs.Scalars.{kept}
+use Rattle.events.specs.Scalars.{of_runtime}
 use Rattle.events.proofs.Costs.{event_cost}
 use Rattle.runs.specs.State.{lent_of}
 use Rattle.runs.specs.Rules.{rules_as}
@@ -33,5 +33,5 @@ returns-clause-step c =
     (rw (← c.key_of-key.ensures) c.change_front.ensures)
     c.add_event.ensures c.add_cost.ensures c.add_forgetting_curve.ensures
     (rw (← c.day_of.ensures) c.add_due.ensures) c.enter_slot.ensures
-    (event_cost split_mix a.rules.config (kept a.rules.model) a.first.card c.is_new-new.result a.first.day a.at.draws _
+    (event_cost split_mix a.rules.config (of_runtime a.rules.model) a.first.card c.is_new-new.result a.first.day a.at.draws _
     (sym c.event_of.ensures ∙ c.in-Some.is)))
