@@ -3,7 +3,7 @@
   in_order   what was tried, by retention
   curve      a line a trial
   advice     what is advised, or why nothing is
-  told       a retention
+  short      a retention
 """
 
 import math
@@ -14,7 +14,7 @@ from .search import Trial
 from .streets import Streets
 
 
-def told(retention: float) -> str:
+def short(retention: float) -> str:
     """More digits would be more than the runs tell."""
     return f"{retention:.4f}".rstrip("0")
 
@@ -33,7 +33,7 @@ def curve(trials: Sequence[Trial], present: Trial) -> str:
     lines = ["  retention  seconds a street held  streets held\n"]
     for each in trials:
         mark = "  the present setting" if each.retention == present.retention else ""
-        lines.append(f"  {told(each.retention):<9}  {each.mean:>21.2f}  {each.held:>12.1f}{mark}\n")
+        lines.append(f"  {short(each.retention):<9}  {each.mean:>21.2f}  {each.held:>12.1f}{mark}\n")
     return "".join(lines)
 
 
@@ -45,18 +45,18 @@ def _advice(trials: Sequence[Trial], streets: Streets) -> str:
         return f"no retention is advised: all that were tried cost the same{why}"
     for end, which, beyond in [(trials[0], "lowest", "lower"), (trials[-1], "highest", "higher")]:
         if best is end:
-            return (f"no retention is advised: {told(best.retention)} costs least, and is the {which} that was tried; "
+            return (f"no retention is advised: {short(best.retention)} costs least, and is the {which} that was tried; "
                     f"the cheapest may lie {beyond} still")
-    return f"retention {told(best.retention)} costs least"
+    return f"retention {short(best.retention)} costs least"
 
 
 def _beside(best: Trial, present: Trial) -> str:
     """What the present setting costs beside the best."""
     if present.mean == best.mean:
-        return f"the present {told(present.retention)} costs as much"
+        return f"the present {short(present.retention)} costs as much"
     more = present.mean - best.mean
     fewer = "more" if present.held >= best.held else "fewer"
-    return (f"the present {told(present.retention)} costs {more:.2f} seconds a street more "
+    return (f"the present {short(present.retention)} costs {more:.2f} seconds a street more "
             f"({more / best.mean:.0%}), and holds {abs(present.held - best.held):.1f} streets {fewer}")
 
 

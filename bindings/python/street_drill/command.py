@@ -87,7 +87,7 @@ def _forecast(asked: argparse.Namespace) -> None:
 
 
 def _trial_line(each: Trial) -> str:
-    return f"trial {each.number}: retention {cheapest.told(each.retention)}, mean {each.mean:.2f}, {each.seconds:.1f} s"
+    return f"trial {each.number}: retention {cheapest.short(each.retention)}, mean {each.mean:.2f}, {each.seconds:.1f} s"
 
 
 def _search(asked: argparse.Namespace, given: Settings, known: Deck) -> tuple[list[Trial], Trial]:

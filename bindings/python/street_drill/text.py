@@ -26,7 +26,7 @@ def _printed(program: str) -> str:
         ended = subprocess.run([program], stdout=subprocess.PIPE, check=True)
         return ended.stdout.decode("ascii")
     except OSError as error:
-        told = f"{error.strerror}; tools/build forecast makes the program, and --program names it"
+        told = f"{error.strerror}; tools/build forecast makes it, and --program names another"
         raise Mistake(program, told) from error
     except (subprocess.CalledProcessError, UnicodeDecodeError) as error:
         raise Mistake(program, "did not end as it should") from error

@@ -35,8 +35,8 @@ VALUES = [b"0", b"-0", b"-1", b"1", b"0.5", b"1e39", b"-1e39", b"nan", b"inf", b
           b"4294967295", b"4294967296", b"18446744073709551615", b"16777217", b"false", b"'5'", b"[]", b"[1]", b"{}",
           b"1e-10", b"1979-05-27", b"1e9999999999999999999", b""]
 # Each line of an error names one of the two files, and in it a line, a key or a refusal of the library.
-PLACE = re.compile(r"(street_drill: \S*(settings\.toml|deck\.csv): "
-                   r"(line \d+|end of document|'|[\w-]+(\[\d+\])*: |refused \d+ \d+: |has \d+ more mistakes).*\n)+")
+PLACE = re.compile(r"(street_drill: \S*(settings\.toml|deck\.csv)"
+                   r"(: line \d+| \(\w|: end of document| \('|: refused \d+ \d+: |: has \d+ more mistakes).*\n)+")
 BEFORE = "as it was before\n"
 
 

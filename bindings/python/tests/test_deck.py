@@ -40,7 +40,7 @@ class Reading(unittest.TestCase):
             "": "d.csv: line 1: column difficulty is missing in the head, as are all others",
             HEAD.replace("due", "reps"): "d.csv: line 1: column due is missing in the head\nd.csv: line 1: column reps",
             HEAD.replace("street", "reps"): "d.csv: line 1: column reps stands twice",
-            HEAD + ROW + ROW.replace("3.5", "3,5"): "d.csv: line 3: has 10 columns, and the head has 9; a decimal comma",
+            HEAD + ROW + ROW.replace("3.5", "3,5"): "d.csv: line 3: has 10 columns, and the head has 9; a decimal",
             HEAD + "Mill Lane,5\n": "d.csv: line 2: has 2 columns, and the head has 9",
             HEAD + ROW.replace("3.5", "x"): "d.csv: line 2, column 3 (stability): 'x' is no decimal number",
             HEAD + ROW.replace("4,1", "4,-1"): "d.csv: line 2, column 9 (lapses): '-1' is no whole number",

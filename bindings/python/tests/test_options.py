@@ -15,16 +15,11 @@ from street_drill import __version__, progress, settings, simulate
 from street_drill.command import main
 from street_drill.course import duration
 
-from .common import PACKAGE
+from .common import PACKAGE, Terminal
 from .test_command import EXAMPLE, rows_of, run
 from .test_deck import HEAD, ROW
 
 SIX, NINE = [PACKAGE / "examples" / f"{name}_a_day.toml" for name in ("six", "nine")]
-
-
-class Terminal(io.StringIO):
-    def isatty(self) -> bool:
-        return True
 
 
 class Settings(unittest.TestCase):
@@ -43,10 +38,10 @@ class Settings(unittest.TestCase):
 
     def test_mistakes(self) -> None:
         for option, value, told in [
-            ("--set", "max_ivl=0", "--set 'max_ivl=0': max_ivl: refused 4 0: must be 1 to 36,500"),
+            ("--set", "max_ivl=0", "--set 'max_ivl=0' (max_ivl): refused 4 0: must be 1 to 36,500"),
             ("--set", "max_ivl", "--set 'max_ivl': end of document: Expected '='"),
-            ("--retention", "90", "--retention: desired_retention: must be above 0 and below 1; 90 % is written 0.9"),
-            ("--seed", -1, "--seed: seed: must be 0 to 18446744073709551615"),
+            ("--retention", "90", "--retention (desired_retention): must be above 0 and below 1; 90 % is written 0.9"),
+            ("--seed", -1, "--seed (seed): must be 0 to 18446744073709551615"),
         ]:
             status, said, errors = run("forecast", EXAMPLE, option, value)
             self.assertEqual((status, said, errors.partition(told)[0]), (2, "", "street_drill: "), errors)
@@ -54,7 +49,7 @@ class Settings(unittest.TestCase):
     def test_count_of_parameters(self) -> None:
         for text, count in [("[1, 2]", 2), ("[]", 0)]:
             errors = run("forecast", EXAMPLE, "--set", f"parameters={text}")[2]
-            self.assertIn(f"parameters: refused 1 34: there are {count} parameters, and 34 are needed\n", errors)
+            self.assertIn(f"(parameters): refused 1 34: there are {count} parameters, and 34 are needed\n", errors)
 
     def test_what_is_not_an_option(self) -> None:
         for options in [["--runs", "1001"], ["--runs", "0"], ["--seed", "x"], ["--retention", "high"], ["--open", "0"]]:
@@ -95,7 +90,7 @@ class WithDeck(unittest.TestCase):
 
     def test_more_streets_than_the_deck_may_have(self) -> None:
         errors = run("forecast", EXAMPLE, "--deck", self.deck, "--set", "deck_size=2")[2]
-        self.assertIn("deck_size: refused 2 1: the deck has 3 streets, and deck_size is 2\n", errors)
+        self.assertIn("(deck_size): refused 2 1: the deck has 3 streets, and deck_size is 2\n", errors)
 
     def test_dates(self) -> None:
         """A dated deck, and its next one, which begins on the day after the span."""
@@ -207,7 +202,8 @@ class Progress(unittest.TestCase):
 
 class NoThread(unittest.TestCase):
     def setUp(self) -> None:
-        failing = unittest.mock.patch.object(threading.Thread, "start", side_effect=RuntimeError("can't start new thread"))
+        error = RuntimeError("can't start new thread")
+        failing = unittest.mock.patch.object(threading.Thread, "start", side_effect=error)
         failing.start()
         self.addCleanup(failing.stop)
 
