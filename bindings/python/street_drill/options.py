@@ -55,8 +55,12 @@ def _made() -> _Parser:
     made.add_argument("--retention", type=_number, metavar="RETENTION",
                       help="as --set desired_retention=RETENTION")
     made.add_argument("--workers", type=_positive, default=os.cpu_count(), help="runs at once (default: all cores)")
-    made.add_argument("--quiet", action="store_true", help="tell no progress on the terminal")
+    _add_quiet(made)
     return made
+
+
+def _add_quiet(parser: _Parser) -> None:
+    parser.add_argument("--quiet", action="store_true", help="tell no progress on the terminal")
 
 
 def _opened() -> _Parser:
@@ -93,10 +97,12 @@ def parser() -> _Parser:
     cheapest.add_argument("--page", metavar="PAGE.html", help="write what was tried as a picture")
     drawn = commands.add_parser("page", parents=[opened], help="the page of what the program forecast printed")
     drawn.add_argument("listings", nargs="+", metavar="LISTING.txt")
+    _add_quiet(drawn)
     drawn.add_argument("--page", metavar="PAGE.html", help="default: the first listing's name with .html")
     _add_region(commands.add_parser("region", parents=[opened, made], help="a forecast of each settings file"))
     told = commands.add_parser("text", help="a text as the program forecast reads it, with a status for scripts")
-    told.add_argument("--program", default=text.PROGRAM, help=f"forecast or cheapest ({text.PROGRAM})")
+    told.add_argument("--program", default=text.PROGRAM,
+                      help="forecast or cheapest (default: the repository's target/bin/forecast)")
     return own
 
 

@@ -14,7 +14,7 @@ from pathlib import Path
 
 from . import course, deck, files, runs, settings, streets
 from .course import COLUMNS, STANDING, Columns, Course
-from .errors import Mistake, Mistakes
+from .errors import Mistake, Mistakes, each_of
 from .settings import Settings, Source
 
 
@@ -120,7 +120,7 @@ def courses(folder: str, depots: Sequence[Depot], number: int, mapped: Callable[
         if isinstance(each, Course):
             made.append(each)
         else:
-            mistakes += each.mistakes if isinstance(each, Mistakes) else [each]
+            mistakes += each_of(each)
     if mistakes:
         raise Mistakes(mistakes)
     return made

@@ -5,7 +5,6 @@ has no exit status, so what was printed is judged here: a refusal, a listing tha
 """
 
 import math
-import os
 import re
 import subprocess
 import sys
@@ -14,8 +13,10 @@ from pathlib import Path
 from . import listing
 from .errors import Mistake
 
-# The repository's.
-PROGRAM = os.path.relpath(Path(__file__).resolve().parents[3] / "target" / "bin" / "forecast")
+_BUILT = Path("target") / "bin" / "forecast"
+# The repository's: where this package lies in it, and else where the command is called.
+_OWN = Path(__file__).resolve().parents[3] / _BUILT
+PROGRAM = str(_OWN if _OWN.exists() else _BUILT)
 _INPUT = "standard input"
 _CHEAPEST = re.compile(r"\(cheapest [0-9A-F]{8} \(rounds \d+\) \(mean ([0-9A-F]{8})\)\)\n", re.ASCII)
 

@@ -46,6 +46,15 @@ class Settings(unittest.TestCase):
             status, said, errors = run("forecast", EXAMPLE, option, value)
             self.assertEqual((status, said, errors.partition(told)[0]), (2, "", "street_drill: "), errors)
 
+    def test_mistakes_of_all_files(self) -> None:
+        with tempfile.TemporaryDirectory() as folder:
+            paths = [Path(folder, name) for name in ("a.toml", "b.toml")]
+            for path in paths:
+                path.write_text("deck = 3\nseed = -1\n")
+            errors = run("forecast", *paths)[2]
+        self.assertEqual(errors.count("(deck): is no setting"), 2)
+        self.assertEqual(errors.count("(seed): must be"), 2)
+
     def test_count_of_parameters(self) -> None:
         for text, count in [("[1, 2]", 2), ("[]", 0)]:
             errors = run("forecast", EXAMPLE, "--set", f"parameters={text}")[2]
@@ -209,7 +218,7 @@ class NoThread(unittest.TestCase):
 
     def test_is_told(self) -> None:
         for command in [["forecast", EXAMPLE, "--runs", 3], ["cheapest", EXAMPLE]]:
-            told = (2, "", "street_drill: can't start new thread (--workers 1 needs no other thread)\n")
+            told = (2, "", "street_drill: --workers: can't start new thread; 1 needs no other thread or process\n")
             self.assertEqual(run(*command, "--workers", 2), told)
 
     def test_one_worker_needs_none(self) -> None:

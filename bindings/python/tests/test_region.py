@@ -145,7 +145,7 @@ class Region(unittest.TestCase):
 
     def test_no_process(self) -> None:
         with unittest.mock.patch("os.fork", side_effect=BlockingIOError(11, "Resource temporarily unavailable")):
-            told = "--workers: no process can be started: Resource temporarily unavailable; 1 needs none\n"
+            told = "--workers: [Errno 11] Resource temporarily unavailable; 1 needs no other thread or process\n"
             self.assertEqual(self.region("a", "--workers", 2), (2, "", f"street_drill: {told}"))
             self.assertEqual(self.region("a", "--workers", 1)[0], 0)
 
