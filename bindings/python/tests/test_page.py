@@ -215,7 +215,7 @@ class Page(unittest.TestCase):
     def test_many_days(self) -> None:
         """Lines are thinned and keep the extremes; the rows are left to the script, but for 1,000 days."""
         costs = [100.0] * 36_500
-        costs[20_001], costs[30_002] = 5000.0, 0.0
+        costs[20_010], costs[30_020] = 5000.0, 0.0
         text = page([Course("century", {name: tuple(costs) for name in COLUMNS}, {})])
         self.check(text)
         drawn = self.paths(text, "day", "cost")["course c0 l0"]
@@ -278,7 +278,7 @@ class Script(unittest.TestCase):
 class Browser(unittest.TestCase):
     """The page in a browser; what a script finds there is told as the page's title."""
 
-    def found(self, text: str, script: str) -> tuple[list, float]:
+    def found(self, text: str, script: str, window: str = "1280,900") -> tuple[list, float]:
         """What the script gives, and the seconds until the page was laid out."""
         told = """<script>addEventListener("load", () => {
             document.body.getBoundingClientRect();
@@ -288,7 +288,7 @@ class Browser(unittest.TestCase):
         with tempfile.TemporaryDirectory() as folder:
             file = Path(folder) / "page.html"
             file.write_text(text.replace("</body>", told))
-            browser = ["chromium", "--headless=new", "--no-sandbox", "--disable-gpu", "--window-size=1280,900",
+            browser = ["chromium", "--headless=new", "--no-sandbox", "--disable-gpu", f"--window-size={window}",
                        f"--user-data-dir={folder}/profile", "--dump-dom"]
             shown = subprocess.run([*browser, file.as_uri()], capture_output=True, text=True).stdout
         if not shown:
@@ -328,6 +328,18 @@ class Browser(unittest.TestCase):
                     [...document.querySelectorAll("[data-line='0']")].some((each) => each.checked)];""")
         held = courses[1].columns["memorized"][15]
         self.assertEqual(said, [[["day 15", f"south {round(held, 1):g}"], 5], "none", "inline", False])
+
+    def test_narrow(self) -> None:
+        """Nothing reaches beyond the edge; the answer stands in the first window, on a line of its own."""
+        for count in [1, 3, 5]:
+            courses = [runs_of(f"round {number}", 3) for number in range(count)]
+            said, _ = self.found(page(courses, 100), """
+                const html = document.documentElement;
+                const answer = [...document.querySelectorAll("dd, .facts td")]
+                    .find((each) => each.textContent.includes("to the end"));
+                const box = answer.getBoundingClientRect();
+                return [html.scrollWidth <= html.clientWidth, box.bottom < 844, box.width > 400];""", "500,844")
+            self.assertEqual(said, [True, True, True], count)
 
     def test_smoothed(self) -> None:
         said, _ = self.found(page([runs_of("round", 1)]), """
