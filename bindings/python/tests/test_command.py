@@ -114,6 +114,10 @@ class Command(unittest.TestCase):
         told = self.told("114 streets held", "--open", 114, "--runs", 10)
         self.assertEqual(told, "to the end in 8 of 10 runs from day 14, in 9 of 10 runs from day 23, "
                                "in all 10 runs from day 24")
+        last = [self.forecast(seed).rows[-1].memorized >= 115 for seed in range(7, 27)]
+        self.assertEqual(last.count(True), 10)
+        self.assertEqual(self.told("115 streets held", "--open", 115, "--runs", 20),
+                         "to the end in 10 of 20 runs from day 29, in 10 on no day")
         self.assertEqual(self.told("120 streets held", "--open", 120, "--runs", 3), "on no day in all 3 runs")
 
     def test_summary_of_runs(self) -> None:
