@@ -5,6 +5,7 @@ Exit status: 0, or 2 with a line for each thing that is wrong, and where.
 
 import argparse
 import math
+import os
 import sys
 from collections.abc import Callable, Iterable, Sequence
 from functools import partial
@@ -48,7 +49,7 @@ def _named(path: str, given: Settings, asked: Sequence[Settings]) -> str:
     """One settings file's output has the name itself, those of several lie in the folder of that name."""
     if len(asked) == 1:
         return path
-    if not Path(path).is_dir():
+    if not os.path.isdir(path):
         raise Mistake(path, "is no folder, where the outputs of several settings files would lie")
     return str(Path(path) / f"{given.name}.csv")
 

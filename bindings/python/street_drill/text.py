@@ -5,6 +5,7 @@ has no exit status, so what was printed is judged here: a refusal, a listing tha
 """
 
 import math
+import os
 import re
 import subprocess
 import sys
@@ -16,7 +17,7 @@ from .errors import Mistake
 _BUILT = Path("target") / "bin" / "forecast"
 # The repository's: where this package lies in it, and else where the command is called.
 _OWN = Path(__file__).resolve().parents[3] / _BUILT
-PROGRAM = str(_OWN if _OWN.exists() else _BUILT)
+PROGRAM = str(_OWN if os.path.exists(_OWN) else _BUILT)
 _INPUT = "standard input"
 _CHEAPEST = re.compile(r"\(cheapest [0-9A-F]{8} \(rounds \d+\) \(mean ([0-9A-F]{8})\)\)\n", re.ASCII)
 
