@@ -60,9 +60,9 @@ class Reading(unittest.TestCase):
         self.assertEqual(told, ["d.csv: line 2, column 3 (stability", "d.csv: line 2, column 7 (desired_retention",
                                 "d.csv: line 4, column 7 (desired_retention", "d.csv: line 5, column 8 (reps"])
         # What stands at a street that nobody has drilled yet plays no part.
-        unknown = UNKNOWN.replace("-inf,0,0", "90,0,0")
-        self.assertEqual(mistake_of(HEAD + unknown), "")
-        self.assertEqual(mistake_of(HEAD + unknown + ROW.replace("3.5", "x")).count("\n"), 0)
+        for unknown in [UNKNOWN.replace("-inf,0,0", "90,0,0"), "High Street,,,,,,90,,\n"]:
+            self.assertEqual(mistake_of(HEAD + unknown), "")
+            self.assertEqual(mistake_of(HEAD + unknown + ROW.replace("3.5", "x")).count("\n"), 0)
         many = mistake_of(HEAD + "".join(f"{number}{ROW.replace('3.5', 'x')}" for number in range(1000))).splitlines()
         self.assertEqual((len(many), many[-1]), (21, "d.csv: has 980 more mistakes"))
 
