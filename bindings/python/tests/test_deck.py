@@ -1,8 +1,10 @@
 """A deck from CSV, as programs and spreadsheets write it."""
 
 import math
+import re
 import tempfile
 import unittest
+from dataclasses import replace
 from datetime import date
 from pathlib import Path
 
@@ -10,7 +12,7 @@ from street_drill import Card, Mistake, SimulatorConfig, simulate
 from street_drill.deck import of_text, read, with_retention
 from street_drill.decimals import exact, nearest
 
-from .common import PARAMETERS
+from .common import PACKAGE, PARAMETERS
 
 HEAD = "street,difficulty,stability,last_date,due,interval,desired_retention,reps,lapses\n"
 ROW = "Mill Lane,5,3.5,-2,1,3,0.9,4,1\n"
@@ -109,6 +111,12 @@ class Spreadsheets(unittest.TestCase):
         deck = of_text("d.csv", text)
         self.assertEqual((deck.lines, deck.cards[0], len(deck.kept)), ([3, 5], MILL_LANE, 1))
         self.assertEqual([row[0] for row in deck.rows], ["Mill Lane", "High Street"])
+
+    def test_as_the_readme_shows(self) -> None:
+        readme = (PACKAGE / "README.md").read_text()
+        deck = of_text("d.csv", re.search(r"(    Street;(.*\n)+?)\n", readme)[1].replace("    ", ""), MONDAY)
+        self.assertEqual(deck.kept, [replace(MILL_LANE, difficulty=5.25)])
+        self.assertEqual(len(deck.cards), 2)
 
     def test_semicolons(self) -> None:
         self.check(self.SEMICOLONS)
