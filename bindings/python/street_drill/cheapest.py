@@ -37,10 +37,14 @@ def curve(trials: Sequence[Trial], present: Trial) -> str:
     return "".join(lines)
 
 
+def _are_alike(trials: Sequence[Trial]) -> bool:
+    return len({each.mean for each in trials}) == 1
+
+
 def _advice(trials: Sequence[Trial], streets: Streets) -> str:
     """Of trials in the order of their retention."""
     best = min(trials, key=lambda each: each.mean)
-    if all(each.mean == best.mean for each in trials):
+    if _are_alike(trials):
         why = "" if streets.new else ", since no street is new: a deck's streets keep their own retention"
         return f"no retention is advised: all that were tried cost the same{why}"
     for end, which, beyond in [(trials[0], "lowest", "lower"), (trials[-1], "highest", "higher")]:
@@ -64,7 +68,7 @@ def advice(trials: Sequence[Trial], present: Trial, streets: Streets) -> list[st
     """What is advised, or why nothing is, and what the present setting costs."""
     best = min(trials, key=lambda each: each.mean)
     lines = [_advice(trials, streets)]
-    if best.retention != present.retention:
+    if best.retention != present.retention and not _are_alike(trials):
         lines.append(_beside(best, present))
     if streets.known and streets.new:
         lines.append(f"desired_retention is for the {streets.new:,} new streets; "

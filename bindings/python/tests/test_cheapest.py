@@ -50,7 +50,7 @@ class Advice(unittest.TestCase):
 
     def test_alike(self) -> None:
         same = {0.7: 2.0, 0.8: 2.0, 0.9: 2.0}
-        self.assertIn("no retention is advised: all that were tried cost the same\n", answered(0.9, same))
+        self.assertEqual("no retention is advised: all that were tried cost the same\n", answered(0.9, same))
         self.assertIn("the same, since no street is new: a deck's streets keep their own retention\n",
                       answered(0.9, same, Streets(120, 0)))
 
