@@ -97,6 +97,10 @@ class WithDeck(unittest.TestCase):
         self.assertIn("  retention: 0.8 for 117 new streets; the deck's 3 keep their own, 0.9\n",
                       run("forecast", EXAMPLE, "--deck", self.deck, "--retention", "0.8")[1])
 
+    def test_no_new_street(self) -> None:
+        self.assertIn("  retention: the deck's 3 keep their own, 0.9\n",
+                      run("forecast", EXAMPLE, "--deck", self.deck, "--set", "learn_limit=0")[1])
+
     def test_more_streets_than_the_deck_may_have(self) -> None:
         errors = run("forecast", EXAMPLE, "--deck", self.deck, "--set", "deck_size=2")[2]
         self.assertIn("(deck_size): refused 2 1: the deck has 3 streets, and deck_size is 2\n", errors)

@@ -389,6 +389,7 @@ class Listings(unittest.TestCase):
         for text, place in {
             "": "l.txt: line 1: is not the first line",
             "(refused 2 0)\n": "l.txt: line 1: refused 2 0: the deck is 0 or above 512",
+            "(refused 8 3)\n": "l.txt: line 1: refused 8 3: more than 4,096 different intervals are needed",
             good.replace("(day 4 ", "(day 5 "): "l.txt: line 6: is not the line of day 4",
             good + good: "l.txt: line 32: 30 days were forecast, and 61 lines follow",
             good.replace("(cost 4", "(cost x", 1): "l.txt: line 2: is not the line of day 0",
