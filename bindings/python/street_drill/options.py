@@ -50,7 +50,8 @@ _number.__name__ = "number"
 def _made() -> _Parser:
     """What commands that make runs have in common."""
     made = _Parser(add_help=False)
-    made.add_argument("--set", action="append", default=[], metavar="KEY=VALUE", help="a setting, in place of the file's")
+    made.add_argument("--set", action="append", default=[], metavar="KEY=VALUE",
+                      help="a setting, in place of the file's")
     made.add_argument("--seed", type=int, metavar="SEED", help="as --set seed=SEED")
     made.add_argument("--retention", type=_number, metavar="RETENTION",
                       help="of new streets, as --set desired_retention=RETENTION")
@@ -99,7 +100,7 @@ def parser() -> _Parser:
     drawn.add_argument("listings", nargs="+", metavar="LISTING.txt")
     _add_quiet(drawn)
     drawn.add_argument("--page", metavar="PAGE.html", help="default: the first listing's name with .html")
-    _add_region(commands.add_parser("region", parents=[opened, made], help="a forecast of each settings file of a folder"))
+    _add_region(commands.add_parser("region", parents=[opened, made], help="a forecast of each depot of a folder"))
     told = commands.add_parser("text", help="a text as the program forecast reads it, with a status for scripts")
     told.add_argument("--program", default=text.PROGRAM,
                       help="forecast or cheapest (default: the repository's target/bin/forecast)")
