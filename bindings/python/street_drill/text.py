@@ -8,7 +8,6 @@ import math
 import os
 import re
 import subprocess
-import sys
 from pathlib import Path
 
 from . import listing
@@ -34,13 +33,13 @@ def _printed(program: str) -> str:
         raise Mistake(program, "did not end as it should") from error
 
 
-def _check(printed: str) -> None:
+def _check(program: str, printed: str) -> None:
     """A mistake where it is no answer."""
     if told := listing.refused(printed.removesuffix("\n")):
         raise Mistake(_INPUT, told)
     found = _CHEAPEST.fullmatch(printed)
     if not found:
-        listing.of_text(_INPUT, printed)
+        listing.of_text(program, printed)
     elif not 0 <= listing.float_of(found[1]) < math.inf:
         raise Mistake(_INPUT, "what a trial costs for each street held is no time: no retention is the cheapest")
 
@@ -49,7 +48,7 @@ def answer(program: str) -> str:
     """What the program prints, which is shown in any case; a mistake where it refused the text."""
     printed = _printed(program)
     try:
-        _check(printed)
+        _check(program, printed)
     except Mistake:
         print(printed, end="", flush=True)
         raise
