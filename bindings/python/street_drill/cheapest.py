@@ -3,7 +3,7 @@
   in_order   what was tried, by retention
   curve      a line a trial
   advice     what is advised, or why nothing is
-  told       a retention
+  short      a retention
 """
 
 import math
@@ -14,7 +14,7 @@ from .search import Trial
 from .streets import Streets
 
 
-def told(retention: float) -> str:
+def short(retention: float) -> str:
     """More digits would be more than the runs tell."""
     return f"{retention:.4f}".rstrip("0")
 
@@ -33,30 +33,34 @@ def curve(trials: Sequence[Trial], present: Trial) -> str:
     lines = ["  retention  seconds a street held  streets held\n"]
     for each in trials:
         mark = "  the present setting" if each.retention == present.retention else ""
-        lines.append(f"  {told(each.retention):<9}  {each.mean:>21.2f}  {each.held:>12.1f}{mark}\n")
+        lines.append(f"  {short(each.retention):<9}  {each.mean:>21.2f}  {each.held:>12.1f}{mark}\n")
     return "".join(lines)
+
+
+def _are_alike(trials: Sequence[Trial]) -> bool:
+    return len({each.mean for each in trials}) == 1
 
 
 def _advice(trials: Sequence[Trial], streets: Streets) -> str:
     """Of trials in the order of their retention."""
     best = min(trials, key=lambda each: each.mean)
-    if all(each.mean == best.mean for each in trials):
+    if _are_alike(trials):
         why = "" if streets.new else ", since no street is new: a deck's streets keep their own retention"
         return f"no retention is advised: all that were tried cost the same{why}"
     for end, which, beyond in [(trials[0], "lowest", "lower"), (trials[-1], "highest", "higher")]:
         if best is end:
-            return (f"no retention is advised: {told(best.retention)} costs least, and is the {which} that was tried; "
+            return (f"no retention is advised: {short(best.retention)} costs least, and is the {which} that was tried; "
                     f"the cheapest may lie {beyond} still")
-    return f"retention {told(best.retention)} costs least"
+    return f"retention {short(best.retention)} costs least"
 
 
 def _beside(best: Trial, present: Trial) -> str:
     """What the present setting costs beside the best."""
     if present.mean == best.mean:
-        return f"the present {told(present.retention)} costs as much"
+        return f"the present {short(present.retention)} costs as much"
     more = present.mean - best.mean
     fewer = "more" if present.held >= best.held else "fewer"
-    return (f"the present {told(present.retention)} costs {more:.2f} seconds a street more "
+    return (f"the present {short(present.retention)} costs {more:.2f} seconds a street more "
             f"({more / best.mean:.0%}), and holds {abs(present.held - best.held):.1f} streets {fewer}")
 
 
@@ -64,7 +68,7 @@ def advice(trials: Sequence[Trial], present: Trial, streets: Streets) -> list[st
     """What is advised, or why nothing is, and what the present setting costs."""
     best = min(trials, key=lambda each: each.mean)
     lines = [_advice(trials, streets)]
-    if best.retention != present.retention:
+    if best.retention != present.retention and not _are_alike(trials):
         lines.append(_beside(best, present))
     if streets.known and streets.new:
         lines.append(f"desired_retention is for the {streets.new:,} new streets; "

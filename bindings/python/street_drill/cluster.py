@@ -11,6 +11,7 @@ from typing import Any
 
 from .errors import Mistake
 from .library import LibraryMissing
+from .threads import starting
 
 # Of Linux's sys/prctl.h.
 _PR_SET_PDEATHSIG = 1
@@ -43,11 +44,9 @@ def _processes(workers: int) -> Iterator[Callable[..., Any]]:
         return
     try:
         with ProcessPoolExecutor(workers, initializer=_end_with_parent) as processes:
-            yield processes.map
+            yield starting(processes.map)
     except BrokenExecutor as error:
         raise Mistake("--workers", "a worker ended before its forecast") from error
-    except BlockingIOError as error:
-        raise Mistake("--workers", f"no process can be started: {error.strerror}; 1 needs none") from error
 
 
 def _end_with_parent() -> None:

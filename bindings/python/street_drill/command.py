@@ -5,20 +5,23 @@ Exit status: 0, or 2 with a line for each thing that is wrong, and where.
 
 import argparse
 import math
+import os
 import sys
-from collections.abc import Iterable, Sequence
+from collections.abc import Callable, Iterable, Sequence
+from functools import partial
 from pathlib import Path
 
 from . import cheapest, cluster, course, curve, deck, depots, facts, files, listing, next_deck, options, periods
 from . import places, region, runs, settings, streets, text
 from .course import Course
 from .deck import Deck
-from .errors import Mistake, Mistakes, Refusal
+from .errors import Mistake, Refusal, each_of, gathered
 from .library import LibraryMissing
 from .page import page
 from .progress import progress
 from .search import Trial, optimal_retention, trial
 from .settings import Settings
+from .threads import NoWorker
 
 # Options that name a file.
 _FILES = ("deck", "rows", "weeks", "cards", "page", "summary")
@@ -46,7 +49,7 @@ def _named(path: str, given: Settings, asked: Sequence[Settings]) -> str:
     """One settings file's output has the name itself, those of several lie in the folder of that name."""
     if len(asked) == 1:
         return path
-    if not Path(path).is_dir():
+    if not os.path.isdir(path):
         raise Mistake(path, "is no folder, where the outputs of several settings files would lie")
     return str(Path(path) / f"{given.name}.csv")
 
@@ -59,22 +62,32 @@ def _deck(path: str | None, given: Settings) -> Deck:
     return streets.prepared(given, known)
 
 
+def _drill(asked: argparse.Namespace, given: Settings, done: Callable[[], None]) -> tuple[Course, dict[str, str]]:
+    """The course of one settings file, and the texts of its own files by their options."""
+    known = _deck(asked.deck, given)
+    drawn, cards = runs.drilled(given, known, asked.runs, asked.workers, done)
+    texts = {}
+    if asked.rows:
+        texts["rows"] = course.as_csv(course.days_table(drawn))
+    if asked.weeks:
+        texts["weeks"] = course.as_csv(periods.weeks_table(drawn))
+    if asked.cards:
+        texts["cards"] = next_deck.updated(known, cards, given.config.learn_span)
+    return drawn, texts
+
+
 def _forecast(asked: argparse.Namespace) -> None:
-    given = [settings.read(path, options.sources(asked)) for path in asked.settings]
+    given = gathered(partial(settings.read, path, options.sources(asked)) for path in asked.settings)
+    named = [{option: _named(getattr(asked, option), each, given) for option in ("rows", "weeks", "cards")
+              if getattr(asked, option)} for each in given]
     courses: list[Course] = []
     texts: dict[str, str] = {}
     with progress("forecast", asked.runs * len(given), asked.quiet) as told:
-        for each in given:
-            known = _deck(asked.deck, each)
-            drawn, cards = runs.drilled(each, known, asked.runs, asked.workers, told.done)
+        for each, paths in zip(given, named):
+            drawn, own = _drill(asked, each, told.done)
             courses.append(drawn)
-            if asked.rows:
-                _add(texts, _named(asked.rows, each, given), course.as_csv(course.days_table(drawn)))
-            if asked.weeks:
-                _add(texts, _named(asked.weeks, each, given), course.as_csv(periods.weeks_table(drawn)))
-            if asked.cards:
-                after = next_deck.updated(known, cards, each.config.learn_span)
-                _add(texts, _named(asked.cards, each, given), after)
+            for option, written in own.items():
+                _add(texts, paths[option], written)
         if asked.page:
             _add(texts, asked.page, page(courses, asked.open))
     # The deck may be followed by its next one under the same name.
@@ -86,10 +99,6 @@ def _forecast(asked: argparse.Namespace) -> None:
 # ---- the other commands
 
 
-def _trial_line(each: Trial) -> str:
-    return f"trial {each.number}: retention {cheapest.told(each.retention)}, mean {each.mean:.2f}, {each.seconds:.1f} s"
-
-
 def _search(asked: argparse.Namespace, given: Settings, known: Deck) -> tuple[list[Trial], Trial]:
     """The trials of the search, and one of the present setting."""
     tried: list[Trial] = []
@@ -97,7 +106,8 @@ def _search(asked: argparse.Namespace, given: Settings, known: Deck) -> tuple[li
 
         def show(each: Trial) -> None:
             tried.append(each)
-            told.say(_trial_line(each))
+            told.say(f"trial {each.number}: retention {cheapest.short(each.retention)}, mean {each.mean:.2f}, "
+                     f"{each.seconds:.1f} s")
 
         try:
             inputs = given.config, given.parameters, known.cards
@@ -123,10 +133,11 @@ def _cheapest(asked: argparse.Namespace) -> None:
 
 
 def _page(asked: argparse.Namespace) -> None:
-    courses = [listing.read(path) for path in asked.listings]
     path = asked.page or str(Path(asked.listings[0]).with_suffix(".html"))
-    told = "".join(facts.summary(each, asked.open) for each in courses)
-    _write({path: page(courses, asked.open)}, asked.listings, told)
+    with progress("page", quiet=asked.quiet):
+        courses = gathered(partial(listing.read, path) for path in asked.listings)
+        drawn = page(courses, asked.open)
+    _write({path: drawn}, asked.listings, "".join(facts.summary(each, asked.open) for each in courses))
 
 
 def _region(asked: argparse.Namespace) -> None:
@@ -136,9 +147,9 @@ def _region(asked: argparse.Namespace) -> None:
     with (progress("region", len(listed), asked.quiet) as told,
           cluster.mapping(asked.scheduler, min(asked.workers, len(listed))) as mapped):
         courses = region.courses(asked.folder, listed, asked.runs, mapped, told.done)
-    whole = region.total(courses)
-    texts = {asked.summary: course.as_csv(depots.table(courses, asked.open))}
-    _add(texts, asked.page, page([whole], tables=[depots.page_table(courses, asked.open)]))
+        whole = region.total(courses)
+        texts = {asked.summary: course.as_csv(depots.table(courses, asked.open))}
+        _add(texts, asked.page, page([whole], tables=[depots.page_table(courses, asked.open)]))
     _write(texts, region.sources(listed), facts.summary(whole, None) + depots.lines(courses, asked.open))
 
 
@@ -161,23 +172,20 @@ def _check_names(asked: argparse.Namespace) -> None:
 def main(arguments: Sequence[str] | None = None) -> int:
     """Does what the arguments ask, and gives the exit status."""
     asked = options.parser().parse_args(arguments)
+    told: Sequence[object]
     try:
         _check_names(asked)
         _COMMANDS[asked.command](asked)
-    except Mistake as error:
-        for each in error.mistakes if isinstance(error, Mistakes) else [error]:
-            print(f"street_drill: {each}", file=sys.stderr)
-        return 2
+    except Mistake as mistake:
+        told = each_of(mistake)
     except LibraryMissing as error:
-        print(f"street_drill: {error}", file=sys.stderr)
-        return 2
+        told = [error]
+    except NoWorker as error:
+        told = [f"--workers: {error}; 1 needs no other thread or process"]
     except MemoryError:
-        print("street_drill: there is not enough memory", file=sys.stderr)
-        return 2
-    except RuntimeError as error:
-        # No thread can be started, or a thread has other float modes; what is derived from it is a fault of this code.
-        if type(error) is not RuntimeError:
-            raise
-        print(f"street_drill: {error} (--workers 1 needs no other thread)", file=sys.stderr)
-        return 2
-    return 0
+        told = ["there is not enough memory"]
+    else:
+        return 0
+    for each in told:
+        print(f"street_drill: {each}", file=sys.stderr)
+    return 2

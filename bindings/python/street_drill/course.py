@@ -85,8 +85,8 @@ def percentile(values: Sequence[float], share: float) -> float:
     place = share * (len(values) - 1)
     low = math.floor(place)
     high = min(low + 1, len(values) - 1)
-    # Equal ends are told apart first: the difference of two infinities is no number.
-    step = 0.0 if values[low] == values[high] else (place - low) * (values[high] - values[low])
+    # Without a step nothing is added: the difference of two infinities, and 0 of one, are no numbers.
+    step = 0.0 if place == low or values[low] == values[high] else (place - low) * (values[high] - values[low])
     return values[low] + step
 
 

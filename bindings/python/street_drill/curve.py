@@ -7,6 +7,7 @@ from collections.abc import Callable, Iterator, Sequence
 from html import escape
 
 from .axes import LEFT, RIGHT, Scale, axis, below, grid
+from .cheapest import short
 from .page import document
 from .picture import frame
 from .search import Trial
@@ -16,24 +17,19 @@ _FIRST, _LAST = 0.70, 0.95
 _MARKS = (0.70, 0.75, 0.80, 0.85, 0.90, 0.95)
 
 
-def _retention(value: float) -> str:
-    """More digits would be more than the runs tell."""
-    return f"{value:.4f}".rstrip("0")
-
-
 def _dots(scale: Scale, values: Sequence[tuple[Trial, float]], present: Trial | None) -> Iterator[str]:
     """A dot for each trial, with its numbers as its title."""
     points = "L".join(f"{scale.x(trial.retention):.1f} {scale.y(value):.1f}" for trial, value in values)
     yield f'<path class="course c0" d="M{points}"/>'
     for trial, value in values:
         yield (f'<circle class="dot c0" cx="{scale.x(trial.retention):.1f}" cy="{scale.y(value):.1f}" r="3.5">'
-               f"<title>retention {_retention(trial.retention)}: {value:,.2f}</title></circle>")
+               f"<title>retention {short(trial.retention)}: {value:,.2f}</title></circle>")
     best, _ = min(values, key=lambda each: each[0].mean)
     # One name stands above its dot and one below, since they may be close.
     for name, named, gap, colour in (("cheapest", best, -10, 1), ("present", present, 20, 2)):
         for trial, value in values:
             if named and trial.retention == named.retention:
-                yield from _named(f"{name}: {_retention(trial.retention)}", scale.x(trial.retention),
+                yield from _named(f"{name}: {short(trial.retention)}", scale.x(trial.retention),
                                   scale.y(value), gap, colour)
 
 
@@ -54,7 +50,7 @@ def _figure(title: str, trials: Sequence[Trial], of: Callable[[Trial], float], p
 
 
 def _table(trials: Sequence[Trial]) -> str:
-    cells = [(_retention(trial.retention), f"{trial.mean:,.2f}", f"{trial.held:,.1f}") for trial in trials]
+    cells = [(short(trial.retention), f"{trial.mean:,.2f}", f"{trial.held:,.1f}") for trial in trials]
     rows = "".join("<tr>" + "".join(f"<td>{cell}</td>" for cell in row) + "</tr>" for row in cells)
     return ('<details class="rows" open><summary>Retentions that were tried</summary><div class="scroll"><table>'
             "<thead><tr><th>retention</th><th>seconds for each street held</th><th>streets held</th></tr></thead>"

@@ -6,31 +6,21 @@
 
 import ctypes
 import math
-import re
-from collections.abc import Callable, Iterator, Mapping, Sequence
+from collections.abc import Iterator, Mapping, Sequence
 from dataclasses import dataclass, replace
 from datetime import date
-from functools import partial
 from operator import itemgetter
 from typing import Any
 
 from . import files, sheet
-from .decimals import rounded
+from .cells import FIELDS, STATE, Reader, is_blank, readers
 from .errors import Mistake, raise_all
-from .model import CARD_COUNTS, CARD_FLOATS, Card
+from .model import CARD_FLOATS, Card
 from .sheet import Sheet
 
-FIELDS = CARD_FLOATS + CARD_COUNTS
-DAYS = ("last_date", "due")
-# What a street that nobody has drilled yet has not; its other cells may be filled all the same.
-_STATE = ("difficulty", "stability", "last_date", "due", "interval")
 # The run keeps an existing card only where its stability is above this f32; the others' streets are new ones.
 _KEPT_ABOVE = ctypes.c_float(1e-9).value
 _NOT_DRILLED = Card(*[-math.inf] * 3, 0.0, *[-math.inf] * 2, 0, 0)
-_DATE = re.compile(r"\d{4}-\d\d-\d\d", re.ASCII)
-_COUNT = re.compile(r"\d+([.,]0*)?", re.ASCII)
-
-Reader = Callable[[str], float]
 
 
 @dataclass(frozen=True)
@@ -70,65 +60,16 @@ def is_kept(card: Card) -> bool:
     return card.stability > _KEPT_ABOVE
 
 
-# ---- cells
-
-
-def _number(text: str) -> float:
-    try:
-        return rounded(text)
-    except ValueError as error:
-        raise ValueError(sheet.cause(text, str(error))) from error
-
-
-def _comma_number(text: str) -> float:
-    return _number(text.replace(",", ".")) if text.count(",") < 2 and "." not in text else _number(text)
-
-
-def _day(text: str, number: Reader, first_day: date | None) -> float:
-    """Days count from the forecast's first."""
-    if not _DATE.fullmatch(text):
-        return number(text)
-    if first_day is None:
-        raise ValueError("is a date, and the settings have no first_day")
-    try:
-        return float((date.fromisoformat(text) - first_day).days)
-    except ValueError:
-        raise ValueError("is no date of the calendar") from None
-
-
-def _count(text: str) -> int:
-    if not _COUNT.fullmatch(text):
-        raise ValueError(sheet.cause(text, "is no whole number"))
-    digits = re.split("[.,]", text)[0].lstrip("0")
-    # Ten digits hold every number that fits, and int refuses very long ones with a sentence of its own.
-    if len(digits) > 10 or int(digits or "0") >= 2**32:
-        raise ValueError("is above 4294967295")
-    return int(digits or "0")
-
-
-def _readers(delimiter: str, first_day: date | None) -> dict[str, Reader]:
-    """How each field is read. Between commas a comma is no decimal one."""
-    number = _number if delimiter == "," else _comma_number
-    day = partial(_day, number=number, first_day=first_day)
-    return {**dict.fromkeys(CARD_FLOATS, number), **dict.fromkeys(DAYS, day), **dict.fromkeys(CARD_COUNTS, _count)}
-
-
 # ---- rows
 
 
-def _is_blank(texts: Sequence[str]) -> bool:
-    """Whether the cells are those of a street that nobody has drilled yet."""
-    cells = dict(zip(FIELDS, texts))
-    return not any(cells[name] for name in _STATE) and all(cells[name].strip("0") == "" for name in CARD_COUNTS)
-
-
-def _wrong_cells(readers: Mapping[str, Reader], texts: Sequence[str]) -> Iterator[tuple[str, str]]:
+def _wrong_cells(by_field: Mapping[str, Reader], texts: Sequence[str]) -> Iterator[tuple[str, str]]:
     for name, text in zip(FIELDS, texts):
         if not text:
-            yield name, f"is empty; of a street not yet drilled {', '.join(_STATE)} are empty, all of them"
+            yield name, f"is empty; of a street not yet drilled {', '.join(STATE)} are empty, all of them"
             continue
         try:
-            readers[name](text)
+            by_field[name](text)
         except ValueError as error:
             yield name, f"{text[:40]!r} {error}"
 
@@ -157,10 +98,10 @@ class _Reading:
 
     def __init__(self, table: Sheet, names: Sequence[str], first_day: date | None) -> None:
         self._table, self._names = table, names
-        self._readers = _readers(table.delimiter, first_day)
+        self._readers = readers(table.delimiter, first_day)
         self._columns = [[row[place].strip() for row in table.rows] for place in map(names.index, FIELDS)]
         stabilities = self._columns[FIELDS.index("stability")]
-        self._blank = {row for row, text in enumerate(stabilities) if not text and _is_blank(self._texts(row))}
+        self._blank = {row for row, text in enumerate(stabilities) if not text and is_blank(self._texts(row))}
         self._mistakes: list[tuple[int, Mistake]] = []
 
     def _texts(self, row: int) -> list[str]:
@@ -247,8 +188,8 @@ def _check_head(table: Sheet, names: Sequence[str]) -> None:
     if len(missing) == len(FIELDS):
         raise Mistake(place, f"column {missing[0]} is missing in the head, as are all others: is this line the head?")
     twice = [name for name in FIELDS if names.count(name) > 1]
-    raise_all(table.path, [*(Mistake(place, f"column {name} is missing in the head") for name in missing),
-               *(Mistake(place, f"column {name} stands twice in the head") for name in twice)])
+    raise_all(table.path, [Mistake(place, f"column {name} {how} in the head") for group, how in
+                           [(missing, "is missing"), (twice, "stands twice")] for name in group])
 
 
 def of_text(path: str, text: str, first_day: date | None = None) -> Deck:

@@ -3,9 +3,14 @@
   Refusal   the library's, by the number of its table
   Mistake   in what the planner wrote: settings, a deck, a listing, a file's name; Mistakes: several at once
   raise_all of the mistakes of a file, where there are any
+  each_of   a mistake, or of several each
+  gathered  the answers of several calls, or the mistakes of all
 """
 
-from collections.abc import Sequence
+from collections.abc import Callable, Iterable, Sequence
+from typing import TypeVar
+
+T = TypeVar("T")
 
 _SENTENCES = {
     1: "a parameter is not finite",
@@ -74,7 +79,7 @@ class Mistakes(Mistake):
 
     def __init__(self, mistakes: Sequence[Mistake]) -> None:
         super().__init__(mistakes[0].place, mistakes[0].sentence)
-        # What is raised in another process is made anew there from these.
+        # What is raised in another process is made anew here from these.
         self.args = (mistakes,)
         self.mistakes = tuple(mistakes)
 
@@ -92,3 +97,21 @@ def raise_all(path: str, mistakes: Sequence[Mistake]) -> None:
         mistakes = [*mistakes[:_MOST], Mistake(path, f"has {len(mistakes) - _MOST:,} more mistakes")]
     if mistakes:
         raise Mistakes(mistakes) if len(mistakes) > 1 else mistakes[0]
+
+
+def each_of(mistake: Mistake) -> Sequence[Mistake]:
+    """One by one."""
+    return mistake.mistakes if isinstance(mistake, Mistakes) else [mistake]
+
+
+def gathered(calls: Iterable[Callable[[], T]]) -> list[T]:
+    """The answers, or the mistakes of all calls at once."""
+    answers, mistakes = [], []
+    for call in calls:
+        try:
+            answers.append(call())
+        except Mistake as mistake:
+            mistakes += each_of(mistake)
+    if mistakes:
+        raise Mistakes(mistakes)
+    return answers

@@ -92,7 +92,7 @@ def _by(course: Course, kind: str, stretches: Sequence[Stretch], length: int) ->
     first = ", ".join(_spread(each) for each in list(zip(*costs))[:_FIRST])
     mean = _spread([sum(run) / course.span * length for run in costs])
     worst = _worst(costs, lambda place: f"{kind} {stretches[place].name}, from {course.day(stretches[place].days[0])}")
-    return [(f"first {kind}s", first), (f"mean of {length} days", mean), (f"worst {kind}", worst)]
+    return [(f"first {kind}s", first), (f"mean {kind}", mean), (f"worst {kind}", worst)]
 
 
 # ---- the whole

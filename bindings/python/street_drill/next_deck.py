@@ -7,7 +7,8 @@ from itertools import zip_longest
 from operator import attrgetter
 
 from . import files
-from .deck import DAYS, FIELDS, Deck, is_kept
+from .cells import DAYS, FIELDS
+from .deck import Deck, is_kept
 from .decimals import shortest, to_f32
 from .model import CARD_COUNTS, Card
 

@@ -50,13 +50,18 @@ _number.__name__ = "number"
 def _made() -> _Parser:
     """What commands that make runs have in common."""
     made = _Parser(add_help=False)
-    made.add_argument("--set", action="append", default=[], metavar="KEY=VALUE", help="a setting, before the file's")
+    made.add_argument("--set", action="append", default=[], metavar="KEY=VALUE",
+                      help="a setting, in place of the file's")
     made.add_argument("--seed", type=int, metavar="SEED", help="as --set seed=SEED")
     made.add_argument("--retention", type=_number, metavar="RETENTION",
-                      help="as --set desired_retention=RETENTION")
+                      help="of new streets, as --set desired_retention=RETENTION")
     made.add_argument("--workers", type=_positive, default=os.cpu_count(), help="runs at once (default: all cores)")
-    made.add_argument("--quiet", action="store_true", help="tell no progress on the terminal")
+    _add_quiet(made)
     return made
+
+
+def _add_quiet(parser: _Parser) -> None:
+    parser.add_argument("--quiet", action="store_true", help="tell no progress on the terminal")
 
 
 def _opened() -> _Parser:
@@ -93,10 +98,12 @@ def parser() -> _Parser:
     cheapest.add_argument("--page", metavar="PAGE.html", help="write what was tried as a picture")
     drawn = commands.add_parser("page", parents=[opened], help="the page of what the program forecast printed")
     drawn.add_argument("listings", nargs="+", metavar="LISTING.txt")
+    _add_quiet(drawn)
     drawn.add_argument("--page", metavar="PAGE.html", help="default: the first listing's name with .html")
-    _add_region(commands.add_parser("region", parents=[opened, made], help="a forecast of each settings file"))
+    _add_region(commands.add_parser("region", parents=[opened, made], help="a forecast of each depot of a folder"))
     told = commands.add_parser("text", help="a text as the program forecast reads it, with a status for scripts")
-    told.add_argument("--program", default=text.PROGRAM, help=f"forecast or cheapest ({text.PROGRAM})")
+    told.add_argument("--program", default=text.PROGRAM,
+                      help="forecast or cheapest (default: the repository's target/bin/forecast)")
     return own
 
 

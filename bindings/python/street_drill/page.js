@@ -138,13 +138,16 @@ const cell = (value, head) => {
     return head.dataset.digits ? value.toFixed(head.dataset.digits) : String(value);
 };
 
+// Time is read in hours and minutes, and copied in seconds.
+const read = (value, head) => ("time" in head.dataset && value !== null ? duration(value) : cell(value, head));
+
 const fill = (table, columns, start) => {
     const heads = [...table.tHead.rows[0].cells];
     const body = table.tBodies[0];
     body.replaceChildren();
     for (let row = start; row < Math.min(start + PART, columns[0].length); row++) {
         const line = body.insertRow();
-        columns.forEach((column, number) => (line.insertCell().textContent = cell(column[row], heads[number])));
+        columns.forEach((column, number) => (line.insertCell().textContent = read(column[row], heads[number])));
     }
 };
 
@@ -172,7 +175,7 @@ addEventListener("beforeprint", () => {
 // All rows, also those that are not laid out.
 const asText = (rows) => {
     const table = rows.querySelector("table");
-    const lines = [...table.rows].map((row) => [...row.cells].map((each) => each.textContent));
+    const lines = [...table.rows].map((row) => [...row.cells].map((each) => each.dataset.seconds ?? each.textContent));
     if (!rows.dataset.table) return lines;
     const columns = told.tables[rows.dataset.table];
     const heads = [...table.tHead.rows[0].cells];

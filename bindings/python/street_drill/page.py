@@ -12,7 +12,7 @@ from html import escape
 from pathlib import Path
 
 from . import axes, head, picture
-from .course import Course, Table, days_table
+from .course import Course, Table, days_table, duration
 from .facts import facts
 from .periods import months_table, weeks_table
 from .series import window
@@ -112,10 +112,22 @@ def _off(courses: Sequence[Course]) -> str:
 # ---- tables
 
 
-def _cell(value: float | str) -> str:
+def _is_time(name: str) -> bool:
+    """`cost_p10` is of the column `cost`."""
+    return name.partition("_")[0] == "cost"
+
+
+def _text(value: float | str) -> str:
     if isinstance(value, float):
         return f"{value:.{_DIGITS}f}"
     return escape(str(value))
+
+
+def _cell(name: str, value: float | str) -> str:
+    """Time is read in hours and minutes, and copied in seconds."""
+    if isinstance(value, float) and _is_time(name):
+        return f'<td data-seconds="{_text(value)}">{duration(value)}</td>'
+    return f"<td>{_text(value)}</td>"
 
 
 def _heads(names: Sequence[str], row: Sequence[float | str]) -> Iterator[str]:
@@ -124,11 +136,12 @@ def _heads(names: Sequence[str], row: Sequence[float | str]) -> Iterator[str]:
         own, _, added = name.rpartition("_")
         kind, text = (' class="added"', added) if added in _ADDED and own in names else ("", name)
         digits = f' data-digits="{_DIGITS}"' if isinstance(value, float) else ""
-        yield f"<th{kind}{digits}>{text}</th>"
+        time = " data-time" if _is_time(name) else ""
+        yield f"<th{kind}{digits}{time}>{text}</th>"
 
 
-def _body(rows: Sequence[Sequence[float | str]]) -> str:
-    return "\n".join("<tr>" + "".join(f"<td>{_cell(value)}</td>" for value in row) + "</tr>" for row in rows)
+def _body(names: Sequence[str], rows: Sequence[Sequence[float | str]]) -> str:
+    return "\n".join("<tr>" + "".join(map(_cell, names, row)) + "</tr>" for row in rows)
 
 
 def _is_long(table: Table) -> bool:
@@ -139,7 +152,7 @@ def _is_long(table: Table) -> bool:
 def _table(number: int, table: Table, is_open: bool) -> str:
     """The rows of a long one are the script's."""
     name, names, rows = table
-    own, body = (f' data-table="{number}"', "") if _is_long(table) else ("", f"\n{_body(rows)}\n")
+    own, body = (f' data-table="{number}"', "") if _is_long(table) else ("", f"\n{_body(names, rows)}\n")
     kind = "days" if names[0] in ("day", "week", "month") else "named"
     state = f"{own}{' open' if is_open else ''}"
     return (f'<details class="rows{" many" if len(names) > 12 else ""}"{state}><summary>{escape(name)}</summary>\n'
@@ -218,6 +231,6 @@ def page(given: Sequence[Course], streets: int | None = None, tables: Sequence[T
     return document(_title(courses), [
         _made(courses, made or date.today()),
         f"<main>\n{_summary(courses, streets, shown)}", *pictures, "</main>",
-        "<p>Days count from 0; cost is in seconds, memorized is the number of streets held in memory.</p>",
+        "<p>Days count from 0; cost is copied in seconds; memorized is the number of streets held in memory.</p>",
         *(_table(number, table, number < len(tables)) for number, table in enumerate(listed)),
     ], _off(courses), _values(courses, shown, listed))

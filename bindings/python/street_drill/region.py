@@ -14,7 +14,7 @@ from pathlib import Path
 
 from . import course, deck, files, runs, settings, streets
 from .course import COLUMNS, STANDING, Columns, Course
-from .errors import Mistake, Mistakes
+from .errors import Mistake, Mistakes, each_of
 from .settings import Settings, Source
 
 
@@ -120,7 +120,7 @@ def courses(folder: str, depots: Sequence[Depot], number: int, mapped: Callable[
         if isinstance(each, Course):
             made.append(each)
         else:
-            mistakes += each.mistakes if isinstance(each, Mistakes) else [each]
+            mistakes += each_of(each)
     if mistakes:
         raise Mistakes(mistakes)
     return made
@@ -129,11 +129,10 @@ def courses(folder: str, depots: Sequence[Depot], number: int, mapped: Callable[
 # ---- all depots as one
 
 
-def _on(run: Columns, column: str, day: int) -> float:
+def _on_days(run: Columns, column: str, days: int) -> list[float]:
     """A depot whose span is over costs nothing, and keeps its streets."""
-    if day < len(run[column]):
-        return run[column][day]
-    return run[column][-1] if column in STANDING else 0
+    values = list(run[column])
+    return values + [values[-1] if column in STANDING else 0] * (days - len(values))
 
 
 def total_of(values: Sequence[float]) -> float:
@@ -145,7 +144,7 @@ def total_of(values: Sequence[float]) -> float:
 
 def total(depots: Sequence[Course]) -> Course:
     """Each day's sum over the depots, of each run."""
-    days = range(max(depot.span for depot in depots))
-    sums = [{column: tuple(total_of([_on(run, column, day) for run in together]) for day in days) for column in COLUMNS}
-            for together in zip(*(depot.runs for depot in depots))]
+    days = max(depot.span for depot in depots)
+    sums = [{column: tuple(map(total_of, zip(*(_on_days(run, column, days) for run in together))))
+             for column in COLUMNS} for together in zip(*(depot.runs for depot in depots))]
     return replace(course.of_columns(f"region of {len(depots)} depots", sums), first_day=depots[0].first_day)

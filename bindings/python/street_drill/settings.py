@@ -7,7 +7,7 @@ a file's are told at once. What the command line sets goes before what the file 
 import itertools
 import re
 import tomllib
-from collections.abc import Mapping, Sequence
+from collections.abc import Callable, Mapping, Sequence
 from dataclasses import dataclass, field
 from datetime import date
 from pathlib import Path
@@ -30,7 +30,7 @@ class Settings:
     """What one file says. `path` is its name as the planner wrote it.
 
     `first_day` is the date of day 0. `desired_retention` is for new streets; `desired_retention_for_deck` for the
-    deck's, which keep their own where it is None. `places` tells which option set a key, `sources` are the files read.
+    deck's, which keep their own where it is None. `places` are where the keys are set, `sources` the files read.
     """
 
     path: str
@@ -50,7 +50,7 @@ class Settings:
 
     def place(self, key: str) -> str:
         """Where a key is set, or would be; it may have an index."""
-        return f"{self.places.get(key.partition('[')[0], self.path)}: {key}"
+        return f"{self.places.get(key.partition('[')[0], self.path)} ({key})"
 
 
 # ---- parameters from a file of their own
@@ -110,22 +110,45 @@ def _shown(key: str) -> str:
     return key if re.fullmatch(r"[\w-]{1,80}", key) else repr(key[:80])
 
 
-def _values(source: Source, folder: Path, mistakes: list[Mistake]) -> dict[str, Any]:
-    """What a source sets; what is wrong in it is added to the mistakes."""
-    place, text = source
-    values: dict[str, Any] = {}
-    try:
-        for key, value in _parsed(place, text).items():
-            if key == "parameters" and type(value) is str:
-                values["sources"] = (str(folder / value),)
-            try:
-                values[key] = _value(key, value, folder)
-            except Wrong as wrong:
-                below, sentence = wrong.args
-                mistakes.append(Mistake(f"{place}: {below}", sentence))
-    except Mistake as mistake:
-        mistakes.append(mistake)
-    return values
+def _found(path: str, text: str, key: str) -> str:
+    """Where the key's value begins in a file; tomllib does not tell it."""
+    value = re.search(rf"""^[ \t]*["']?{re.escape(key)}["']?[ \t]*=[ \t]*""", text, re.MULTILINE)
+    if value is None:
+        return path
+    return f"{path}: {_line(text, value.end())}, column {value.end() - text.rfind(chr(10), 0, value.end())}"
+
+
+class _Reading:
+    """What the sources set, where, and all that is wrong with them."""
+
+    def __init__(self) -> None:
+        self.values: dict[str, Any] = {}
+        self.places: dict[str, str] = {}
+        self.files: list[str] = []
+        self.mistakes: list[Mistake] = []
+
+    def add(self, source: Source, folder: Path, find: Callable[[str, str, str], str]) -> None:
+        """Of a later source's values each goes before an earlier one; `find` tells the place of a key."""
+        place, text = source
+        try:
+            parsed = _parsed(place, text)
+        except Mistake as mistake:
+            self.mistakes.append(mistake)
+            return
+        for key, value in parsed.items():
+            self.places[key] = find(place, text, key)
+            self._add(key, value, folder)
+
+    def _add(self, key: str, value: Any, folder: Path) -> None:
+        if key == "parameters" and type(value) is str:
+            self.files.append(str(folder / value))
+        try:
+            self.values[key] = _value(key, value, folder)
+        except Wrong as wrong:
+            below, sentence = wrong.args
+            self.mistakes.append(Mistake(f"{self.places[key]} ({below})", sentence))
+        except Mistake as mistake:
+            self.mistakes.append(mistake)
 
 
 def _check_calendar(given: Settings) -> None:
@@ -136,14 +159,12 @@ def _check_calendar(given: Settings) -> None:
 
 def of_text(path: str, text: str, options: Sequence[Source] = ()) -> Settings:
     """Settings from a text, and from what options of the command line set; `path` is for the errors."""
-    mistakes: list[Mistake] = []
-    values = _values((path, text), Path(path).parent, mistakes)
-    places: dict[str, str] = {}
+    told = _Reading()
+    told.add((path, text), Path(path).parent, _found)
     for option in options:
-        told = _values(option, Path(), mistakes)
-        values |= told
-        places |= dict.fromkeys(told, option[0])
-    raise_all(path, mistakes)
+        told.add(option, Path(), lambda place, text, key: place)
+    raise_all(path, told.mistakes)
+    values = told.values
     given = Settings(
         path=path,
         config=SimulatorConfig(**{key: value for key, value in values.items() if key in CONFIG}),
@@ -152,8 +173,8 @@ def of_text(path: str, text: str, options: Sequence[Source] = ()) -> Settings:
         seed=values.get("seed", SEED),
         desired_retention_for_deck=values.get("desired_retention_for_deck"),
         first_day=values.get("first_day"),
-        places=places,
-        sources=(path, *values.get("sources", ())),
+        places=told.places,
+        sources=(path, *told.files),
     )
     _check_calendar(given)
     return given

@@ -1,8 +1,7 @@
 """A table as spreadsheets write it: commas, semicolons or tabs between the cells, blanks and capitals in the head, rows
-that are empty; and what is wrong with a cell that should be a number.
+that are empty.
 
-  read     the head and the rows of a text
-  cause    why a cell is no number, in words
+  read    the head and the rows of a text
 """
 
 import csv
@@ -76,17 +75,3 @@ def read(path: str, text: str) -> Sheet:
             records[number] = record[:width]
     raise_all(path, mistakes)
     return Sheet(path, delimiter, head, head_line, records, lines)
-
-
-_CAUSES = {
-    r".*%": "is a percentage: 90% is written 0.9",
-    r"\d{4}-\d\d-\d\d": "is a date",
-    r"\d+([./-])\d+\1\d+": "is a date, perhaps: dates are written as 2026-11-23",
-    r"[+-]?\d{1,3}([.,'\s])\d{3}(\1\d{3})*[.,]\d+": "has marks between its thousands: write the digits alone",
-    r"[+-]?\d+,\d+": "has a decimal comma: write a point, or have semicolons or tabs between the cells",
-}
-
-
-def cause(text: str, otherwise: str) -> str:
-    """Why a cell is no number, as far as it can be seen."""
-    return next((told for pattern, told in _CAUSES.items() if re.fullmatch(pattern, text)), otherwise)

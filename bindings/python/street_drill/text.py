@@ -8,14 +8,15 @@ import math
 import os
 import re
 import subprocess
-import sys
 from pathlib import Path
 
 from . import listing
 from .errors import Mistake
 
-# The repository's.
-PROGRAM = os.path.relpath(Path(__file__).resolve().parents[3] / "target" / "bin" / "forecast")
+_BUILT = Path("target") / "bin" / "forecast"
+# The repository's: where this package lies in it, and else where the command is called.
+_OWN = Path(__file__).resolve().parents[3] / _BUILT
+PROGRAM = str(_OWN if os.path.exists(_OWN) else _BUILT)
 _INPUT = "standard input"
 _CHEAPEST = re.compile(r"\(cheapest [0-9A-F]{8} \(rounds \d+\) \(mean ([0-9A-F]{8})\)\)\n", re.ASCII)
 
@@ -26,19 +27,19 @@ def _printed(program: str) -> str:
         ended = subprocess.run([program], stdout=subprocess.PIPE, check=True)
         return ended.stdout.decode("ascii")
     except OSError as error:
-        told = f"{error.strerror}; tools/build forecast makes the program, and --program names it"
+        told = f"{error.strerror}; tools/build forecast makes it, and --program names another"
         raise Mistake(program, told) from error
     except (subprocess.CalledProcessError, UnicodeDecodeError) as error:
         raise Mistake(program, "did not end as it should") from error
 
 
-def _check(printed: str) -> None:
+def _check(program: str, printed: str) -> None:
     """A mistake where it is no answer."""
     if told := listing.refused(printed.removesuffix("\n")):
         raise Mistake(_INPUT, told)
     found = _CHEAPEST.fullmatch(printed)
     if not found:
-        listing.of_text(_INPUT, printed)
+        listing.of_text(program, printed)
     elif not 0 <= listing.float_of(found[1]) < math.inf:
         raise Mistake(_INPUT, "what a trial costs for each street held is no time: no retention is the cheapest")
 
@@ -47,7 +48,7 @@ def answer(program: str) -> str:
     """What the program prints, which is shown in any case; a mistake where it refused the text."""
     printed = _printed(program)
     try:
-        _check(printed)
+        _check(program, printed)
     except Mistake:
         print(printed, end="", flush=True)
         raise

@@ -1,5 +1,6 @@
 """What the tests share: the repository, its example, and its parameters."""
 
+import io
 import re
 import struct
 import subprocess
@@ -19,6 +20,13 @@ def bits_of(value: float) -> str:
 
 
 PARAMETERS = [float_of(bits) for bits in re.search(r"\(parameters ([^)]*)\)", LISTING)[1].split()]
+
+
+class Terminal(io.StringIO):
+    """What a terminal is told."""
+
+    def isatty(self) -> bool:
+        return True
 
 
 def printed(program: str, text: str) -> str:

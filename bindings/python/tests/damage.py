@@ -20,12 +20,20 @@ SETTINGS = (PACKAGE / "examples" / "new_round.toml").read_bytes() + b"""max_cost
 new_cards_ignore_review_limit = true
 first_rating_prob = [0.24, 0.094, 0.495, 0.171]
 desired_retention = 0.9
+first_day = 2026-11-23
 state_rating_costs = [[19.58, 18.79, 13.78, 10.71], [19.38, 17.59, 12.38, 8.94], [16.44, 15.25, 12.32, 8.03]]
 """
 DECK = b"""street,difficulty,stability,last_date,due,interval,desired_retention,reps,lapses
 Mill Lane,5.25,3.5,-2,1,3,0.9,4,1
 "Church Road, upper",7.125,12.5,-10,2.5,12,0.85,9,3
 Station Road,-inf,-inf,-inf,0,-inf,-inf,0,0
+"""
+# As a spreadsheet writes it, for settings with a first day.
+SHEET = b"""Street;Difficulty;Stability;Last Date;Due;Interval;Desired Retention;Reps;Lapses
+;;;;;;;;
+Mill Lane;5,25;3,5;2026-11-21;2026-11-24;3;0,9;4;1
+"Church Road; upper";7,125;12,5;-10;2,5;12;0,85;9;3
+Station Road;;;;;;;;
 """
 PIECES = [b"", b"\n", b",", b'"', b"=", b"[", b"]", b"-", b".", b"nan", b"inf", b"1e99", b"9" * 12, b"9" * 5000,
           b"\xff", b"\0", b"\r", b"#", b"true", b"[" * 3000, b"'", b"\xef\xbb\xbf", b"_", b" ", b"2020-13-01",
@@ -35,8 +43,8 @@ VALUES = [b"0", b"-0", b"-1", b"1", b"0.5", b"1e39", b"-1e39", b"nan", b"inf", b
           b"4294967295", b"4294967296", b"18446744073709551615", b"16777217", b"false", b"'5'", b"[]", b"[1]", b"{}",
           b"1e-10", b"1979-05-27", b"1e9999999999999999999", b""]
 # Each line of an error names one of the two files, and in it a line, a key or a refusal of the library.
-PLACE = re.compile(r"(street_drill: \S*(settings\.toml|deck\.csv): "
-                   r"(line \d+|end of document|'|[\w-]+(\[\d+\])*: |refused \d+ \d+: |has \d+ more mistakes).*\n)+")
+PLACE = re.compile(r"(street_drill: \S*(settings\.toml|deck\.csv)"
+                   r"(: line \d+| \(\w|: end of document| \('|: refused \d+ \d+: |: has \d+ more mistakes).*\n)+")
 BEFORE = "as it was before\n"
 
 
@@ -95,7 +103,8 @@ def check(count: int, seed: int) -> tuple[int, list[str]]:
         for number in range(count):
             which = draw.randrange(3)
             settings = damaged(draw, SETTINGS) if which != 1 else SETTINGS
-            deck = damaged(draw, DECK) if which != 0 else DECK
+            deck = draw.choice([DECK, SHEET])
+            deck = damaged(draw, deck) if which != 0 else deck
             fault = fault_of(folder, settings, deck)
             if fault:
                 faults.append(f"{number}: {fault[:300]}")

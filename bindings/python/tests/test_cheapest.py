@@ -14,7 +14,7 @@ from street_drill.model import Runner
 from street_drill.search import Trial
 from street_drill.streets import Streets
 
-from .common import PACKAGE
+from .common import PACKAGE, Terminal
 from .test_command import EXAMPLE, run
 
 LONG = ["--set", "learn_span=730"]
@@ -50,7 +50,7 @@ class Advice(unittest.TestCase):
 
     def test_alike(self) -> None:
         same = {0.7: 2.0, 0.8: 2.0, 0.9: 2.0}
-        self.assertIn("no retention is advised: all that were tried cost the same\n", answered(0.9, same))
+        self.assertEqual("no retention is advised: all that were tried cost the same\n", answered(0.9, same))
         self.assertIn("the same, since no street is new: a deck's streets keep their own retention\n",
                       answered(0.9, same, Streets(120, 0)))
 
@@ -101,10 +101,6 @@ class Command(unittest.TestCase):
         self.assertIn("no retention is the cheapest", errors)
 
     def test_terminal_sees_trials(self) -> None:
-        class Terminal(io.StringIO):
-            def isatty(self) -> bool:
-                return True
-
         for options, lines in [([], 4), (["--quiet"], 0)]:
             errors = Terminal()
             with contextlib.redirect_stdout(io.StringIO()), contextlib.redirect_stderr(errors):

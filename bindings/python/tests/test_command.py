@@ -75,6 +75,7 @@ class Command(unittest.TestCase):
     def test_percentile(self) -> None:
         self.assertEqual([percentile([1, 2, 4], share) for share in (0, 0.25, 0.5, 1)], [1, 1.5, 2, 4])
         self.assertEqual(percentile([float("inf")] * 3, 0.1), float("inf"))
+        self.assertEqual(percentile([1, 2, float("inf")], 0.5), 2)
 
     def test_next_deck(self) -> None:
         cards, later = self.folder / "cards.csv", self.folder / "later.csv"
@@ -113,6 +114,10 @@ class Command(unittest.TestCase):
         told = self.told("114 streets held", "--open", 114, "--runs", 10)
         self.assertEqual(told, "to the end in 8 of 10 runs from day 14, in 9 of 10 runs from day 23, "
                                "in all 10 runs from day 24")
+        last = [self.forecast(seed).rows[-1].memorized >= 115 for seed in range(7, 27)]
+        self.assertEqual(last.count(True), 10)
+        self.assertEqual(self.told("115 streets held", "--open", 115, "--runs", 20),
+                         "to the end in 10 of 20 runs from day 29, in 10 on no day")
         self.assertEqual(self.told("120 streets held", "--open", 120, "--runs", 3), "on no day in all 3 runs")
 
     def test_summary_of_runs(self) -> None:
@@ -176,12 +181,12 @@ class Command(unittest.TestCase):
     def test_setting_is_told_by_its_key(self) -> None:
         own, parameters = self.folder / "own.toml", EXAMPLE.read_text().split("]")[0] + "]\n"
         for text, told in {
-            parameters + "deck_size = 0": "own.toml: deck_size: refused 2 0: ",
-            parameters + "learn_span = 36501": "own.toml: learn_span: refused 3 0: ",
-            parameters + "max_ivl = 0": "own.toml: max_ivl: refused 4 0: must be 1 to 36,500\n",
-            parameters + "first_rating_prob = [0, 0, 0, 0]": "own.toml: first_rating_prob: refused 4 0: ",
-            parameters.replace("0.796", "nan", 1): "own.toml: parameters: refused 1 9: ",
-            "": "own.toml: parameters: refused 1 34: ",
+            parameters + "deck_size = 0": "own.toml: line 9, column 13 (deck_size): refused 2 0: ",
+            parameters + "learn_span = 36501": "(learn_span): refused 3 0: ",
+            parameters + "max_ivl = 0": "(max_ivl): refused 4 0: must be 1 to 36,500\n",
+            parameters + "first_rating_prob = [0, 0, 0, 0]": "(first_rating_prob): refused 4 0: ",
+            parameters.replace("0.796", "nan", 1): "own.toml: line 2, column 14 (parameters): refused 1 9: ",
+            "": "own.toml (parameters): refused 1 34: ",
         }.items():
             own.write_text(text)
             self.assertIn(told, run("forecast", own)[2])

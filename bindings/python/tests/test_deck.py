@@ -1,8 +1,10 @@
 """A deck from CSV, as programs and spreadsheets write it."""
 
 import math
+import re
 import tempfile
 import unittest
+from dataclasses import replace
 from datetime import date
 from pathlib import Path
 
@@ -10,7 +12,7 @@ from street_drill import Card, Mistake, SimulatorConfig, simulate
 from street_drill.deck import of_text, read, with_retention
 from street_drill.decimals import exact, nearest
 
-from .common import PARAMETERS
+from .common import PACKAGE, PARAMETERS
 
 HEAD = "street,difficulty,stability,last_date,due,interval,desired_retention,reps,lapses\n"
 ROW = "Mill Lane,5,3.5,-2,1,3,0.9,4,1\n"
@@ -40,7 +42,7 @@ class Reading(unittest.TestCase):
             "": "d.csv: line 1: column difficulty is missing in the head, as are all others",
             HEAD.replace("due", "reps"): "d.csv: line 1: column due is missing in the head\nd.csv: line 1: column reps",
             HEAD.replace("street", "reps"): "d.csv: line 1: column reps stands twice",
-            HEAD + ROW + ROW.replace("3.5", "3,5"): "d.csv: line 3: has 10 columns, and the head has 9; a decimal comma",
+            HEAD + ROW + ROW.replace("3.5", "3,5"): "d.csv: line 3: has 10 columns, and the head has 9; a decimal",
             HEAD + "Mill Lane,5\n": "d.csv: line 2: has 2 columns, and the head has 9",
             HEAD + ROW.replace("3.5", "x"): "d.csv: line 2, column 3 (stability): 'x' is no decimal number",
             HEAD + ROW.replace("4,1", "4,-1"): "d.csv: line 2, column 9 (lapses): '-1' is no whole number",
@@ -59,6 +61,10 @@ class Reading(unittest.TestCase):
         told = [line.split("): ")[0] for line in mistake_of(text).splitlines()]
         self.assertEqual(told, ["d.csv: line 2, column 3 (stability", "d.csv: line 2, column 7 (desired_retention",
                                 "d.csv: line 4, column 7 (desired_retention", "d.csv: line 5, column 8 (reps"])
+        # What stands at a street that nobody has drilled yet plays no part.
+        for unknown in [UNKNOWN.replace("-inf,0,0", "90,0,0"), "High Street,,,,,,90,,\n"]:
+            self.assertEqual(mistake_of(HEAD + unknown), "")
+            self.assertEqual(mistake_of(HEAD + unknown + ROW.replace("3.5", "x")).count("\n"), 0)
         many = mistake_of(HEAD + "".join(f"{number}{ROW.replace('3.5', 'x')}" for number in range(1000))).splitlines()
         self.assertEqual((len(many), many[-1]), (21, "d.csv: has 980 more mistakes"))
 
@@ -105,6 +111,12 @@ class Spreadsheets(unittest.TestCase):
         deck = of_text("d.csv", text)
         self.assertEqual((deck.lines, deck.cards[0], len(deck.kept)), ([3, 5], MILL_LANE, 1))
         self.assertEqual([row[0] for row in deck.rows], ["Mill Lane", "High Street"])
+
+    def test_as_the_readme_shows(self) -> None:
+        readme = (PACKAGE / "README.md").read_text()
+        deck = of_text("d.csv", re.search(r"(    Street;(.*\n)+?)\n", readme)[1].replace("    ", ""), MONDAY)
+        self.assertEqual(deck.kept, [replace(MILL_LANE, difficulty=5.25)])
+        self.assertEqual(len(deck.cards), 2)
 
     def test_semicolons(self) -> None:
         self.check(self.SEMICOLONS)

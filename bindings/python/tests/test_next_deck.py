@@ -44,13 +44,14 @@ class Updated(unittest.TestCase):
 
     def test_as_it_was_read(self) -> None:
         """A spreadsheet's deck is written for the spreadsheet: its marks, its head and its columns."""
-        deck = of_text("d.csv", Spreadsheets.SEMICOLONS)
+        deck = of_text("d.csv", Spreadsheets.SEMICOLONS.replace("Mill Lane", '"Mill Lane; upper"'))
         forecast = simulate(SimulatorConfig(deck_size=2, learn_span=20), PARAMETERS, deck.cards)
         text = updated(deck, forecast.cards, 20)
         self.assertEqual(text.splitlines()[0], "Street; Difficulty;STABILITY;Last Date;due;Interval;Desired retention;"
                                                "Reps;lapses")
         self.assertNotIn(".", text)
         after = of_text("d.csv", text)
+        self.assertEqual([row[0] for row in after.rows], ["Mill Lane; upper", "High Street"])
         self.assertEqual([card.stability for card in after.cards], [card.stability for card in forecast.cards])
 
     def test_dates(self) -> None:

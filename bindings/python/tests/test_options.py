@@ -15,16 +15,11 @@ from street_drill import __version__, progress, settings, simulate
 from street_drill.command import main
 from street_drill.course import duration
 
-from .common import PACKAGE
+from .common import PACKAGE, Terminal
 from .test_command import EXAMPLE, rows_of, run
 from .test_deck import HEAD, ROW
 
 SIX, NINE = [PACKAGE / "examples" / f"{name}_a_day.toml" for name in ("six", "nine")]
-
-
-class Terminal(io.StringIO):
-    def isatty(self) -> bool:
-        return True
 
 
 class Settings(unittest.TestCase):
@@ -43,18 +38,27 @@ class Settings(unittest.TestCase):
 
     def test_mistakes(self) -> None:
         for option, value, told in [
-            ("--set", "max_ivl=0", "--set 'max_ivl=0': max_ivl: refused 4 0: must be 1 to 36,500"),
+            ("--set", "max_ivl=0", "--set 'max_ivl=0' (max_ivl): refused 4 0: must be 1 to 36,500"),
             ("--set", "max_ivl", "--set 'max_ivl': end of document: Expected '='"),
-            ("--retention", "90", "--retention: desired_retention: must be above 0 and below 1; 90 % is written 0.9"),
-            ("--seed", -1, "--seed: seed: must be 0 to 18446744073709551615"),
+            ("--retention", "90", "--retention (desired_retention): must be above 0 and below 1; 90 % is written 0.9"),
+            ("--seed", -1, "--seed (seed): must be 0 to 18446744073709551615"),
         ]:
             status, said, errors = run("forecast", EXAMPLE, option, value)
             self.assertEqual((status, said, errors.partition(told)[0]), (2, "", "street_drill: "), errors)
 
+    def test_mistakes_of_all_files(self) -> None:
+        with tempfile.TemporaryDirectory() as folder:
+            paths = [Path(folder, name) for name in ("a.toml", "b.toml")]
+            for path in paths:
+                path.write_text("deck = 3\nseed = -1\n")
+            errors = run("forecast", *paths)[2]
+        self.assertEqual(errors.count("(deck): is no setting"), 2)
+        self.assertEqual(errors.count("(seed): must be"), 2)
+
     def test_count_of_parameters(self) -> None:
         for text, count in [("[1, 2]", 2), ("[]", 0)]:
             errors = run("forecast", EXAMPLE, "--set", f"parameters={text}")[2]
-            self.assertIn(f"parameters: refused 1 34: there are {count} parameters, and 34 are needed\n", errors)
+            self.assertIn(f"(parameters): refused 1 34: there are {count} parameters, and 34 are needed\n", errors)
 
     def test_what_is_not_an_option(self) -> None:
         for options in [["--runs", "1001"], ["--runs", "0"], ["--seed", "x"], ["--retention", "high"], ["--open", "0"]]:
@@ -93,9 +97,13 @@ class WithDeck(unittest.TestCase):
         self.assertIn("  retention: 0.8 for 117 new streets; the deck's 3 keep their own, 0.9\n",
                       run("forecast", EXAMPLE, "--deck", self.deck, "--retention", "0.8")[1])
 
+    def test_no_new_street(self) -> None:
+        self.assertIn("  retention: the deck's 3 keep their own, 0.9\n",
+                      run("forecast", EXAMPLE, "--deck", self.deck, "--set", "learn_limit=0")[1])
+
     def test_more_streets_than_the_deck_may_have(self) -> None:
         errors = run("forecast", EXAMPLE, "--deck", self.deck, "--set", "deck_size=2")[2]
-        self.assertIn("deck_size: refused 2 1: the deck has 3 streets, and deck_size is 2\n", errors)
+        self.assertIn("(deck_size): refused 2 1: the deck has 3 streets, and deck_size is 2\n", errors)
 
     def test_dates(self) -> None:
         """A dated deck, and its next one, which begins on the day after the span."""
@@ -207,13 +215,14 @@ class Progress(unittest.TestCase):
 
 class NoThread(unittest.TestCase):
     def setUp(self) -> None:
-        failing = unittest.mock.patch.object(threading.Thread, "start", side_effect=RuntimeError("can't start new thread"))
+        error = RuntimeError("can't start new thread")
+        failing = unittest.mock.patch.object(threading.Thread, "start", side_effect=error)
         failing.start()
         self.addCleanup(failing.stop)
 
     def test_is_told(self) -> None:
         for command in [["forecast", EXAMPLE, "--runs", 3], ["cheapest", EXAMPLE]]:
-            told = (2, "", "street_drill: can't start new thread (--workers 1 needs no other thread)\n")
+            told = (2, "", "street_drill: --workers: can't start new thread; 1 needs no other thread or process\n")
             self.assertEqual(run(*command, "--workers", 2), told)
 
     def test_one_worker_needs_none(self) -> None:

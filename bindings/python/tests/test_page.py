@@ -198,7 +198,9 @@ class Page(unittest.TestCase):
         self.assertEqual(list(tables), ["round by week", "round by month", "round"])
         for table in tables.values():
             self.assertEqual(len(re.findall('<th class="added"[^>]*>first</th>', table)), len(COLUMNS))
-        self.assertIn(f"<td>{course.bands['cost'].p90[3]:.2f}</td>", tables["round"])
+        seconds, held = course.bands["cost"].p90[3], course.bands["memorized"].p90[3]
+        self.assertIn(f'<td data-seconds="{seconds:.2f}">{duration(seconds)}</td>', tables["round"])
+        self.assertIn(f"<td>{held:.2f}</td>", tables["round"])
 
     def test_given_tables(self) -> None:
         """They stand before the course's own, and open."""
@@ -224,10 +226,10 @@ class Page(unittest.TestCase):
         # The axis ends at an hour and a half.
         highest = BOTTOM - 5000 / 5400 * (BOTTOM - TOP)
         self.assertEqual((min(heights), max(heights)), (round(highest, 1), BOTTOM))
-        self.assertNotIn("<td>", self.tables(text)["century"])
+        self.assertNotIn("<td", self.tables(text)["century"])
         self.assertLess(len(text), 5_000_000)
         short = page([Course("short", {name: tuple(costs[:1000]) for name in COLUMNS}, {})])
-        self.assertEqual(self.tables(short)["short"].count("<td>"), 1000 * 8)
+        self.assertEqual(self.tables(short)["short"].count("<td"), 1000 * 8)
 
     def test_no_numbers(self) -> None:
         for value in [math.nan, math.inf, 0.0, 3.4e38, 1e-45]:
@@ -269,9 +271,11 @@ class Script(unittest.TestCase):
         self.assertEqual(
             self.said(values, [f"nameOf({figure('day')}, 12)", f"nameOf({figure('week')}, 1)",
                                f"shown({course['cost'][1]}, {figure('week')})", f"shown(null, {figure('week')})",
-                               "cell(16, { dataset: { digits: '2' } })", "cell(16, { dataset: {} })"]),
+                               "cell(16, { dataset: { digits: '2' } })", "cell(16, { dataset: {} })",
+                               "read(90, { dataset: { digits: '2', time: '' } })", "read(90, { dataset: {} })",
+                               "read(null, { dataset: { time: '' } })"]),
             ["day 12, 2026-12-05", "week 2, from day 7, 2026-11-30", duration(course["cost"][1]), "no whole week",
-             "16.00", "16"])
+             "16.00", "16", "2 min", "90", "no number"])
 
 
 @unittest.skipUnless(shutil.which("chromium"), "there is no chromium")
@@ -389,6 +393,7 @@ class Listings(unittest.TestCase):
         for text, place in {
             "": "l.txt: line 1: is not the first line",
             "(refused 2 0)\n": "l.txt: line 1: refused 2 0: the deck is 0 or above 512",
+            "(refused 8 3)\n": "l.txt: line 1: refused 8 3: more than 4,096 different intervals are needed",
             good.replace("(day 4 ", "(day 5 "): "l.txt: line 6: is not the line of day 4",
             good + good: "l.txt: line 32: 30 days were forecast, and 61 lines follow",
             good.replace("(cost 4", "(cost x", 1): "l.txt: line 2: is not the line of day 0",

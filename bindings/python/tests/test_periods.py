@@ -60,7 +60,7 @@ class Facts(unittest.TestCase):
         told = dict(facts(course(70), None))
         self.assertEqual(told["first weeks"], "21 min, 1 h 10 min, 1 h 59 min, 2 h 48 min")
         self.assertEqual(told["worst week"], "week 10, from day 63, 7 h 42 min")
-        self.assertEqual(told["mean of 7 days"], "4 h 02 min")
+        self.assertEqual(told["mean week"], "4 h 02 min")
         self.assertEqual(told["first months"], "7 h 15 min, 22 h 15 min, 10 h 45 min")
         self.assertEqual(told["worst month"], "month 2, from day 30, 22 h 15 min")
 

@@ -70,13 +70,15 @@ class Region(unittest.TestCase):
         (self.depots / "depot 1.csv").write_text("street\n")
         status, said, errors = self.region("a")
         self.assertEqual((status, said, os.listdir(self.out)), (2, "", ["depots"]))
-        self.assertRegex(errors, r"^street_drill: .*depot 0.toml: deck: .*\nstreet_drill: .*depot 1.csv: line 1: .*\n$")
+        self.assertRegex(errors, r"^street_drill: .*depot 0.toml: line 1, column 8 \(deck\): .*\n"
+                                 r"street_drill: .*depot 1.csv: line 1: .*\n$")
 
     def test_all_mistakes_of_all_files(self) -> None:
         (self.depots / "depot 0.toml").write_text("deck = 3\nseed = -1\n")
         (self.depots / "depot 1.csv").write_bytes(damage.DECK.replace(b"5.25", b"x").replace(b"12.5", b"y"))
         places = [line.split(": ")[2] for line in self.region("a")[2].splitlines()]
-        self.assertEqual(places, ["deck", "seed", "line 2, column 2 (difficulty)", "line 3, column 3 (stability)"])
+        self.assertEqual(places, ["line 1, column 8 (deck)", "line 2, column 8 (seed)",
+                                  "line 2, column 2 (difficulty)", "line 3, column 3 (stability)"])
 
     def test_deck_without_settings(self) -> None:
         """It is told, and left out; what the command itself wrote there is no deck."""
@@ -106,8 +108,8 @@ class Region(unittest.TestCase):
             alone = dict(line.strip().split(": ", 1) for line in
                          run("forecast", path, *deck, "--open", 100)[1].splitlines()[1:])
             line = next(line for line in said.splitlines() if line.startswith(f"depot {number} "))
-            told = [alone[label] for label in ("span", "100 streets held", "held on the last day", "in all", "busiest day")]
-            self.assertEqual(re.split("  +", line), [f"depot {number}", *told])
+            labels = "span", "100 streets held", "held on the last day", "in all", "busiest day"
+            self.assertEqual(re.split("  +", line), [f"depot {number}", *(alone[label] for label in labels)])
             self.assertIn(f"<td>{alone['100 streets held']}</td>", (self.out / "a.html").read_text())
 
     def test_runs(self) -> None:
@@ -143,8 +145,8 @@ class Region(unittest.TestCase):
 
     def test_no_process(self) -> None:
         with unittest.mock.patch("os.fork", side_effect=BlockingIOError(11, "Resource temporarily unavailable")):
-            told = "street_drill: --workers: no process can be started: Resource temporarily unavailable; 1 needs none\n"
-            self.assertEqual(self.region("a", "--workers", 2), (2, "", told))
+            told = "--workers: [Errno 11] Resource temporarily unavailable; 1 needs no other thread or process\n"
+            self.assertEqual(self.region("a", "--workers", 2), (2, "", f"street_drill: {told}"))
             self.assertEqual(self.region("a", "--workers", 1)[0], 0)
 
     def test_no_depot(self) -> None:

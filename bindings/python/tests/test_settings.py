@@ -37,47 +37,48 @@ class Reading(unittest.TestCase):
 
     def test_places(self) -> None:
         for text, place in {
-            "deck = 5": "s.toml: deck: is no setting",
-            '"a\\nb" = 5': "s.toml: 'a\\nb': is no setting",
-            "deck_size = 5.0": "s.toml: deck_size: must be a whole number and is a decimal number",
-            "deck_size = true": "s.toml: deck_size: must be a whole number and is true or false",
-            "deck_size = -1": "s.toml: deck_size: must be 0 to 4294967295",
-            "new_cards_ignore_review_limit = 1": "s.toml: new_cards_ignore_review_limit: must be true or false",
-            "max_ivl = '5'": "s.toml: max_ivl: must be a number and is a text",
-            "max_ivl = 1e99999999999999999999": "s.toml: max_ivl: has an exponent",
-            "max_ivl = 2020-01-01": "s.toml: max_ivl: must be a number and is a date",
-            "first_rating_prob = [1, 2, 3]": "s.toml: first_rating_prob: must have 4 entries and has 3",
-            "state_rating_costs = [[1, 2, 3, 4], [1, 2, 3, ''], [1, 2, 3, 4]]": "s.toml: state_rating_costs[1][3]: ",
-            "parameters = [0.5, []]": "s.toml: parameters[1]: must be a number and is a list",
-            "[deck_size]": "s.toml: deck_size: must be a whole number and is a table",
+            "deck = 5": "s.toml: line 1, column 8 (deck): is no setting",
+            '"a\\nb" = 5': "s.toml ('a\\nb'): is no setting",
+            "\n  deck_size =  5.0": "s.toml: line 2, column 16 (deck_size): must be a whole number and is a deci",
+            "deck_size = true": "(deck_size): must be a whole number and is true or false",
+            "deck_size = -1": "(deck_size): must be 0 to 4294967295",
+            "new_cards_ignore_review_limit = 1": "(new_cards_ignore_review_limit): must be true or false",
+            "max_ivl = '5'": "(max_ivl): must be a number and is a text",
+            "max_ivl = 1e99999999999999999999": "(max_ivl): has an exponent",
+            "max_ivl = 2020-01-01": "(max_ivl): must be a number and is a date",
+            "first_rating_prob = [1, 2, 3]": "(first_rating_prob): must have 4 entries and has 3",
+            "state_rating_costs = [[1, 2, 3, 4], [1, 2, 3, ''], [1, 2, 3, 4]]": "(state_rating_costs[1][3]): ",
+            "seed = 1\n'parameters' = [0.5,\n []]": "s.toml: line 2, column 16 (parameters[1]): must be a number",
+            "[deck_size]": "s.toml (deck_size): must be a whole number and is a table",
             "seed = 1\nseed = 2\nreps = 3": "s.toml: line 2, column",
             "seed == 1": "s.toml: line 1, column",
             "\nseed = " + "1" * 5000: "s.toml: line 2: a number is too long",
             "\nseed = [\n" + "[" * 5000: "s.toml: line 3: lists lie too deep",
             "seed = 2020-13-41": "s.toml: ",
-            "first_day = '2026-11-23'": "s.toml: first_day: must be a date such as 2026-11-23 and is a text",
-            "first_day = 2026-11-23T08:00:00": "s.toml: first_day: must be a date such as 2026-11-23 and is a date or a t",
-            "first_day = 9999-01-01": "s.toml: first_day: the span does not end before the year 9999",
+            "first_day = '2026-11-23'": "(first_day): must be a date such as 2026-11-23 and is a text",
+            "first_day = 2026-11-23T08:00:00": "(first_day): must be a date such as 2026-11-23 and is a date or a time",
+            "first_day = 9999-01-01": "s.toml: line 1, column 13 (first_day): the span does not end before",
         }.items():
             self.assertIn(place, mistake_of(text))
 
     def test_senseless(self) -> None:
         """What the library takes and no planner means."""
         for text, told in {
-            "desired_retention = 90": "desired_retention: must be above 0 and below 1; 90 % is written 0.9",
-            "desired_retention = 0": "desired_retention: must be above 0 and below 1",
-            "desired_retention = 1.0": "desired_retention: must be above 0 and below 1",
-            "desired_retention_for_deck = 85": "desired_retention_for_deck: must be above 0 and below 1",
-            "max_cost_perday = -1": "max_cost_perday: must be 0 or more; inf is no limit",
-            f"parameters = {[*PARAMETERS, 0.5]}": "parameters: has 35 numbers, and must have 34",
+            "desired_retention = 90": "21 (desired_retention): must be above 0 and below 1; 90 % is written 0.9",
+            "desired_retention = 0": "21 (desired_retention): must be above 0 and below 1",
+            "desired_retention = 1.0": "21 (desired_retention): must be above 0 and below 1",
+            "desired_retention_for_deck = 85": "30 (desired_retention_for_deck): must be above 0 and below 1",
+            "max_cost_perday = -1": "19 (max_cost_perday): must be 0 or more; inf is no limit",
+            f"parameters = {[*PARAMETERS, 0.5]}": "14 (parameters): has 35 numbers, and must have 34",
         }.items():
-            self.assertIn(f"s.toml: {told}", mistake_of(text))
+            self.assertIn(f"s.toml: line 1, column {told}", mistake_of(text))
         for text in ["desired_retention = 0.999", "max_cost_perday = 0", "max_cost_perday = inf"]:
             self.assertEqual(mistake_of(text), "")
 
     def test_all_mistakes(self) -> None:
         told = mistake_of("deck = 5\nseed = -1\ndeck_size = 'x'\nlearn_span = 9")
-        self.assertEqual([line.split(": ")[1] for line in told.splitlines()], ["deck", "seed", "deck_size"])
+        self.assertEqual([line.split(": ")[1] for line in told.splitlines()],
+                         ["line 1, column 8 (deck)", "line 2, column 8 (seed)", "line 3, column 13 (deck_size)"])
 
     def test_first_day(self) -> None:
         self.assertEqual(of_text("s.toml", "first_day = 2026-11-23").first_day, date(2026, 11, 23))
@@ -89,12 +90,13 @@ class Options(unittest.TestCase):
     def test_before_the_file(self) -> None:
         given = of_text("s.toml", "seed = 3\ndeck_size = 9", [("--set 'a'", "deck_size = 7"), ("--seed", "seed = 4")])
         self.assertEqual((given.config.deck_size, given.seed), (7, 4))
-        self.assertEqual((given.place("seed"), given.place("max_ivl")), ("--seed: seed", "s.toml: max_ivl"))
-        self.assertEqual(of_text("s.toml", "", [("--set", "max_ivl = 5")]).place("max_ivl[2]"), "--set: max_ivl[2]")
+        self.assertEqual((given.place("seed"), given.place("max_ivl")), ("--seed (seed)", "s.toml (max_ivl)"))
+        self.assertEqual(of_text("s.toml", "max_ivl = 5").place("max_ivl[2]"), "s.toml: line 1, column 11 (max_ivl[2])")
 
     def test_places(self) -> None:
         told = mistake_of("seed = -1", ("--retention", "desired_retention = 90"), ("--set 'x'", "x"))
-        self.assertEqual([line.split(": ")[0] for line in told.splitlines()], ["s.toml", "--retention", "--set 'x'"])
+        self.assertEqual([line.split(": ")[0] for line in told.splitlines()],
+                         ["s.toml", "--retention (desired_retention)", "--set 'x'"])
 
 
 class Parameters(unittest.TestCase):
@@ -119,7 +121,7 @@ class Parameters(unittest.TestCase):
 
     def test_mistakes(self) -> None:
         for text, told in {"1 2\n3 x\n": r"fsrs\.txt: line 2: 'x' is no decimal number$",
-                           " ".join(["1"] * 35): r"s\.toml: parameters: has 35 numbers, and must have 34$"}.items():
+                           " ".join(["1"] * 35): r"s\.toml: line 1, column 14 \(parameters\): has 35 numbers"}.items():
             with self.assertRaisesRegex(Mistake, told):
                 self.read(text)
         (self.folder / "fsrs.txt").unlink()

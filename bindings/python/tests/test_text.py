@@ -45,7 +45,7 @@ class Text(unittest.TestCase):
     def test_other_programs(self) -> None:
         """One that is not there, one that fails, one that prints something else."""
         with tempfile.TemporaryDirectory() as folder:
-            for name, script, told in [("none", "", "No such file or directory; tools/build forecast makes the program"),
+            for name, script, told in [("none", "", "No such file or directory; tools/build forecast makes it"),
                                        ("fails", "#!/bin/sh\nexit 1\n", "did not end as it should"),
                                        ("half", "#!/bin/sh\necho '(forecast 2 (turns 4) (cards 2))'\n", "2 days were")]:
                 path = Path(folder, name)
