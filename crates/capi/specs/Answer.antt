@@ -1,16 +1,16 @@
 -- A run's answer as numbers. Definitions only.
 --   list_in         the list that refusal 6 is about, 0 for any other refusal
---   numbers_of      the refusal's number and second number, 0 and 0 where there is none, its list, and how far the run
---   came
---   CallContract   what `drill_simulate` promises
-use Rattle.std.specs.Prelude.{ℕ, cond, ◌≡◌, eqb, length, Float, Ok, Err}
+--   numbers_of      the numbers of an answer, and the list of refusal 6
+--   progress_in     how far the run came, of its numbers
+--   CallContract    what `drill_simulate` promises
+use Rattle.std.specs.Prelude.{ℕ, cond, ◌≡◌, eqb, length, Float}
+use Rattle.std.proofs.Math.Option.{Option, none, some}
 use Rattle.runs.specs.declared.Progress.{Progress}
-use Rattle.entry.specs.Refusals.{number_of, second_of}
-use Rattle.runs.specs.State.{State, Lent}
+use Rattle.runs.specs.State.{State, Lent, lists_of}
 use Rattle.entry.specs.Entry.{Inputs, short_list}
 use Rattle.runs.specs.Checked.{lengths_of}
-use Rattle.runs.specs.Simulate.{Answer}
-use Rattle.runs.specs.Demands.{RunContract}
+use Rattle.runs.specs.Simulate.{Told, told_if, progress, rules_for, simulated}
+use Rattle.runs.specs.Demands.{DemandThree}
 use Rattle.capi.specs.declared.run.RunNumbers.{RunNumbers}
 
 -- the first list that fails the test of refusal 6
@@ -21,23 +21,26 @@ list_of i s = short_list i.config (length i.existing) (length i.existing_counts)
 abbrev pub list_in : ℕ → ℕ → ℕ
 list_in number list = cond (eqb number 6) list 0
 
-abbrev pub numbers_from : ℕ → ℕ → ℕ → Progress → RunNumbers
-numbers_from number second list p = record {
-  refusal = number;
-  second = second;
-  list = list_in number list;
-  turns = p.turns;
-  cards = p.cards;
-  queued = p.queued;
-  draws = p.draws;
+abbrev pub numbers_of : Told → ℕ → RunNumbers
+numbers_of x list = record {
+  refusal = x.number;
+  second = x.second;
+  list = list_in x.number list;
+  turns = x.progress.turns;
+  cards = x.progress.cards;
+  queued = x.progress.queued;
+  draws = x.progress.draws;
 }
 
-abbrev pub numbers_of : Answer → ℕ → RunNumbers
-numbers_of (Ok p) list = numbers_from 0 0 list p
-numbers_of (Err x) list = numbers_from (number_of x.refusal) (second_of x.refusal) list x.progress
+abbrev pub numbers_if : Option Told → ℕ → Option RunNumbers
+numbers_if none list = none
+numbers_if (some x) list = some (numbers_of x list)
 
--- the numbers are those of an answer, and what the run promises holds of that answer and of the lists
+abbrev pub progress_in : RunNumbers → Progress
+progress_in x = progress x.turns x.cards x.queued x.draws
+
+-- the numbers are those of the definition's answer, and the lists its lists; and where the run ends Ok, demand 3 holds
 pub record CallContract (i : Inputs) (s : State Float) (numbers : RunNumbers) (l : Lent Float) : Type 0 where
-  pub answer : Answer
-  pub numbers_are : numbers ≡ numbers_of answer (list_of i s)
-  pub run : RunContract i s answer l
+  pub numbers_are : some numbers ≡ numbers_if (told_if (simulated i s).answer) (list_of i s)
+  pub lists : l ≡ lists_of (simulated i s).state
+  pub demand_three : numbers.refusal ≡ 0 → DemandThree (rules_for i) i s (progress_in numbers) l

@@ -1,5 +1,6 @@
 // The run over lists of numbers.
 ghost use Rattle.runs.specs.State.{lent, state};
+ghost use Rattle.runs.specs.Simulate.{told};
 ghost use Rattle.entry.specs.Entry.{inputs};
 ghost use Rattle.capi.specs.Answer.{list_in, numbers_of, CallContract};
 ghost use Rattle.std.specs.Prelude.{◌≡◌};
@@ -32,7 +33,7 @@ pub(crate) fn list_in(number: u32, list: u32) -> u32
 }
 
 fn numbers_of(answer: Result<Progress, Refused>, list: u32) -> RunNumbers
-    ensures { result ≡ numbers_of answer list }
+    ensures { result ≡ numbers_of (told answer) list }
 {
     let (number, second, p) = match answer {
         Ok(p) => (0, 0, p),

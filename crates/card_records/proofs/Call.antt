@@ -184,7 +184,7 @@ module _ (w : List Float) (cs : List Card) (set : Settings) (l : Lent Float) (ro
       record {
         result = subst (λ (c : Check). IsResult (after_check (rules_for given) given c start)
             (refused x (progress 0 0 0 set.seed)) (lists_of start)) (sym q)
-            (record { answer = refl; lists = refl });
+            (record { answer = refl; numbers = refl; lists = refl });
         demand_three = λ p ok. absurd (not_finished x (progress 0 0 0 set.seed) p ok);
         floats_left = sym (ap (λ (c : Check). laid c (float_rows cs) room) q);
         counts_left = sym (ap (λ (c : Check). laid c (count_rows cs) room-counts) q);

@@ -1,5 +1,6 @@
 -- THE RUN, from its inputs and the lent lists to its answer and the lists that it leaves. Definitions only.
 --   Answer, finished, refused      what a run answers: how far it came to its end, or why it was refused and where
+--   Told, told, told_if            an answer by the refusals' numbers
 --   Outcome, answer_of, answer_if  an answer with the state that is left
 --   rules_for i                   the rules of a run's inputs
 --   bound, run_from, result_from   a run from a state
@@ -13,6 +14,7 @@ use Rattle.events.specs.Scalars.{of_parameters}
 use Rattle.events.specs.Drawn.{Drawn}
 use Rattle.entry.specs.declared.Refusal.{Refusal}
 use Rattle.entry.specs.declared.Refusal.TheVariants as refusal
+use Rattle.entry.specs.Refusals.{number_of, second_of}
 use Rattle.runs.specs.declared.Progress.{Progress}
 use Rattle.runs.specs.declared.Refused.{Refused}
 use Rattle.runs.specs.State.{State, Lent, lists_of}
@@ -31,6 +33,21 @@ finished p = Ok p
 
 abbrev pub refused : Refusal → Progress → Answer
 refused r p = Err (record { refusal = r; progress = p })
+
+-- an answer by the table of refusals (docs/RULES.md, E8): its number and second number, 0 and 0 where the run came to its
+-- end, and how far it came
+pub record Told : Type 0 where
+  pub number : ℕ
+  pub second : ℕ
+  pub progress : Progress
+
+abbrev pub told : Answer → Told
+told (Ok p) = record { number = 0; second = 0; progress = p }
+told (Err x) = record { number = number_of x.refusal; second = second_of x.refusal; progress = x.progress }
+
+abbrev pub told_if : Option Answer → Option Told
+told_if none = none
+told_if (some r) = some (told r)
 
 -- an answer, and the state that is left; a run that its bound cuts off has no answer, and the contract of a call
 -- (`IsResult`) says that it has one
@@ -87,4 +104,6 @@ simulated i = simulated_by (rules_for i) i
 -- an answer and lists are those of a result
 pub record IsResult {C : Type 0} (x : Outcome C) (r : Answer) (l : Lent C) : Type 0 where
   pub answer : x.answer ≡ some r
+  -- so its number, its second number and how far it came are those of the definition's answer
+  pub numbers : told_if x.answer ≡ some (told r)
   pub lists : l ≡ lists_of x.state

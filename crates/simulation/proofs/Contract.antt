@@ -18,7 +18,7 @@ use Rattle.runs.specs.State.{State, Lent, lists_of}
 use Rattle.runs.specs.Rules.{rules_of}
 use Rattle.entry.specs.Entry.{Inputs}
 use Rattle.runs.specs.Checked.{checked}
-use Rattle.runs.specs.Simulate.{progress, rules_for, result_from, simulated_by, simulated, IsResult}
+use Rattle.runs.specs.Simulate.{told, progress, rules_for, result_from, simulated_by, simulated, IsResult}
 use Rattle.simulation.specs.Steps.{InnerContract}
 use Rattle.runs.specs.Demands.{start_of, RunContract}
 use Rattle.runs.proofs.Accepted.{accepted}
@@ -35,7 +35,7 @@ module _ (i : Inputs) (s : State Float) where
       → RunContract i s (refused r (progress 0 0 0 i.seed)) (lists_of s)
   unfolding simulated_by
   refused_is r e = record {
-    result = rw e (record { answer = refl; lists = refl });
+    result = rw e (record { answer = refl; numbers = refl; lists = refl });
     demand_three = λ p f. absurd (not_finished r (progress 0 0 0 i.seed) p f);
   }
 
@@ -52,7 +52,12 @@ module _ (i : Inputs) (s : State Float) where
         let ok = accepted i s e in
         let h = has_stopped (rules_for i) i s ok (suits split_mix i s ok) in
         let x = stops_so (rules_for i) i s ok (suits split_mix i s ok) h.0 h.1 in
-        rw (e, x) (record { answer = ap some (sym (plainly.answer h.0 x)); lists = plainly.lists })
+        let a = plainly.answer h.0 x in
+        rw (e, x) (record {
+          answer = ap some (sym a);
+          numbers = ap (λ (z : Answer). some (told z)) (sym a);
+          lists = plainly.lists;
+        })
 
     pub accepted_is : RunContract i s r l'
     accepted_is = record {

@@ -5,9 +5,6 @@ use Rattle.capi.proofs.run.drill_simulate.Goals as goal
 
 pub returns : goal.returns
 returns c =
-    record {
-      answer = c.simulate-told.result;
-      numbers_are = rw (c.numbers_of.ensures, c.short_list-list.ensures, c.lengths.ensures);
-      run = run_left c.simulate-told.new.lists (search rules) (search rules) (search rules) (search rules) (search rules)
-          (search rules) (search rules) (search rules) (search rules) c.simulate-told.ensures.run;
-    }
+    run_left c.simulate-told.new.lists (search rules) (search rules) (search rules) (search rules) (search rules)
+    (search rules) (search rules) (search rules) (search rules)
+    (rw (c.numbers_of.ensures, c.short_list-list.ensures, c.lengths.ensures)) c.simulate-told.ensures.run

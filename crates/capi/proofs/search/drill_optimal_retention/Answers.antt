@@ -5,9 +5,6 @@ use Rattle.capi.proofs.search.drill_optimal_retention.Goals as goal
 
 pub returns : goal.returns
 returns c =
-    record {
-      answer = c.optimal_retention-told.result;
-      numbers_are = rw (c.numbers_of.ensures, c.short_list-list.ensures, c.lengths.ensures);
-      search = search_left c.optimal_retention-told.new.lists (search rules) (search rules) (search rules) (search rules)
-          (search rules) (search rules) (search rules) (search rules) (search rules) c.optimal_retention-told.ensures.search;
-    }
+    search_left c.optimal_retention-told.new.lists (search rules) (search rules) (search rules) (search rules)
+    (search rules) (search rules) (search rules) (search rules) (search rules)
+    (rw (c.numbers_of.ensures, c.short_list-list.ensures, c.lengths.ensures)) c.optimal_retention-told.ensures.search
