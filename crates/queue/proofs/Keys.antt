@@ -91,7 +91,16 @@ pub priority_in : (difficulty : Float) → mag (priority_of difficulty) < 2 ^ 31
 unfolding priority_of
 priority_in difficulty = to_signed_in 31 _
 
--- the same of two cards' keys, where both days fit an i32
+-- the order of two cards' keys, where both days fit an i32
+pub priority_order : (d d' : ℕ) (n n' : Bool) (x x' : Float) → d < 2 ^ 31 → d' < 2 ^ 31
+    → (card_priority d n x ≤ card_priority d' n' x') ↔ NoLater d n (priority_of x) d' n' (priority_of x')
+unfolding card_priority
+priority_order d d' n n' x x' h h' =
+    let e : min d (2 ^ 31 - 1) ≡ d = omega (arith, h) in
+    let e' : min d' (2 ^ 31 - 1) ≡ d' = omega (arith, h') in
+    rw (e, e') (packed_order d d' n n' (priority_of x) (priority_of x') (priority_in x) (priority_in x'))
+
+-- and what it says of the days
 pub priority_day : (d d' : ℕ) (n n' : Bool) (x x' : Float) → d < 2 ^ 31 → d' < 2 ^ 31
     → card_priority d n x ≤ card_priority d' n' x' → 2 * d + bit n ≤ 2 * d' + bit n'
 unfolding card_priority

@@ -22,7 +22,7 @@ use Rattle.entry.specs.declared.Refusal.TheVariants as refusal
 use Rattle.entry.specs.declared.RunRefusal.TheVariants as run_refused
 use Rattle.runs.specs.declared.Progress.{Progress}
 use Rattle.runs.specs.State.{State, Lent, lists_of, with_table}
-use Rattle.runs.specs.Invariant.{lapses_in, DueBounds}
+use Rattle.runs.specs.Invariant.{lapses_in, DueBounds, CountBounds, FirstInOrder}
 use Rattle.runs.specs.Rules.{Rules, rules_with}
 use Rattle.runs.specs.Turn.{Stop, next}
 use Rattle.runs.specs.RunRefusals.{StopCondition}
@@ -124,6 +124,13 @@ pub record Demands {C : Type 0} (R : Rules C) (i : Inputs) (s : State C) : Type 
   -- of every accepted call, refused in the run or not: it comes to its end or to a refusal within cards × (span + 1)
   -- turns, so its bound never shows
   pub ends_within : checked i s ≡ passed → length (turns_of R i s) ≤ turn_bound (cards_of R i s) R.span
+  -- the daily rules and the rows of every accepted call, refused in the run or not
+  pub daily_rules : checked i s ≡ passed → Demand (cards_of R i s) R.span R.costs R.limits (turns_of R i s)
+  pub rows : checked i s ≡ passed → RowsOf R i s (lists_of (end_of R i s))
+  -- of every accepted call, after any number of turns: the card that has the next turn is the first by the queue's order
+  pub turn_is_first : checked i s ≡ passed → (n : ℕ) → FirstInOrder (state_after R i s n)
+  -- and a day's counts are at most the cards
+  pub day_counts : checked i s ≡ passed → (n : ℕ) → CountBounds (cards_of R i s) R.span (state_after R i s n)
   -- of every accepted call, after any number of turns: on each day that is counted the due count is at most the cards,
   -- so it never comes to the top, and at least the queued cards with a last date whose day it is
   pub due_counts : checked i s ≡ passed → (n : ℕ) → DueBounds (cards_of R i s) R.span (state_after R i s n)

@@ -4,15 +4,17 @@
 --   day_in, new_in, key_in, lapses_in, ..   a card's numbers, by the lists of rows
 --   RunBounds                           of the span and the number of cards
 --   StateInvariant                      of a state: its parts are the records before it
-use Rattle.std.specs.Prelude.{ℕ, ◌+◌, ◌≤◌, ◌<◌, min, Bool, false, not, ◌&&◌, List, [], ◌≡◌, eqb, leb, ltb, length, get_or, Float}
+--   DueBounds, CountBounds, FirstInOrder   what it says of the due counts, of a day's counts, and of the card that has
+--   the turn
+use Rattle.std.specs.Prelude.{ℕ, ◌+◌, ◌≤◌, ◌<◌, min, Bool, true, false, not, ◌&&◌, List, [], ◌≡◌, eqb, leb, ltb, length, get_or, Float}
 use Rattle.std.specs.Float.{nan}
 use Rattle.turns.specs.Sums.{bit, sum_to}
 use Rattle.cards.specs.Day.{day_of, is_new, IntervalInRange}
 use Rattle.cards.specs.Cards.{no_floats, most_lapses}
 use Rattle.days.specs.Counts.{learned_at, reviewed_at, correct_at, introduced_at}
 use Rattle.days.specs.Due.{due_days}
-use Rattle.queue.specs.Key.{card_priority}
-use Rattle.queue.specs.Queue.{Queue}
+use Rattle.queue.specs.Key.{priority_of, card_priority, NoLater}
+use Rattle.queue.specs.Queue.{Queue, front}
 use Rattle.queue.specs.Sound.{Keyed, queued}
 use Rattle.intervals.specs.Table.{Table, places, free_at, value_at}
 use Rattle.entry.specs.Entry.{most_cards, most_days}
@@ -96,3 +98,19 @@ pub record StateInvariant {C : Type 0} (cards span : ℕ) (s : State C) : Type 0
 pub record DueBounds {C : Type 0} (cards span : ℕ) (s : State C) : Type 0 where
   pub least : (d : ℕ) → d < due_days span → sum_to cards (λ c. bit (awaits s.cards s.queue d c)) ≤ get_or s.due d 0
   pub most : (d : ℕ) → d < due_days span → get_or s.due d 0 ≤ cards
+
+-- OF A DAY'S COUNTS: at most the run's cards are learned and reviewed, at most the reviewed recalled, at most the cards
+-- introduced
+pub record CountBounds {C : Type 0} (cards span : ℕ) (s : State C) : Type 0 where
+  pub events : (d : ℕ) → d < span → learned_at s.days d + reviewed_at s.days d ≤ cards
+  pub recalls : (d : ℕ) → d < span → correct_at s.days d ≤ reviewed_at s.days d
+  pub introduced : (d : ℕ) → d < span → introduced_at s.days d ≤ cards
+
+-- OF THE CARD THAT HAS THE TURN: it comes no later than every queued card, by its day, reviews before new cards, and
+-- its difficulty × 100
+abbrev pub FirstInOrder : {C : Type 0} → State C → Type 0
+FirstInOrder s =
+    let f = front s.queue in
+    (c : ℕ) → queued s.queue c ≡ true
+    → NoLater (day_in s.cards f) (new_in s.cards f) (priority_of (difficulty_in s.cards f))
+    (day_in s.cards c) (new_in s.cards c) (priority_of (difficulty_in s.cards c))
