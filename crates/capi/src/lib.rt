@@ -3,9 +3,9 @@
 // one, and refusals, verdicts and answers are told as numbers.
 #![tactic(auto)]
 
-mod intervals;
-mod model;
+mod card_queue;
+mod interval_table;
+mod memory_model;
 mod numbers;
-mod queue;
 mod run;
 mod search;

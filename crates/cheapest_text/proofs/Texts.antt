@@ -11,7 +11,8 @@ use Rattle.settings_text.specs.declared.Settings.{Settings}
 use Rattle.settings_text.specs.declared.Reading.{Reading}
 use Rattle.std.specs.Prelude.{Result, Ok, Err}
 use Rattle.settings_text.specs.declared.ReadError.{ReadError}
-use Rattle.settings_text.specs.Forms.{reading, told}
+use Rattle.settings_text.specs.Forms as Forms
+use Rattle.settings_text.specs.Forms.{reading}
 use Rattle.report.specs.Lines.{refused_line}
 use Rattle.report.proofs.WriteLaws.{refused-short, cheapest-short}
 use Rattle.entry.specs.Refusals.{number_of, second_of}
@@ -32,7 +33,7 @@ unfolding cheapest_search
 searched_is s g w r l eg ew k = rw (sym eg, sym ew) k.result.answer
 
 module _ (text : List ℕ) (base : Settings) (x : Reading) (b : base ≡ default_settings) (e : x ≡ reading text base) where
-  pub line_text : (r : ReadError) → x.verdict ≡ Err r → cheapest_text text ≡ refused_line 11 (told r)
+  pub line_text : (r : ReadError) → x.verdict ≡ Err r → cheapest_text text ≡ refused_line (Forms.number_of r) (Forms.second_of r)
   unfolding cheapest_text verdict_text
   line_text r v = rw (sym b, sym e, v)
 
@@ -48,7 +49,7 @@ answer_fits (Err r) = omega (arith, refused-short (number_of r) (second_of r))
 
 verdict_fits : (v : Result Unit ReadError) (s : Settings) → length (verdict_text v s) ≤ 90
 unfolding verdict_text
-verdict_fits (Err e) s = omega (arith, refused-short 11 (told e))
+verdict_fits (Err e) s = omega (arith, refused-short (Forms.number_of e) (Forms.second_of e))
 verdict_fits (Ok u) s = answer_fits (optimum_of (cheapest_search s).answer)
 
 pub text_fits : (text : List ℕ) → length (cheapest_text text) ≤ 90

@@ -6,7 +6,8 @@ use Rattle.float32.specs.Numbers.{0ᶠ}
 use Rattle.settings_text.specs.declared.Settings.{Settings}
 use Rattle.std.specs.Prelude.{Result, Ok, Err}
 use Rattle.settings_text.specs.declared.ReadError.{ReadError}
-use Rattle.settings_text.specs.Forms.{reading, told}
+use Rattle.settings_text.specs.Forms as Forms
+use Rattle.settings_text.specs.Forms.{reading}
 use Rattle.report.specs.Lines.{refused_line, cheapest_line}
 use Rattle.entry.specs.declared.Refusal.{Refusal}
 use Rattle.entry.specs.Refusals.{number_of, second_of}
@@ -25,10 +26,10 @@ cheapest_search s =
 
 unfoldable pub answer_text : SearchAnswer → List ℕ
 answer_text (Ok x) = cheapest_line x.retention x.rounds x.mean
-answer_text (Err r) = refused_line (number_of r) (second_of r)
+answer_text (Err r) = refused_line (Forms.number_of r) (Forms.second_of r)
 
 unfoldable pub verdict_text : Result Unit ReadError → Settings → List ℕ
-verdict_text (Err e) s = refused_line 11 (told e)
+verdict_text (Err e) s = refused_line (Forms.number_of e) (Forms.second_of e)
 verdict_text (Ok u) s = answer_text (optimum_of (cheapest_search s).answer)
 
 unfoldable pub cheapest_text : List ℕ → List ℕ

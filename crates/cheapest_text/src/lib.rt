@@ -8,8 +8,8 @@ ghost use Rattle.cheapest_text.specs.Cheapest.{cheapest_search, answer_text, che
 
 use entry::{Learner, Lists, Refusal, refusals};
 use forecast_text::settings;
-use settings_text::Settings;
 use retention::Optimum;
+use settings_text::Settings;
 
 // The search over settings, in 64 rounds at the most. Its lists stand here as in forecast_text.
 fn search(set: Settings) -> Result<Optimum, Refusal>
@@ -57,7 +57,7 @@ pub fn cheapest(out: &mut [u8], text: &[u8]) -> Option<usize>
 {
     let reading = settings_text::reader::read(text, settings::default_settings());
     match reading.verdict {
-        Err(e) => report::write_refused(out, 0, 11, e.told()),
+        Err(e) => report::write_refused(out, 0, e.number(), e.second()),
         Ok(()) => write_answer(out, search(reading.settings)),
     }
 }

@@ -12,7 +12,8 @@ use borrow.Author.Tests.{le-leb, le-ltb, ltb-false}
 use Rattle.settings_text.specs.declared.Settings.{Settings}
 use Rattle.std.specs.Prelude.{Result, Ok, Err}
 use Rattle.settings_text.specs.declared.ReadError.{ReadError}
-use Rattle.settings_text.specs.Forms.{reading, told}
+use Rattle.settings_text.specs.Forms as Forms
+use Rattle.settings_text.specs.Forms.{reading}
 use Rattle.report.specs.Lines.{forecast_line, refused_line}
 use Rattle.report.specs.Rows.{day_lines}
 use Rattle.report.proofs.WriteLaws.{forecast-short, refused-short}
@@ -67,7 +68,7 @@ entry_is s =
     )
 
 entry-refused : (s : Settings) (r : Refusal) → entry_of s ≡ Err r
-    → run_text s ≡ refused_line (number_of r) (second_of r)
+    → run_text s ≡ refused_line (Forms.number_of r) (Forms.second_of r)
 unfolding run_text forecast_run run_with simulated_by answer_text
 entry-refused s r e = rw (entry_is s, e)
 
@@ -89,7 +90,7 @@ answer_fits span (some (Err x)) days costs memorized h =
 
 verdict_fits : (v : Result Unit ReadError) (s : Settings) → length (verdict_text v s) ≤ room
 unfolding verdict_text run_text config_of
-verdict_fits (Err e) s = omega (arith, refused-short 11 (told e))
+verdict_fits (Err e) s = omega (arith, refused-short (Forms.number_of e) (Forms.second_of e))
 verdict_fits (Ok u) s =
     let r = forecast_run s in
     answer_fits (zero_above most_span s.span) r.answer r.state.days r.state.costs r.state.memorized

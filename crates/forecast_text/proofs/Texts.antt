@@ -22,7 +22,8 @@ use Rattle.report.proofs.RowLaws.{placed_to, placed-full, written_sets, days_who
 use Rattle.settings_text.specs.declared.Settings.{Settings}
 use Rattle.settings_text.specs.declared.Reading.{Reading}
 use Rattle.settings_text.specs.declared.ReadError.{ReadError}
-use Rattle.settings_text.specs.Forms.{reading, told}
+use Rattle.settings_text.specs.Forms as Forms
+use Rattle.settings_text.specs.Forms.{reading}
 use Rattle.runs.specs.Simulate.{Answer}
 use Rattle.runs.specs.declared.Refused.{Refused}
 use Rattle.runs.specs.declared.Progress.{Progress}
@@ -117,7 +118,7 @@ module _ (s : Settings) (a : Answer) (days : List (List ℕ)) (costs memorized :
 -- ---- what is printed of a text
 
 module _ (text : List ℕ) (base : Settings) (x : Reading) (b : base ≡ default_settings) (e : x ≡ reading text base) where
-  pub line_text : (r : ReadError) → x.verdict ≡ Err r → forecast_text text ≡ refused_line 11 (told r)
+  pub line_text : (r : ReadError) → x.verdict ≡ Err r → forecast_text text ≡ refused_line (Forms.number_of r) (Forms.second_of r)
   unfolding forecast_text verdict_text
   line_text r v = rw (sym b, sym e, v)
 

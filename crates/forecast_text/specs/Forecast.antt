@@ -11,7 +11,8 @@ use Rattle.settings_text.specs.declared.Settings.{Settings}
 use Rattle.std.specs.Prelude as std
 use Rattle.std.specs.Prelude.{Some, None, Ok, Err}
 use Rattle.settings_text.specs.declared.ReadError.{ReadError}
-use Rattle.settings_text.specs.Forms.{reading, told}
+use Rattle.settings_text.specs.Forms as Forms
+use Rattle.settings_text.specs.Forms.{reading}
 use Rattle.report.specs.Lines.{forecast_line, refused_line}
 use Rattle.report.specs.Rows.{day_lines}
 use Rattle.entry.specs.Refusals.{number_of, second_of}
@@ -55,7 +56,7 @@ run_text s =
 
 -- 11 first, with its line; then the refusals of the run, in their order, and what it gives
 unfoldable pub verdict_text : std.Result Unit ReadError → Settings → List ℕ
-verdict_text (Err e) s = refused_line 11 (told e)
+verdict_text (Err e) s = refused_line (Forms.number_of e) (Forms.second_of e)
 verdict_text (Ok u) s = run_text s
 
 unfoldable pub forecast_text : List ℕ → List ℕ

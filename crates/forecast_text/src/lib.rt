@@ -10,8 +10,8 @@ ghost use Rattle.forecast_text.specs.Forecast.{forecast_text, printed, left};
 
 use days::DayRow;
 use entry::{Learner, Lists, refusals};
-use settings_text::Settings;
 use report::Rows;
+use settings_text::Settings;
 use simulation::{Progress, Refused};
 
 pub mod settings;
@@ -99,7 +99,7 @@ pub fn forecast(out: &mut [u8], text: &[u8]) -> Option<usize>
     }
     let reading = settings_text::reader::read(text, settings::default_settings());
     match reading.verdict {
-        Err(e) => report::write_refused(out, 0, 11, e.told()),
+        Err(e) => report::write_refused(out, 0, e.number(), e.second()),
         Ok(()) => forecast_settings(out, reading.settings),
     }
 }

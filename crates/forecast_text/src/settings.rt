@@ -4,8 +4,8 @@ ghost use Rattle.forecast_text.specs.Settings.{default_config, bits_of, floats_o
 ghost use Rattle.forecast_text.specs.Settings.{zero_above, config_of};
 
 use cards::SimulatorConfig;
-use settings_text::Settings;
 use model::defaults;
+use settings_text::Settings;
 
 // `SimulatorConfig::default`.
 pub fn default_config() -> SimulatorConfig

@@ -1,7 +1,7 @@
 // Replays stored answers of the Rust, of single functions and of whole runs: `stdin` has the calls, `stdout` what the
 // Rust answered, and this program prints what the port answers. `harness/run store` writes both files from the patched
 // Rust (and from rustc's own functions on floats). A line of `stdin` is a function's number and four words in hex;
-// `answers.rt`, `kept.rt`, `inputs.rt` and `runs.rt` say which.
+// `answers.rt`, `kept.rt`, `inputs.rt` and `whole.rt` say which.
 #![tactic(auto)]
 
 mod answers;
@@ -9,7 +9,7 @@ mod digest;
 mod inputs;
 mod kept;
 mod record;
-mod runs;
+mod whole;
 mod shown;
 
 use inputs::Inputs;
@@ -25,7 +25,7 @@ fn step(rt: &impl Print, kept: &mut Kept, inputs: &mut Inputs, r: Record) -> io:
         20..=49 => println!(rt; "{:08x}", answers::of_memory(&kept.parameters, r))?,
         50..=59 => println!(rt; "{:08x}", kept.queued(r))?,
         60..=69 => println!(rt; "{:08x}", kept.scheduled(r))?,
-        76 | 77 => runs::run(rt, &kept.parameters, inputs, r)?,
+        76 | 77 => whole::run(rt, &kept.parameters, inputs, r)?,
         _ => inputs.tell(r),
     }
     Ok(())

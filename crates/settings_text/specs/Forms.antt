@@ -6,7 +6,7 @@
 --   form n ps s              the same, rejected where the name was seen before
 --   line ps s                a line: blanks, or one form
 --   reading text base        the settings that a text says, or refusal 11 with its line
---   told e                   the number that is told behind 11
+--   number_of e, second_of e   the numbers of a text that is refused
 use Rattle.settings_text.specs.Quoted.{bytes}
 use Rattle.std.specs.Prelude.{ℕ, zero, suc, Bool, true, false, cond, List, [], ◌∷◌, length, get_or, set, replicate, ltb}
 use Rattle.std.specs.Prelude.{Option, Some, None, option_map, option_and_then, bytes_eq}
@@ -151,7 +151,10 @@ unfoldable pub reading : List ℕ → Settings → Reading
 reading text base =
     cond (ltb 32768 (length text)) (refused_as TooLong base) (read_lines 1 (lines text) (with_seen (replicate 10 false) base))
 
--- the number behind 11
-unfoldable pub told : ReadError → ℕ
-told TooLong = 0
-told (Line n) = n
+-- the numbers of a text that is refused: 11, and its line, 0 for one that is too long
+abbrev pub number_of : ReadError → ℕ
+number_of e = 11
+
+unfoldable pub second_of : ReadError → ℕ
+second_of TooLong = 0
+second_of (Line n) = n

@@ -2,7 +2,7 @@
 #![tactic(auto)]
 
 ghost use Rattle.std.specs.Prelude.{◌≡◌};
-ghost use Rattle.settings_text.specs.Forms.{told};
+ghost use Rattle.settings_text.specs.Forms.{number_of, second_of};
 
 mod forms;
 mod numbers;
@@ -60,10 +60,17 @@ pub enum ReadError {
 }
 
 impl ReadError {
-    // The number told behind 11: the line, 0 for a text that is too long.
-    #[tactic(auto, unfolding(crate::specs::Forms::told))]
-    pub fn told(self) -> u32
-        ensures { result ≡ told self }
+    // The table's number of such a refusal.
+    pub fn number(self) -> u32
+        ensures { result ≡ number_of self }
+    {
+        11
+    }
+
+    // Its second number: the line, 0 for a text that is too long.
+    #[tactic(auto, unfolding(crate::specs::Forms::second_of))]
+    pub fn second(self) -> u32
+        ensures { result ≡ second_of self }
     {
         match self {
             ReadError::TooLong => 0,

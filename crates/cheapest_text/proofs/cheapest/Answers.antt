@@ -6,7 +6,7 @@ pub returns-in-Err : goal.returns-in-Err
 returns-in-Err c =
     let text = line_text c.args.text.now _ _ c.default_settings.ensures
     c.read-reading.ensures c.in-Err.e c.in-Err.is in
-    rw (text, sym c.told.ensures) c.write_refused.ensures
+    rw (text, sym c.number.ensures, sym c.second.ensures) c.write_refused.ensures
 
 pub returns-in-Ok : goal.returns-in-Ok
 returns-in-Ok c =

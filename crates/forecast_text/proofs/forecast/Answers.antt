@@ -1,4 +1,4 @@
-use Rattle.settings_text.specs.Forms.{told}
+use Rattle.settings_text.specs.Forms as Forms
 use Rattle.forecast_text.specs.Forecast.{forecast_text}
 use Rattle.forecast_text.proofs.Texts.{no_room, line_text, read_text, refused-printed, printed_is}
 use Rattle.forecast_text.proofs.forecast.Goals as goal
@@ -13,9 +13,9 @@ returns-in-Err c =
     let a = c.args in
     let text = line_text a.text.now _ _ c.default_settings.ensures c.read-reading.ensures
     c.in-Err.e c.in-Err.is in
-    let p = refused-printed a.out.now 11 (told c.in-Err.e)
+    let p = refused-printed a.out.now (Forms.number_of c.in-Err.e) (Forms.second_of c.in-Err.e)
     c.write_refused.result c.write_refused.new.out
-    c.if-out-lt133680.false (rw c.told.ensures at c.write_refused.ensures.0) (rw c.told.ensures at c.write_refused.ensures.1) in
+    c.if-out-lt133680.false (rw (c.number.ensures, c.second.ensures) at c.write_refused.ensures.0) (rw (c.number.ensures, c.second.ensures) at c.write_refused.ensures.1) in
     printed_is a.out.now (forecast_text a.text.now) _ _ c.if-out-lt133680.false (rw text p)
 
 pub returns-in-Ok : goal.returns-in-Ok

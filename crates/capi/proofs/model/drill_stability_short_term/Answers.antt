@@ -1,7 +1,0 @@
-use Rattle.model.specs.Model.{stability_for_set}
-use Rattle.model.specs.Runtime.{runtime_of}
-use Rattle.capi.proofs.model.drill_stability_short_term.Goals as goal
-
-pub returns : goal.returns
-unfolding stability_for_set runtime_of
-returns c = rw (c.stability_short_term.ensures, c.new.ensures)
