@@ -2,7 +2,7 @@
  * seconds, and how many streets are held in memory; and the cheapest retention.
  *
  * It is the simulation of fsrs-rs with FSRS-7. With this library's draws, exp, ln and powf put into the Rust, all
- * results that were compared have the same bits; with the Rust's own they differ (docs/DIFFERENCES.md).
+ * results that were compared have the same bits. With the Rust's own they differ (docs/DIFFERENCES.md).
  *
  * Link libcapi.a, which `tools/build capi` writes (x86-64 Linux). examples/new_round.c is a whole program.
  *
