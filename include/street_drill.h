@@ -105,8 +105,8 @@ struct drill_config {
     float relearning_step_transitions[3][4];
     float state_rating_costs[3][4]; /* seconds by learning, review and relearning, and by rating */
     /* Steps are the further ratings after a learning's first one, and those after a lapse. They end at a 4, at so many
-     * 3s since the last 1 (a 2 changes nothing), and after five steps. A learning that begins with a 3 needs one 3
-     * fewer, also after a later 1; one that begins with a 4 has no steps. 0: no steps */
+     * 3s since the start or the last 1 (a 2 changes nothing), and after five steps. A learning that begins with a 3
+     * needs one 3 fewer, also after a later 1; one that begins with a 4 has no steps. 0: no steps */
     uint32_t learning_step_count;
     uint32_t relearning_step_count;
 };
@@ -157,8 +157,8 @@ struct drill_answer {
 };
 
 /* A run. Of the parameters the first 34 are read, FSRS-7's. New cards are reviewed at desired_retention, existing ones
- * at their own; new cards are made until there are deck_size. The lists that it writes may hold anything before; the
- * interval table (keys and intervals) is emptied first.
+ * at their own. New cards are made until there are deck_size, but none where learn_limit is 0. The lists that it writes
+ * may hold anything before; the interval table (keys and intervals) is emptied first.
  *
  * After it cards and counts are the updated deck: the existing cards that were not passed over, in their order, then
  * the new ones. days, costs (seconds) and memorized (the sum of the cards' chances of recall) have a place for each
@@ -288,12 +288,12 @@ uint32_t drill_search_answer(struct drill_search s);
  * formula */
 uint32_t drill_sample_size(uint32_t span);
 /* what a run of so many days costs for each card memorized on its last day, from the lists that it left: the first span
- * costs added up in their order, over memorized[span - 1]. A NaN where a list is shorter than span; it adds span times
- * all the same. For a span of 0: -0.0f over memorized[0], so a zero or a NaN, and a NaN where there is no memorized[0]
- */
+ * costs added up in their order, over memorized[span - 1]. A NaN where a list is shorter than span (it makes span
+ * additions all the same). For a span of 0: -0.0f over memorized[0], so a zero or a NaN; a NaN where there is no
+ * memorized[0] */
 float drill_target(uint32_t span, const float *costs, size_t costs_len, const float *memorized, size_t memorized_len);
-/* the mean of the first n, added up in their order. A NaN where n is 0 or the list is shorter; it adds n times all the
- * same */
+/* the mean of the first n, added up in their order. A NaN where n is 0 or the list is shorter (it makes n additions all
+ * the same) */
 float drill_mean(const float *targets, size_t targets_len, uint32_t n);
 
 /* ==== the float modes
@@ -339,8 +339,8 @@ float drill_forgetting_curve_and_derivative(const float *w, size_t w_len, float 
 
 /* Intervals: the days until the chance of recall has fallen to the desired one; 0 to 36500, never a NaN. The desired
  * retention is kept within 0.0001 to 0.9999, and from 0.9999 on the interval is 0. A stability is kept within 0.0001 to
- * 36500 (by the bisection at least 0.0001), a difficulty within 1 to 10. Where the desired retention or the chance is a
- * NaN, the interval means nothing. */
+ * 36500 (by drill_next_interval_bisection only at 0.0001 or more), a difficulty within 1 to 10. Where a stability, the
+ * desired retention or the chance is a NaN, the interval means nothing. */
 
 float drill_next_interval(const float *w, size_t w_len, float stability, float desired);
 float drill_next_interval_for_state(const float *w, size_t w_len, float stability, float difficulty, float fast,
@@ -406,7 +406,7 @@ bool drill_recalled(float chance, uint32_t word);
 /* ==== numbers, with the same bits on every machine
  *
  * exp, ln and powf are this library's own, not the platform's. A step is the distance between neighbouring floats at
- * the exact value. What is said of them is proved. */
+ * the exact value. What is said of them is proved. exp and ln of a NaN are NaNs. */
 
 /* 0 from -87.33655 down (bits C2AEAC50), INFINITY from 88.72284 up (bits 42B17218), within a step between; exp(0) is 1.
  * exp(-88) is 0, where C's expf gives 6.05e-39 */
@@ -417,8 +417,8 @@ float drill_ln(float x);
 /* Of a finite x above 0 and a finite y: within two steps where x^y is 2^-126 to 2^127, 0 where it is below 2^-127,
  * INFINITY where it is 2^129 or more. Between these, from 2^-127 to 2^-126 and from 2^127 to 2^129, the value is that
  * of crates/elementary/specs/Power.antt, and no bound is proved. powf(2^-70, 2) is 0, where C gives 2^-140.
- * An x below 0, -INFINITY too, gives a NaN unless y is 0, where C and the Rust give a number for a whole y. x^0 and 1^y
- * are 1, even with a NaN; any other NaN gives a NaN. Zeros and infinities are as in C (Annex F). */
+ * An x below 0, -INFINITY too, gives a NaN unless y is 0; C and the Rust give a number where y is whole or infinite.
+ * x^0 and 1^y are 1, even with a NaN; any other NaN gives a NaN. Else zeros and infinities are as in C (Annex F). */
 float drill_powf(float x, float y);
 
 /* All but drill_pack are as Rust has them; where Rust leaves the value open or panics, the comment says it. */

@@ -34,9 +34,9 @@ pub struct SimulatorConfig {
     pub relearning_step_transitions: [[f32; 4]; 3],
     /// Seconds that a rating costs (again, hard, good, easy), a row each for learning, review and relearning.
     pub state_rating_costs: [[f32; 4]; 3],
-    /// When the steps after a learning's first rating end: at so many ratings of 3 since the last 1 (a 2 changes
-    /// nothing). They end at a 4 too, and after five steps. A learning that begins with a 3 needs one 3 fewer, also
-    /// after a later 1; one that begins with a 4 has no steps. With 0 there are none.
+    /// When the steps after a learning's first rating end: at so many ratings of 3 since the start or the last 1 (a 2
+    /// changes nothing). They end at a 4 too, and after five steps. A learning that begins with a 3 needs one 3 fewer,
+    /// also after a later 1; one that begins with a 4 has no steps. With 0 there are none.
     pub learning_step_count: usize,
     /// The same for the steps after a lapse, which stands for a rating of 1.
     pub relearning_step_count: usize,
