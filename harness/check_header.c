@@ -117,7 +117,9 @@ int main(void) {
     good &= named.refusal == DRILL_OK && named.turns == 2 && named.cards == 1 && named.draws != 42 && costs[0] == 1;
     const struct drill_found cheapest = drill_cheapest(inputs, DRILL_MOST_ROUNDS, lists);
     good &= cheapest.refusal == DRILL_OK && cheapest.retention == found.retention && cheapest.mean == found.mean;
-    /* each length is that of its own lists */
+    good &=
+        drill_sample_size(30) == 180 && drill_target(1, costs, 1, memorized, 1) >= 1 && drill_mean(costs, 1, 1) == 1;
+    /* each length is that of its own lists; with no table the lists are left as set up */
     size_t *const lengths[4] = {&lists.table_len, &lists.due_len, &lists.days_len, &lists.cards_len};
     const uint32_t short_lists[4] = {DRILL_LIST_NONE, DRILL_LIST_DUE, DRILL_LIST_DAYS, DRILL_LIST_CARDS};
     for (int i = 0; i < 4; i++) {
@@ -129,8 +131,6 @@ int main(void) {
     good &= drill_search_next(search) == 0.7f && drill_search_answer(search) == DRILL_SEARCH_OPEN;
     search = drill_search_take(search, 1);
     good &= search.begun && search.state.fx == 1 && drill_search_answer(search) == DRILL_SEARCH_OPEN;
-    good &=
-        drill_sample_size(30) == 180 && drill_target(1, costs, 1, memorized, 1) >= 1 && drill_mean(costs, 1, 1) == 1;
     puts(good ? "header: compiled, linked, and each function called" : "header: a function answered wrongly");
     return !good;
 }

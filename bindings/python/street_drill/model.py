@@ -90,7 +90,8 @@ Cards = Iterable[Any]
 
 @dataclass(frozen=True, slots=True)
 class Day:
-    """A day's row: counts, the cards introduced so far, seconds, and the cards held in memory."""
+    """A day's row: counts, seconds, and the cards held in memory. `introduced` are the existing cards that were kept and
+    have a last date, be it a later day, and all cards learned so far."""
 
     learned: int
     reviewed: int
@@ -119,7 +120,12 @@ _CARD_KINDS = {**dict.fromkeys(CARD_FLOATS, "f"), **dict.fromkeys(CARD_COUNTS, "
 
 @dataclass(frozen=True, repr=False)
 class Forecast:
-    """A run that ended. `due` counts the cards due each day, to half a span beyond; `draws` is the draws' state."""
+    """A run that ended. `draws` is the draws' state.
+
+    `due` has a place for each day, to half a span beyond. It begins with the existing cards that were kept, each on the
+    day it is due; an event adds one on the day for which it schedules the card; a card with a last date that is put off
+    moves to the next day.
+    """
 
     rows: tuple[Day, ...]
     due: tuple[int, ...]

@@ -26,7 +26,7 @@ pub struct SimulatorConfig {
     pub review_limit: usize,
     /// Whether learnings leave the review limit alone; else both together stay within it.
     pub new_cards_ignore_review_limit: bool,
-    /// A card with so many lapses is retired, so with `Some(0)` every card is; `None` is no limit.
+    /// A card with so many lapses or more is retired, so with `Some(0)` every card is; `None` is no limit.
     pub suspend_after_lapses: Option<u32>,
     /// Weights of a learning's next rating (again, hard, good, easy), a row by the one before it: again, hard, good.
     pub learning_step_transitions: [[f32; 4]; 3],
@@ -34,9 +34,11 @@ pub struct SimulatorConfig {
     pub relearning_step_transitions: [[f32; 4]; 3],
     /// Seconds that a rating costs (again, hard, good, easy), a row each for learning, review and relearning.
     pub state_rating_costs: [[f32; 4]; 3],
-    /// How many learning steps a new card has.
+    /// When the steps after a learning's first rating end: at so many ratings of 3 since the start or the last 1 (a 2
+    /// changes nothing). They end at a 4 too, and after five steps. A learning that begins with a 3 needs one 3 fewer,
+    /// also after a later 1; one that begins with a 4 has no steps. With 0 there are none.
     pub learning_step_count: usize,
-    /// How many relearning steps a lapsed card has.
+    /// The same for the steps after a lapse, which stands for a rating of 1.
     pub relearning_step_count: usize,
 }
 

@@ -57,12 +57,12 @@ pub enum Error {
     },
     /// 6: a list that was lent is too short.
     Lists,
-    /// 7: a chance of recall is not 0 to 1.
+    /// 7: a card is to be reviewed, and its chance of recall is a NaN or not 0 to 1.
     ChanceOutOfRange {
         /// The card, by its place among the run's cards, from 0.
         card: u32,
     },
-    /// 8: the interval table is full.
+    /// 8: an interval is to be entered under a new key, and the interval table is full.
     TableFull {
         /// The card that needs one more interval, by its place among the run's cards.
         card: u32,

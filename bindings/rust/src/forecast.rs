@@ -10,8 +10,10 @@ use crate::native::{self, Ended};
 pub struct Forecast {
     /// A row for each day of the span.
     pub days: Vec<Day>,
-    /// How many cards are due on each day, from day 0 on, for the span and half of it again; a new card is counted once
-    /// it is learned.
+    /// Due counts of each day, from day 0 on, for the span and half of it again. They begin with the existing cards that
+    /// were kept, each on the day it is due, with a last date or without. An event adds one on the day for which it
+    /// schedules the card, so a new card is counted once it is learned; nothing is taken from the event's own day. A
+    /// card with a last date that is put off moves to the next day.
     pub due: Vec<u32>,
     /// The run's cards as it left them: the existing ones that were kept, in their order, then the new ones.
     pub cards: Vec<Card>,
@@ -30,7 +32,7 @@ pub struct Day {
     pub reviewed: u32,
     /// Those of the reviews that were recalled.
     pub correct: u32,
-    /// Cards learned up to its end, those before the run too.
+    /// The existing cards that were kept and have a last date, be it a later day, and all cards learned up to its end.
     pub introduced: u32,
     /// Seconds that it costs.
     pub cost: f32,

@@ -5,7 +5,8 @@ const MOST_CARDS: usize = 65_536;
 const MOST_DAYS: usize = 36_500;
 
 /// How long the interval table is at first. A run keeps an interval for each thousandth of ln(stability), and
-/// stabilities from 0.0001 to 36,500 days have some 19,700 of them: so it is enough where all cards have one retention.
+/// stabilities from 0.0001 to 36,500 days have 19,716 of them (counted, not proved): so it is enough where all cards
+/// have one retention.
 pub const FIRST_PLACES: usize = 32_768;
 
 /// A call's inputs.
