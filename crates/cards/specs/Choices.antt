@@ -25,7 +25,7 @@ abbrev pub limits : SimulatorConfig → Limits Float
 limits g = record {
   learns = λ d. g.learn_limit;
   reviews = λ d. g.review_limit;
-  learns_are_counted = λ d. not g.new_cards_ignore_review_limit;
+  learns_count_as_reviews = λ d. not g.new_cards_ignore_review_limit;
   is_over = λ d x. lt g.max_cost_perday x;
 }
 
@@ -41,7 +41,7 @@ today learned reviewed cost = record { learned = learned; reviewed = reviewed; c
 module _ {C : Type 0} (l : Limits C) (d : ℕ) where
   -- a limit of day d is reached; a learning may count as a review too
   abbrev pub limited : Bool → Today C → Bool
-  limited true t = leb (l.learns d) t.learned || (l.learns_are_counted d && leb (l.reviews d) (t.learned + t.reviewed))
+  limited true t = leb (l.learns d) t.learned || (l.learns_count_as_reviews d && leb (l.reviews d) (t.learned + t.reviewed))
   limited false t = leb (l.reviews d) t.reviewed
 
   -- a limit is reached, or the day's cost is above the maximum

@@ -22,7 +22,8 @@ pub fn is_retired(config: SimulatorConfig, card: Card) -> bool
     card.due >= float32::from_u32(config.learn_span) || card.lapses >= config.suspend_after_lapses
 }
 
-// A day's three numbers come from three calls over lent lists: a struct would be made once and taken apart at once.
+// Today's three numbers, here and in `decide`, come from three calls over lent lists: a struct would be made once and taken
+// apart at once.
 #[tactic(auto, unfolding(crate::specs::Choices::blocked))]
 pub fn is_blocked(
     config: SimulatorConfig,

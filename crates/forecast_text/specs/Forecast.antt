@@ -24,7 +24,7 @@ use Rattle.forecast_text.specs.Settings.{most_deck, most_span, default_settings,
 abbrev pub table_places : ℕ
 table_places = 4096
 
--- the lists lent to the run, as long as the limits ask; what they hold plays no part (simulation's `Demands.same_run`)
+-- the lists lent to the run, as long as the limits ask; what they hold plays no part (runs' `Demands.same_run`)
 unfoldable pub lists : List (List ℕ) → List Float → List Float → Lent Float
 lists days costs memorized =
     lent (replicate most_deck (replicate 6 0ᶠ)) (replicate most_deck (replicate 2 0)) (replicate most_deck (replicate 2 0))

@@ -73,13 +73,13 @@ pub data Answer (t : Table) (s r : ℕ) : Type 0 where
   room : (p : ℕ) → lookup_in t s r ≡ Free p → Answer t s r
   full : lookup_in t s r ≡ Full → Answer t s r
 
-answer_of_lem : (t : Table) (s r : ℕ) (f : Entry) → lookup_in t s r ≡ f → Answer t s r
-answer_of_lem t s r (Found p v) e = at p v e
-answer_of_lem t s r (Free p) e = room p e
-answer_of_lem t s r Full e = full e
+found_interval_is : (t : Table) (s r : ℕ) (f : Entry) → lookup_in t s r ≡ f → Answer t s r
+found_interval_is t s r (Found p v) e = at p v e
+found_interval_is t s r (Free p) e = room p e
+found_interval_is t s r Full e = full e
 
 pub answer : (t : Table) (s r : ℕ) → Answer t s r
-answer t s r = answer_of_lem t s r (lookup_in t s r) refl
+answer t s r = found_interval_is t s r (lookup_in t s r) refl
 
 -- whatever the table: a key that a lookup finds is held, and where it says Full the key is not
 pub found_some : (t : Table) (s r p : ℕ) (v : Float) → lookup_in t s r ≡ Found p v → held_in t s r ≡ none → ⊥

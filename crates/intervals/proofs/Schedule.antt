@@ -28,7 +28,7 @@ use Rattle.intervals.specs.declared.Slot.{Slot}
 use Rattle.intervals.specs.declared.Slot.TheVariants as slot
 use Rattle.intervals.specs.Table.{Table, places, is_free, free_at, value_at, lookup_in, enter_in, held_in, count_in}
 use Rattle.intervals.specs.Bucket.{stability_bucket, retention_bucket}
-use Rattle.intervals.specs.Schedule.{certifies, pick_slot, slot_by, slot_in, slot_of, is_full, interval_of, entered}
+use Rattle.intervals.specs.Schedule.{certifies, slot_by, slot_in, slot_of, is_full, interval_of, entered}
 use Rattle.intervals.proofs.Probe.{true_false, lookup_at_is}
 use Rattle.intervals.proofs.Change.{enter-places, value_same, free_other, value_other}
 use Rattle.intervals.proofs.Used.{full_iff}
@@ -141,8 +141,8 @@ module _ (t t' : Table) (w : SameEntries t t') (s r : ℕ) (certified : Float �
       → Same (slot_by f certified fresh s r) (slot_by f' certified fresh s r)
   same_by f f' e e' (both_at {p = p} {p' = p'} {v = v}) = at (certified v)
     where
-      at : (b : Bool) → Same (pick_slot b (slot.Keep v) (slot.Enter p s r fresh))
-          (pick_slot b (slot.Keep v) (slot.Enter p' s r fresh))
+      at : (b : Bool) → Same (cond b (slot.Keep v) (slot.Enter p s r fresh))
+          (cond b (slot.Keep v) (slot.Enter p' s r fresh))
       at true n = (refl, refl, w)
       at false n = (refl, refl, same-enter t t' w s r p p' fresh u (again e) (again e'))
   same_by f f' e e' (both_free {p = p} {p' = p'}) = λ n. (

@@ -1,6 +1,6 @@
--- How many places are used, which is how many keys are held, and when a table is full.
+-- How many places are used (of a sound table: how many keys are held), and when a table is full.
 --   count_free, count_used, count_zero   the count, place by place
---   count-places                         no more keys are held than the table is long
+--   count-places                         no more places are used than the table is long
 --   full-count, free_count               Full: as many as it is long; Free: fewer
 --   full_iff                             Full: the key is not held and every place is used, and only then
 --   count_same, count_more               as many where the same places are used; one more where one place more is

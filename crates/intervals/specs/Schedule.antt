@@ -58,13 +58,9 @@ certifies curve stability retention interval most =
     && cond (le interval 1ᶠ) (certifies_one curve retention most)
     (cond (le most interval) false (certifies_range curve retention interval))
 
-abbrev pub pick_slot : Bool → Slot → Slot → Slot
-pick_slot true a b = a
-pick_slot false a b = b
-
 -- a found interval is kept only if it is certified; else the fresh one is entered under the same key
 abbrev pub slot_by : Entry → (Float → Bool) → Float → ℕ → ℕ → Slot
-slot_by (entry.Found p v) certified fresh s r = pick_slot (certified v) (slot.Keep v) (slot.Enter p s r fresh)
+slot_by (entry.Found p v) certified fresh s r = cond (certified v) (slot.Keep v) (slot.Enter p s r fresh)
 slot_by (entry.Free p) certified fresh s r = slot.Enter p s r fresh
 slot_by entry.Full certified fresh s r = slot.Full
 

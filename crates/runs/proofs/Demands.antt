@@ -33,7 +33,7 @@ use Rattle.runs.proofs.Accepted.{accepted}
 use Rattle.runs.proofs.turn.Stops.{stops_iff}
 use Rattle.runs.proofs.run.Suits.{suits}
 use Rattle.runs.proofs.run.Frame.{lists_free, cards_are, beyond_same, lengths_same}
-use Rattle.runs.proofs.run.DemandThree.{few_turns, daily_rules, rows_are}
+use Rattle.runs.proofs.run.DemandThree.{turns_within, daily_rules, rows_are}
 use Rattle.runs.proofs.run.Due.{due_after, due_left, never_due, counts_after, first_after}
 use Rattle.runs.proofs.run.Answers.{ok_passed, told_stop, stop_told, ok_demand, refused_in}
 
@@ -104,7 +104,7 @@ demands w i s =
       lengths_same = λ e. lengths_same R i (suits w i s (accepted i s e)) s e;
       same_run = λ s' e. lists_free R i (suits w i s (accepted i s e)) s s' e;
       demand_three = λ p e. ok_demand R i s (suits w i s (accepted i s (ok_passed R i s p e))) p e _ refl;
-      ends_within = λ e. few_turns R i s (accepted i s e) (suits w i s (accepted i s e));
+      ends_within = λ e. turns_within R i s (accepted i s e) (suits w i s (accepted i s e));
       daily_rules = λ e. daily_rules R i s (accepted i s e) (suits w i s (accepted i s e));
       rows = λ e. rows_are R i s (accepted i s e) (suits w i s (accepted i s e)) _ refl;
       turn_is_first = λ e n. first_after R i s (accepted i s e) (suits w i s (accepted i s e)) n;

@@ -12,9 +12,6 @@ use Rattle.cards.specs.declared.card.Card.{Card}
 use Rattle.cards.specs.declared.choice.Choice.{Choice}
 use Rattle.cards.specs.declared.choice.Choice.TheVariants as choice
 use Rattle.cards.specs.Day.{is_new}
-use Rattle.cards.specs.declared.card.Card.{Card}
-use Rattle.cards.specs.declared.choice.Choice.{Choice}
-use Rattle.cards.specs.declared.choice.Choice.TheVariants as choice
 use Rattle.days.specs.Due.{none_due}
 use Rattle.events.specs.declared.Memory.{Memory}
 use Rattle.events.specs.Events.{chance_ok}
@@ -44,7 +41,7 @@ module _ {C : Type 0} (R : Rules C) (s : State C) where
   -- 7: the turn of c, the first card, is a review, and its recall chance is NaN or not 0 to 1
   pub record ChanceRefused (c : ℕ) : Type 0 where
     pub queued : 0 < s.queue.len
-    pub first : c ≡ front s.queue
+    pub is_first : c ≡ front s.queue
     pub review : chosen ≡ choice.Review
     pub chance : chance_ok
         (R.model.chance (of_int binary32 (pos turn_day) -ᶠ turn_card.last_date) turn_card.stability) ≡ false
@@ -53,7 +50,7 @@ module _ {C : Type 0} (R : Rules C) (s : State C) where
   -- of the table is used (in a run: as many keys are held as it is long)
   pub record TableRefused (c : ℕ) : Type 0 where
     pub queued : 0 < s.queue.len
-    pub first : c ≡ front s.queue
+    pub is_first : c ≡ front s.queue
     pub new : Bool
     pub event_chosen : chosen ≡ event_choice new
     pub memory : Memory
@@ -66,7 +63,7 @@ module _ {C : Type 0} (R : Rules C) (s : State C) where
   -- `no_due_refusal`)
   pub record DueRefused (c : ℕ) : Type 0 where
     pub queued : 0 < s.queue.len
-    pub first : c ≡ front s.queue
+    pub is_first : c ≡ front s.queue
     pub put_off : chosen ≡ choice.PutOff
     pub is_none_due : none_due s.due (is_new turn_card.last_date) turn_day ≡ true
 

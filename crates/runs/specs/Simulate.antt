@@ -3,7 +3,7 @@
 --   Told, told, told_if            an answer by the refusals' numbers
 --   Outcome, answer_of, answer_if  an answer with the state that is left
 --   rules_for i                   the rules of a run's inputs
---   bound, run_from, result_from   a run from a state
+--   fuel, run_from, result_from   a run from a state
 --   simulated_by R i s, simulated i s   a call, by any rules and by its own
 --   IsResult x r l               what a call says and leaves is the result x
 use Rattle.std.specs.Prelude.{ℕ, suc, [], ◌≡◌, length, Float, Result, Ok, Err}
@@ -72,18 +72,18 @@ rules_for i = rules_of i.config (of_parameters i.parameters)
 
 module _ {C : Type 0} (R : Rules C) where
   -- one turn more than is ever taken (`ends_within`)
-  abbrev pub bound : State C → ℕ
-  bound s = suc (turn_bound s.queue.len R.span)
+  abbrev pub fuel : State C → ℕ
+  fuel s = suc (turn_bound s.queue.len R.span)
 
   -- the turns, latest first, and the state that they lead to
   unfoldable pub run_from : State C → RunState (Turn Drawn) (State C)
-  run_from s = run (next R) (bound s) [] s
+  run_from s = run (next R) (fuel s) [] s
 
   unfoldable pub result_from : State C → Outcome C
   result_from s =
       let r = run_from s in
       record {
-        answer = answer_if (stop_of (next R) (bound s) s)
+        answer = answer_if (stop_of (next R) (fuel s) s)
             (progress (length r.turns) s.queue.len r.state.queue.len r.state.draws);
         state = r.state;
       }

@@ -1,11 +1,11 @@
 -- THE TURN RULE (docs/RULES.md, T3 to T7) as one definition, `next`, over any rules of a run. Definitions only.
 --   Stop                                          how a run stops
 --   card_after_put_off, card_after_event          the card after a turn
---   add_forgetting_curve m memorized k e          what is memorized of a card up to day e
+--   add_forgetting_curve                          what is memorized of a card up to a day
 --   first s                                       the card that has the turn
 --   after_retire, after_put_off, after_event      the state after a turn
 --   event_on, act                                 what a turn does: an event, by a choice
---   turn_choice R s f                             what the limits let it do
+--   turn_choice R s f                             what the limits let the card f do
 --   next R s                                      the next turn, or the stop
 use Rattle.std.specs.Prelude.{ℕ, ◌-◌, Bool, true, false, cond, List, eqb, pos, Float, Result, Ok, Err, Option, Some, None}
 use Rattle.std.specs.Float.{binary32}
@@ -42,48 +42,50 @@ Stop = Result (Unit {0}) RunRefusal
 abbrev pub refuses : {S : Type 0} → RunRefusal → Next (Turn Drawn) S Stop
 refuses r = stops (Err r)
 
--- a card put off from day d
+-- a card put off from a day
 unfoldable pub card_after_put_off : Card → ℕ → Card
-card_after_put_off k d = record k { due = next_due d }
+card_after_put_off card day = record card { due = next_due day }
 
--- a card after an event on day d that gives it an interval: a review that was not recalled is a lapse
+-- a card after an event on a day that gives it an interval: a review that was not recalled is a lapse
 unfoldable pub card_after_event : Card → Bool → Memory → ℕ → Float → Card
-card_after_event k new memory d interval = record {
+card_after_event card new memory day interval = record {
   difficulty = memory.difficulty;
   stability = memory.stability;
-  last_date = of_int binary32 (pos d);
-  due = add binary32 (of_int binary32 (pos d)) interval;
+  last_date = of_int binary32 (pos day);
+  due = add binary32 (of_int binary32 (pos day)) interval;
   interval = interval;
-  desired_retention = k.desired_retention;
-  reps = saturating_suc k.reps;
-  lapses = cond new k.lapses (cond memory.recalled k.lapses (saturating_suc k.lapses));
+  desired_retention = card.desired_retention;
+  reps = saturating_suc card.reps;
+  lapses = cond new card.lapses (cond memory.recalled card.lapses (saturating_suc card.lapses));
 }
 
--- what is memorized, with a card's chances from its last date up to day e, which is left out; a new card has none
+-- what is memorized, with a card's chances from its last date up to a day, which is left out; a new card has none
 unfoldable pub add_forgetting_curve : Model → List Float → Card → ℕ → List Float
-add_forgetting_curve m memorized k e =
-    cond (is_new k.last_date) memorized
-    (let from = to_unsigned 32 k.last_date in add_forgetting_curve_range (λ t. m.chance t k.stability) memorized
-    (e - from) from k.last_date)
+add_forgetting_curve model memorized card to =
+    cond (is_new card.last_date) memorized
+    (let from = to_unsigned 32 card.last_date in
+    add_forgetting_curve_range (λ t. model.chance t card.stability) memorized (to - from) from card.last_date)
 
 -- the card at a place has the turn, on a day
 abbrev pub first_at : ℕ → Card → ℕ → First
-first_at c k d = record { place = c; card = k; day = d }
+first_at place card day = record { place = place; card = card; day = day }
 
 abbrev pub turn_as : First → Kind Drawn → Turn Drawn
 turn_as f kind = record { card = f.place; day = f.day; kind = kind }
 
 -- the queue's first card has the turn, on its day
 abbrev pub first : {C : Type 0} → State C → First
-first s = let c = front s.queue in let k = card_in s c in first_at c k (day_of k.due)
+first s = let place = front s.queue in let card = card_in s place in first_at place card (day_of card.due)
+
+-- ---- what the turn of f does, the queue's first card
 
 module _ {C : Type 0} (R : Rules C) where
-  -- it leaves the queue, memorized to the span's end
+  -- f leaves the queue, memorized to the span's end
   unfoldable pub after_retire : State C → First → State C
   after_retire s f = with_queue (popped s.queue)
       (with_memorized (add_forgetting_curve R.model s.memorized f.card R.span) s)
 
-  -- it goes to the next day
+  -- f goes to the next day
   unfoldable pub after_put_off : State C → First → State C
   after_put_off s f =
       let later = card_after_put_off f.card f.day in
@@ -91,12 +93,12 @@ module _ {C : Type 0} (R : Rules C) where
       (with_queue (front_changed s.queue (key_of later))
       (with_due (move_due R.span s.due (is_new f.card.last_date) f.day) s))
 
-  -- the turn of its event, with the ratings that are drawn
+  -- the turn of f's event, with the ratings that are drawn
   abbrev pub event_turn : State C → First → Bool → Memory → Turn Drawn
   event_turn s f new memory =
       turn_as f (kind_as new memory.recalled (R.model.ratings R.draw f.card new f.day s.draws))
 
-  -- it has an event, which leaves a memory and the interval of a slot
+  -- f has an event, which leaves a memory and the interval of a slot
   unfoldable pub after_event : State C → First → Bool → Memory → Slot → State C
   after_event s f new memory slot =
       let later = card_after_event f.card new memory f.day (interval_of slot) in
@@ -134,7 +136,7 @@ module _ {C : Type 0} (R : Rules C) where
   act s f choice.Learn = event_on s f true
   act s f choice.Review = event_on s f false
 
-  -- what the limits, and the counts and the cost of its day so far, let it do
+  -- what the limits, and the counts and the cost of its day so far, let f do
   abbrev pub turn_choice : State C → First → Choice
   turn_choice s f = choice_of R.span R.lapse_limit R.limits f.day f.card
       (today (learned_at s.days f.day) (reviewed_at s.days f.day) (cost_at R.costs.none s.costs f.day))

@@ -13,7 +13,7 @@ use Rattle.simulation.specs.declared.run.RunEnd.{RunEnd}
 use Rattle.runs.specs.State.{State, Lent, lists_of}
 use Rattle.runs.specs.Rules.{Rules}
 use Rattle.runs.specs.SetUp.{Deck, deck}
-use Rattle.runs.specs.Simulate.{Answer, progress, answer_of, bound, run_from}
+use Rattle.runs.specs.Simulate.{Answer, progress, answer_of, fuel, run_from}
 use Rattle.runs.specs.Turn.{Stop, next}
 
 -- a run of turns halts by its stop, or it is cut off
@@ -31,7 +31,7 @@ pub record RunTurns {C : Type 0} (R : Rules C) (s : State C) (n : ℕ) (r : RunE
 
 -- and what a call that the entry accepts leaves, from the state as set up
 pub record InnerContract {C : Type 0} (R : Rules C) (s : State C) (r : Answer) (l : Lent C) : Type 0 where
-  pub answer : (x : Stop) → stop_of (next R) (bound R s) s ≡ Math.some x
+  pub answer : (x : Stop) → stop_of (next R) (fuel R s) s ≡ Math.some x
       → r ≡ answer_of x (progress (length (run_from R s).turns) s.queue.len
       (run_from R s).state.queue.len (run_from R s).state.draws)
   pub lists : l ≡ lists_of (run_from R s).state

@@ -17,7 +17,7 @@ use events::Rules;
 use model::Fsrs7Runtime;
 use runs::{Place, Progress, Refused};
 
-// What a run of turns came to: how it halted (ended or refused; None where its bound cut it off), the turns taken, and
+// What a run of turns came to: how it halted (ended or refused; None where its fuel was used up), the turns taken, and
 // where it stands.
 #[derive(Clone, Copy)]
 pub(crate) struct RunEnd {
@@ -26,13 +26,13 @@ pub(crate) struct RunEnd {
     pub at: Place,
 }
 
-// Turns until one stops; the run stops before its bound (`Demands.ends_within`).
-fn run_turns(lists: &mut Lists<'_>, rules: Rules, from: Place, bound: u32) -> RunEnd
-    ensures run { RunTurns (rules_as rules) (state_at lists.old from) bound result (lent_of lists.new) }
+// Turns until one stops, at most so many; a run stops before its fuel is used up (`Demands.ends_within`).
+fn run_turns(lists: &mut Lists<'_>, rules: Rules, from: Place, fuel: u32) -> RunEnd
+    ensures run { RunTurns (rules_as rules) (state_at lists.old from) fuel result (lent_of lists.new) }
     ensures same { SameLists lists.old lists.new }
 {
     let mut at = from;
-    for turns in 0..bound {
+    for turns in 0..fuel {
         match turn::turn(lists, rules, at) {
             Ok(Some(next)) => at = next,
             Ok(None) => {
@@ -53,15 +53,15 @@ fn run_turns(lists: &mut Lists<'_>, rules: Rules, from: Place, bound: u32) -> Ru
     }
     RunEnd {
         halt: None,
-        turns: bound,
+        turns: fuel,
         at,
     }
 }
 
 // The same over nine references of its own: the compiler then keeps them in registers from turn to turn, where it would
 // read those of the caller's `Lists` anew in each (a run at the usual rate 1.6 ms of 74 longer).
-fn run_held(lists: &mut Lists<'_>, rules: Rules, from: Place, bound: u32) -> RunEnd
-    ensures run { RunTurns (rules_as rules) (state_at lists.old from) bound result (lent_of lists.new) }
+fn run_held(lists: &mut Lists<'_>, rules: Rules, from: Place, fuel: u32) -> RunEnd
+    ensures run { RunTurns (rules_as rules) (state_at lists.old from) fuel result (lent_of lists.new) }
     ensures same { SameLists lists.old lists.new }
 {
     let mut held = Lists {
@@ -75,17 +75,17 @@ fn run_held(lists: &mut Lists<'_>, rules: Rules, from: Place, bound: u32) -> Run
         keys: lists.keys,
         intervals: lists.intervals,
     };
-    run_turns(&mut held, rules, from, bound)
+    run_turns(&mut held, rules, from, fuel)
 }
 
-fn bound_of(len: u32, span: u32) -> u32
+fn fuel_of(len: u32, span: u32) -> u32
     requires { (len ≤ most_cards) × (span ≤ most_days) }
     ensures { result ≡ suc (turn_bound len span) }
 {
     len * (span + 1) + 1
 }
 
-// A run that is cut off has no answer; none is (`Demands.ends_within`).
+// No run is cut off (`Demands.ends_within`), so the arm None is never taken, and the contract says nothing of it.
 fn answer_of(end: RunEnd, cards: u32) -> Result<Progress, Refused>
     ensures { (x : Stop) → end.halt ≡ Some x
         → result ≡ answer_of x (progress end.turns cards end.at.queued end.at.draws) }
@@ -127,7 +127,7 @@ pub(crate) fn simulate_inner(
         queued: cards,
         draws: settings.seed,
     };
-    let bound = bound_of(cards, settings.config.learn_span);
-    let end = run_held(lists, rules, start, bound);
+    let fuel = fuel_of(cards, settings.config.learn_span);
+    let end = run_held(lists, rules, start, fuel);
     answer_of(end, cards)
 }

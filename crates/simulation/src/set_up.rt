@@ -9,7 +9,8 @@ ghost use Rattle.entry.specs.Entry.{most_cards, most_days};
 ghost use Rattle.entry.specs.Lists.{SameLists, inputs_of};
 ghost use Rattle.runs.specs.State.{lent_of, state};
 ghost use Rattle.simulation.specs.Steps.{deck_of, Joined};
-ghost use Rattle.runs.specs.SetUp.{new_card, add_card, add_existing_card, add_existing_cards, introduced_before, add_new_cards, new_card_count, set_up, filled_with};
+ghost use Rattle.runs.specs.SetUp.{new_card, add_card, add_existing_card, add_existing_cards, introduced_before};
+ghost use Rattle.runs.specs.SetUp.{add_new_cards, new_card_count, set_up, filled_with};
 
 use cards::{Card, SimulatorConfig};
 use entry::{Learner, Lists, Settings};

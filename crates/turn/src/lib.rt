@@ -8,12 +8,10 @@ ghost use Rattle.cards.specs.Day.{is_new};
 ghost use Rattle.days.specs.Counts.{saturating_suc};
 ghost use Rattle.days.specs.Due.{none_due};
 ghost use Rattle.queue.specs.Queue.{queue, front_changed, popped};
-ghost use Rattle.events.specs.Scalars.{of_runtime};
-ghost use Rattle.events.specs.Events.{event_of};
 ghost use Rattle.intervals.specs.Table.{table};
 ghost use Rattle.entry.specs.Lists.{SameLists};
 ghost use Rattle.runs.specs.State.{lent_of, key_of, state_at};
-ghost use Rattle.runs.specs.Model.{model_of, curve_for};
+ghost use Rattle.runs.specs.Model.{curve_for};
 ghost use Rattle.runs.specs.Rules.{rules_as};
 ghost use Rattle.runs.specs.declared.Place.{Place};
 ghost use Rattle.runs.specs.Turn.{card_after_put_off, card_after_event, add_forgetting_curve, first, turn_choice};
@@ -57,7 +55,7 @@ fn none_due_in(lists: &Lists<'_>, new: bool, day: u32) -> bool
 
 // The place in the interval table, and the interval, for a stability and a retention.
 fn slot_for(lists: &Lists<'_>, rules: Rules, stability: f32, retention: f32) -> Slot
-    ensures { result ≡ (model_of rules.config (of_runtime rules.model)).slot
+    ensures { result ≡ (rules_as rules).model.slot
         (table lists.now.keys.now lists.now.intervals.now) stability retention }
 {
     let most = rules.config.max_ivl;
@@ -143,7 +141,7 @@ fn event_card(card: Card, new: bool, memory: Memory, day: u32, interval: f32) ->
 fn add_forgetting_curve(memorized: &mut [f32], rules: Rules, curve: Curve, card: Card, to: u32)
     requires { curve ≡ curve_for rules.model card }
     ensures { memorized.new
-        ≡ add_forgetting_curve (model_of rules.config (of_runtime rules.model)) memorized.old card to }
+        ≡ add_forgetting_curve (rules_as rules).model memorized.old card to }
 {
     if !cards::is_new(card.last_date) {
         let from = float32::to_u32(card.last_date);
@@ -210,7 +208,7 @@ fn event_of(
     draws: u64,
 ) -> Option<Memory>
     requires { curve ≡ curve_for rules.model card }
-    ensures { result ≡ event_of split_mix rules.config (of_runtime rules.model) card new day draws }
+    ensures { result ≡ (rules_as rules).model.event split_mix card new day draws }
 {
     let chance = curve.retention(float32::from_u32(day) - card.last_date);
     rules.event_at(card, new, chance, draws)

@@ -13,7 +13,7 @@ use Rattle.turns.specs.Turns.{Turn, Each, is_review, learned_on, CostRule, Limit
 use Rattle.turns.specs.Turns.{put_off, retire, cost_on, Rows}
 use Rattle.turns.specs.Sums.{sum_to}
 use Rattle.turns.proofs.Chain.{Chain, chain_map, chain_each, chain_all}
-use Rattle.turns.proofs.Moves.{View, Moves, MoveSteps, few_turns, event_in_span, Does}
+use Rattle.turns.proofs.Moves.{View, Moves, MoveSteps, turns_within, event_in_span, Does}
 use Rattle.turns.proofs.Once.{one_event_a_day}
 use Rattle.turns.proofs.Order.{Least, Orderly, days_never_fall, reviews_come_first}
 use Rattle.turns.proofs.Within.{Within, days_ok, costs_within, Allowed}
@@ -36,13 +36,13 @@ module _ {E S C : Type 0} (v : View S) (cards span : ℕ) (b : CostRule E C)
         cost_within = costs_within b l ts w;
         in_span = chain_all (λ ts s t s' x q. event_in_span v x q) m;
         days_rise = days_never_fall v r;
-        turns_within = few_turns v cards span m;
+        turns_within = turns_within v cards span m;
       }
 
 -- the tests that a turn of each kind on day d passes, on the rows of the state
 abbrev pub Tests : {E S C : Type 0} → Columns S C → Limits C → Kind E → ℕ → S → Type 0
 Tests k l (learn e) d s = ((k.rows s).learned d < l.learns d)
-    × (l.learns_are_counted d ≡ true → (k.rows s).learned d + (k.rows s).reviewed d < l.reviews d) × (l.is_over d ((k.rows s).cost d) ≡ false)
+    × (l.learns_count_as_reviews d ≡ true → (k.rows s).learned d + (k.rows s).reviewed d < l.reviews d) × (l.is_over d ((k.rows s).cost d) ≡ false)
 Tests k l (review r e) d s = ((k.rows s).reviewed d < l.reviews d) × (l.is_over d ((k.rows s).cost d) ≡ false)
 Tests k l put_off d s = Unit {0}
 Tests k l retire d s = Unit {0}

@@ -8,7 +8,7 @@
 --   Moves v cards span s t s'   the whole of a turn
 --   onward, event_in_span       its card leaves or goes on, and an event lies in the span
 --   MoveSteps v cards span      turns as steps of a chain
---   few_turns                   the bound on turns
+--   turns_within                   the bound on turns
 use Prim.Native.Nat.{ℕ, suc, ◌≤◌, ◌<◌}
 use native.Mathlib.Omega.{arith}
 use native.Mathlib.Decide.{ℕ_discrete}
@@ -116,9 +116,9 @@ module _ {E S : Type 0} (v : View S) where
       go (no e) u = used_other ts m c e u
 
   -- THE BOUND ON TURNS, from any state and in any order of the queue
-  pub few_turns : (cards span : ℕ) {s₀ : S} {ts : List (Turn E)} {s : S} → Chain (MoveSteps cards span) s₀ ts s
+  pub turns_within : (cards span : ℕ) {s₀ : S} {ts : List (Turn E)} {s : S} → Chain (MoveSteps cards span) s₀ ts s
       → length ts ≤ turn_bound cards span
-  few_turns cards span {ts = ts} r =
+  turns_within cards span {ts = ts} r =
       omega (
         arith,
         count-length ts,

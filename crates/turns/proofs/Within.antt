@@ -28,7 +28,7 @@ module _ {E C : Type 0} (b : CostRule E C) (l : Limits C) where
   -- what a turn of each kind on day d needs of the turns before it
   abbrev pub Allowed : Kind E → ℕ → List (Turn E) → Type 0
   Allowed (learn e) d ts = (learned_on d ts < l.learns d)
-      × (l.learns_are_counted d ≡ true → learned_on d ts + reviewed_on d ts < l.reviews d) × (l.is_over d (cost_on b d ts) ≡ false)
+      × (l.learns_count_as_reviews d ≡ true → learned_on d ts + reviewed_on d ts < l.reviews d) × (l.is_over d (cost_on b d ts) ≡ false)
   Allowed (review r e) d ts = (reviewed_on d ts < l.reviews d) × (l.is_over d (cost_on b d ts) ≡ false)
   Allowed put_off d ts = Unit {0}
   Allowed retire d ts = Unit {0}
@@ -40,7 +40,7 @@ module _ {E C : Type 0} (b : CostRule E C) (l : Limits C) where
   pub record DayOK (d : ℕ) (ts : List (Turn E)) : Type 0 where
     pub learned : learned_on d ts ≤ l.learns d
     pub reviewed : reviewed_on d ts ≤ l.reviews d
-    pub both : l.learns_are_counted d ≡ true → learned_on d ts + reviewed_on d ts ≤ l.reviews d
+    pub both : l.learns_count_as_reviews d ≡ true → learned_on d ts + reviewed_on d ts ≤ l.reviews d
 
   day_same : (k : Kind E) (c d : ℕ) (ts : List (Turn E)) → Allowed k d ts → (is_review k ≡ true → learned_on d ts ≡ 0)
       → DayOK d ts → DayOK d (record { card = c; day = d; kind = k } ∷ ts)

@@ -109,7 +109,7 @@ cost_on b d (t ∷ ts) =
 pub record Limits (C : Type 0) : Type 0 where
   pub learns : ℕ → ℕ
   pub reviews : ℕ → ℕ
-  pub learns_are_counted : ℕ → Bool
+  pub learns_count_as_reviews : ℕ → Bool
   pub is_over : ℕ → C → Bool
 
 -- the most turns of a run of `cards` cards over `span` days: one of each card on each day, and one to retire it
@@ -120,7 +120,7 @@ turn_bound cards span = cards * suc span
 pub record Demand {E C : Type 0} (cards span : ℕ) (b : CostRule E C) (l : Limits C) (ts : List (Turn E)) : Type 0 where
   pub learned_within : (d : ℕ) → learned_on d ts ≤ l.learns d
   pub reviewed_within : (d : ℕ) → reviewed_on d ts ≤ l.reviews d
-  pub both_within : (d : ℕ) → l.learns_are_counted d ≡ true → learned_on d ts + reviewed_on d ts ≤ l.reviews d
+  pub both_within : (d : ℕ) → l.learns_count_as_reviews d ≡ true → learned_on d ts + reviewed_on d ts ≤ l.reviews d
   pub reviews_first : Each (λ t before. is_review t.kind ≡ true → learned_on t.day before ≡ 0) ts
   pub once : (c d : ℕ) → handled_on c d ts ≤ 1
   pub cost_within : Each (λ t before. is_event t.kind ≡ true → l.is_over t.day (cost_on b t.day before) ≡ false) ts

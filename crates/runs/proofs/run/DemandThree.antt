@@ -1,6 +1,6 @@
 -- The daily rules of the whole list of turns of an accepted call, its rows, its end within the bound, and how it stops.
 --   run_bounds, start-good   the run's sizes, and its state as set up, are what the laws of a turn ask
---   has_stopped, few_turns   the run has stopped, after at most cards × (span + 1) turns
+--   has_stopped, turns_within   the run has stopped, after at most cards × (span + 1) turns
 --   stops_so                 how it stops is told by the state that it comes to
 --   daily_rules, rows_are    the daily rules, and what is claimed of the rows
 use mathlib.Core.Path.{◌≡◌, subst}
@@ -19,7 +19,7 @@ use Rattle.runs.specs.Rules.{Rules}
 use Rattle.runs.specs.Turn.{next}
 use Rattle.entry.specs.Entry.{Inputs}
 use Rattle.runs.specs.SetUp.{introduced_before}
-use Rattle.runs.specs.Simulate.{bound, run_from}
+use Rattle.runs.specs.Simulate.{fuel, run_from}
 use Rattle.runs.specs.Demands.{start_of, cards_of, end_of, turns_of, RowsOf}
 use Rattle.runs.specs.Invariant.{RunBounds, StateInvariant}
 use Rattle.runs.proofs.turn.Views.{columns}
@@ -51,25 +51,25 @@ module _ {C : Type 0} (R : Rules C) (i : Inputs) (s : State C) (ok : Accepted i 
   unfolding run_from
   has_stopped = ends R (cards_of R i s) run_bounds fit.slots (start_of R i s) start-good
 
-  pub few_turns : length (turns_of R i s) ≤ turn_bound (cards_of R i s) R.span
+  pub turns_within : length (turns_of R i s) ≤ turn_bound (cards_of R i s) R.span
   unfolding run_from
-  few_turns = (turns_demand R (cards_of R i s) run_bounds fit.slots _ (start_of R i s) begins start-good
-      (bound R (start_of R i s))).turns_within
+  turns_within = (turns_demand R (cards_of R i s) run_bounds fit.slots _ (start_of R i s) begins start-good
+      (fuel R (start_of R i s))).turns_within
 
   -- how it stops is told by what it comes to
   pub stops_so : (y : Stop) → next R (end_of R i s) ≡ stops y
-      → stop_of (next R) (bound R (start_of R i s)) (start_of R i s) ≡ some y
+      → stop_of (next R) (fuel R (start_of R i s)) (start_of R i s) ≡ some y
   unfolding run_from
-  stops_so y q = stop_is (next R) (bound R (start_of R i s)) [] (start_of R i s) y q
-      (let h = few_turns in omega (arith, h))
+  stops_so y q = stop_is (next R) (fuel R (start_of R i s)) [] (start_of R i s) y q
+      (let h = turns_within in omega (arith, h))
 
   -- the daily rules and the rows, refused in the run or not
   pub daily_rules : Demand (cards_of R i s) R.span R.costs R.limits (turns_of R i s)
   unfolding run_from
   daily_rules = turns_demand R (cards_of R i s) run_bounds fit.slots _ (start_of R i s) begins start-good
-      (bound R (start_of R i s))
+      (fuel R (start_of R i s))
 
   pub rows_are : (l : Lent C) → l ≡ lists_of (end_of R i s) → RowsOf R i s l
   unfolding run_from
   rows_are l e = rw e (turns_rows R (cards_of R i s) run_bounds fit.slots _ (start_of R i s) begins start-good
-      (bound R (start_of R i s)))
+      (fuel R (start_of R i s)))

@@ -28,7 +28,7 @@ use Rattle.runs.specs.Rules.{Rules}
 use Rattle.entry.specs.Entry.{Inputs}
 use Rattle.runs.specs.Invariant.{difficulty_in, day_in, new_in, key_in, RunBounds, StateInvariant, DueBounds, CountBounds, FirstInOrder}
 use Rattle.runs.specs.RunRefusals.{DueRefused}
-use Rattle.runs.specs.Simulate.{bound, run_from}
+use Rattle.runs.specs.Simulate.{fuel, run_from}
 use Rattle.runs.specs.Demands.{start_of, cards_of, end_of, state_after}
 use Rattle.runs.proofs.Accepted.{Accepted}
 use Rattle.runs.proofs.turn.Due.{due_few, waits_one}
@@ -95,7 +95,7 @@ module _ {C : Type 0} (R : Rules C) (i : Inputs) (s : State C) (ok : Accepted i 
 
   ends-good : StateInvariant (cards_of R i s) R.span (end_of R i s)
   unfolding run_from
-  ends-good = stays_good (bound R (start_of R i s))
+  ends-good = stays_good (fuel R (start_of R i s))
 
   pub due_after : (n : ℕ) → DueBounds (cards_of R i s) R.span (state_after R i s n)
   due_after n = bounds R (cards_of R i s) (state_after R i s n) (run_bounds R i s ok fit) (stays_good n)

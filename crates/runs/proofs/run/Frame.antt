@@ -32,7 +32,7 @@ use Rattle.runs.specs.Turn.{next}
 use Rattle.entry.specs.Entry.{Inputs, check_settings}
 use Rattle.runs.specs.Checked.{lists_ok, checked}
 use Rattle.runs.specs.SetUp.{kept_count, new_card_count}
-use Rattle.runs.specs.Simulate.{progress, answer_of, bound, run_from, result_from, simulated_by}
+use Rattle.runs.specs.Simulate.{progress, answer_of, fuel, run_from, result_from, simulated_by}
 use Rattle.runs.specs.Invariant.{RunBounds, StateInvariant}
 use Rattle.runs.specs.Frame.{first_places, beyond, extended, SameLengths}
 use Rattle.runs.specs.Demands.{start_of, cards_of, end_of, turns_of, LongerTable, SameRun}
@@ -162,7 +162,7 @@ module _ {C : Type 0} (R : Rules C) (i : Inputs) (fit : Suits R i) (s s' : State
       (run (next R) steps [] f) x
   unfolding run_from
   own_here x q =
-      let b : bound R (start_of R i s) ≡ steps = ap (λ (z : ℕ). suc (turn_bound z R.span)) cards_here in
+      let b : fuel R (start_of R i s) ≡ steps = ap (λ (z : ℕ). suc (turn_bound z R.span)) cards_here in
       subst (λ (n : ℕ). Same (InFront R cards fine fit.slots (beyond cards R.span s)) (next R)
       (run (next R) n [] (start_of R i s)) (run (next R) steps [] f) x) (sym b)
       (run_own R cards fine fit.slots (beyond cards R.span s) steps (start_of R i s) f front_here x
@@ -173,7 +173,7 @@ module _ {C : Type 0} (R : Rules C) (i : Inputs) (fit : Suits R i) (s s' : State
       (run (next R) steps [] f') x
   unfolding run_from
   own_there x q =
-      let b : bound R (start_of R i s') ≡ steps = ap (λ (z : ℕ). suc (turn_bound z R.span)) cards_there in
+      let b : fuel R (start_of R i s') ≡ steps = ap (λ (z : ℕ). suc (turn_bound z R.span)) cards_there in
       subst (λ (n : ℕ). Same (InFront R cards fine fit.slots (beyond cards R.span s')) (next R)
       (run (next R) n [] (start_of R i s')) (run (next R) steps [] f') x) (sym b)
       (run_own R cards fine fit.slots (beyond cards R.span s') steps (start_of R i s') f' front_there x

@@ -34,7 +34,7 @@ use Rattle.runs.specs.State.{State}
 use Rattle.runs.specs.Rules.{Rules}
 use Rattle.entry.specs.Entry.{Inputs}
 use Rattle.runs.specs.SetUp.{set_up}
-use Rattle.runs.specs.Simulate.{bound, run_from}
+use Rattle.runs.specs.Simulate.{fuel, run_from}
 use Rattle.runs.specs.Demands.{start_of, end_of}
 use Rattle.runs.specs.Turn.{refuses, turn_as, after_put_off, after_retire, after_event, event_with_slot, event_with_draw, event_on, act, turn_of, next}
 use Rattle.runs.proofs.turn.Slots.{Slots}
@@ -92,7 +92,7 @@ module _ {C : Type 0} (R : Rules C) (J : Table → Type 0)
 -- the table that a run comes to, from its emptied one
 pub end_sound : {C : Type 0} (R : Rules C) → Slots R.model → (i : Inputs) (s : State C) → Sound (end_of R i s).table
 unfolding run_from set_up
-end_sound R laws i s = run_tables R Sound laws.sound (bound R (start_of R i s)) [] (start_of R i s)
+end_sound R laws i s = run_tables R Sound laws.sound (fuel R (start_of R i s)) [] (start_of R i s)
     (clear_sound s.table)
 
 -- both lists are as long as those of a table
@@ -113,4 +113,4 @@ unfolding run_from set_up
 end_lengths R i s =
     run_tables R (AsLong s.table) (λ t h stability retention. entered-long s.table t (R.model.slot t stability
     retention) h)
-    (bound R (start_of R i s)) [] (start_of R i s) (refl, length-replicate (length s.table.intervals) 0ᶠ)
+    (fuel R (start_of R i s)) [] (start_of R i s) (refl, length-replicate (length s.table.intervals) 0ᶠ)

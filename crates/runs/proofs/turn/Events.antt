@@ -220,7 +220,7 @@ module _ {C : Type 0} (R : Rules C) (cards : ℕ) (fine : RunBounds R.span cards
 
   -- ---- A LEARNING
   module _ (en : new_in fs c ≡ true) (is : new ≡ true) (l-ok : learned_at rows d < R.limits.learns d)
-      (b-ok : R.limits.learns_are_counted d ≡ true → learned_at rows d + reviewed_at rows d < R.limits.reviews d)
+      (b-ok : R.limits.learns_count_as_reviews d ≡ true → learned_at rows d + reviewed_at rows d < R.limits.reviews d)
       (c-ok : R.limits.is_over d (cost_at R.costs.none s.costs d) ≡ false) where
     abbrev rows' : List (List ℕ)
     rows' = add_introduced_from (add_learn rows d) (R.span - d) d

@@ -16,7 +16,7 @@ use Rattle.turns.specs.Sums.{sum_to}
 use Rattle.turns.specs.Turns.{Turn, put_off, turn_bound, Demand, Rows}
 use Rattle.turns.specs.Run.{takes, stops, run}
 use Rattle.turns.proofs.Chain.{Chain, start, chain_map}
-use Rattle.turns.proofs.Moves.{few_turns}
+use Rattle.turns.proofs.Moves.{turns_within}
 use Rattle.turns.proofs.Columns.{SetUp}
 use Rattle.turns.proofs.Demand.{Step, run_demand, run-rows}
 use Rattle.turns.proofs.Loop.{Lawful, lawful_keeps, run_chain, run_keeps, run_ends}
@@ -115,13 +115,13 @@ module _ {C : Type 0} (R : Rules C) (cards : ℕ) (fine : RunBounds R.span cards
 
         learns : l < R.limits.learns d
         learns = leb-false (R.limits.learns d) l
-            (or_left (leb (R.limits.learns d) l) (R.limits.learns_are_counted d && leb (R.limits.reviews d) (l + r)) a)
+            (or_left (leb (R.limits.learns d) l) (R.limits.learns_count_as_reviews d && leb (R.limits.reviews d) (l + r)) a)
 
-        both : R.limits.learns_are_counted d ≡ true → l + r < R.limits.reviews d
+        both : R.limits.learns_count_as_reviews d ≡ true → l + r < R.limits.reviews d
         both j =
             leb-false (R.limits.reviews d) (l + r)
-            (and_right (R.limits.learns_are_counted d) (leb (R.limits.reviews d) (l + r)) j
-            (or_right (leb (R.limits.learns d) l) (R.limits.learns_are_counted d && leb (R.limits.reviews d) (l + r)) a))
+            (and_right (R.limits.learns_count_as_reviews d) (leb (R.limits.reviews d) (l + r)) j
+            (or_right (leb (R.limits.learns d) l) (R.limits.learns_count_as_reviews d && leb (R.limits.reviews d) (l + r)) a))
 
         pays : R.limits.is_over d x ≡ false
         pays = or_left (R.limits.is_over d x) (limited R.limits d true (today l r x)) e₂
@@ -195,4 +195,4 @@ module _ {C : Type 0} (R : Rules C) (cards : ℕ) (fine : RunBounds R.span cards
   pub ends : (s₀ : State C) → Fit s₀
       → (y : Stop) × (next R (run (next R) (suc (turn_bound cards R.span)) [] s₀).state ≡ stops y)
   ends s₀ good = run_ends (next R) Steps Fit law s₀ (turn_bound cards R.span) good
-      (λ ts s ch. few_turns view cards R.span (chain_map (λ ts s t s' y. y.moves) ch))
+      (λ ts s ch. turns_within view cards R.span (chain_map (λ ts s t s' y. y.moves) ch))

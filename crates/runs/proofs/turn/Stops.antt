@@ -109,7 +109,7 @@ module _ (w : DrawRule) (g : SimulatorConfig) (x : Scalars) (s : State Float) wh
         let z = (slot_full y.stability k.desired_retention).0 (ap is_full (sym q)) in
         record {
           queued = some;
-          first = refl;
+          is_first = refl;
           new = new;
           event_chosen = e;
           memory = y;
@@ -128,7 +128,7 @@ module _ (w : DrawRule) (g : SimulatorConfig) (x : Scalars) (s : State Float) wh
             let h = refused-chance w g x k d s.draws new q in
             unfold chance_on in (record {
               queued = some;
-              first = refl;
+              is_first = refl;
               review = e ∙ ap event_choice h.0;
               chance = h.1;
             })
@@ -139,7 +139,7 @@ module _ (w : DrawRule) (g : SimulatorConfig) (x : Scalars) (s : State Float) wh
       where
         go : (b : Bool) → none_due s.due (is_new k.last_date) d ≡ b
             → Tells (cond b (refuses (refusal.DueCount f.place)) (takes (turn_as f put_off) (after_put_off R s f)))
-        go true q = record { queued = some; first = refl; put_off = e; is_none_due = q }
+        go true q = record { queued = some; is_first = refl; put_off = e; is_none_due = q }
         go false q = tt
     act_tells choice.Learn e = event_tells true e
     act_tells choice.Review e = event_tells false e
@@ -162,12 +162,12 @@ module _ (w : DrawRule) (g : SimulatorConfig) (x : Scalars) (s : State Float) wh
   end_meets h = rw (eq-eqb s.queue.len 0 h)
 
   due_meets : (c' : ℕ) → DueRefused R s c' → next R s ≡ refuses (refusal.DueCount c')
-  due_meets c' h = turn_is choice.PutOff h.queued h.put_off ∙ rw (h.is_none_due, h.first)
+  due_meets c' h = turn_is choice.PutOff h.queued h.put_off ∙ rw (h.is_none_due, h.is_first)
 
   chance_meets : (c' : ℕ) → ChanceRefused R s c' → next R s ≡ refuses (refusal.ChanceOutOfRange c')
   unfolding event_on chance_on
   chance_meets c' h = turn_is choice.Review h.queued h.review
-      ∙ rw (chance-refused w g x k d s.draws h.chance, h.first)
+      ∙ rw (chance-refused w g x k d s.draws h.chance, h.is_first)
 
   table_meets : (c' : ℕ) → TableRefused R s c' → next R s ≡ refuses (refusal.TableFull c')
   unfolding event_on
@@ -178,7 +178,7 @@ module _ (w : DrawRule) (g : SimulatorConfig) (x : Scalars) (s : State Float) wh
       (event_full R s f h.new h.memory
       (R.model.slot s.table h.memory.stability k.desired_retention) z) in
       turn_is (event_choice h.new) h.queued h.event_chosen ∙ acts h.new ∙ full
-      ∙ ap (λ (z : ℕ). refuses (refusal.TableFull z)) (sym h.first)
+      ∙ ap (λ (z : ℕ). refuses (refusal.TableFull z)) (sym h.is_first)
     where
       acts : (new : Bool) → act R s f (event_choice new) ≡ event_on R s f new
       acts true = refl

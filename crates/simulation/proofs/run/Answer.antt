@@ -13,7 +13,7 @@ use Rattle.std.specs.Prelude.{Some}
 use Rattle.entry.specs.Entry.{Inputs}
 use Rattle.runs.specs.Checked.{checked}
 use Rattle.runs.specs.SetUp.{set_up}
-use Rattle.runs.specs.Simulate.{Answer, progress, answer_of, bound, run_from}
+use Rattle.runs.specs.Simulate.{Answer, progress, answer_of, fuel, run_from}
 use Rattle.runs.proofs.Accepted.{accepted}
 use Rattle.runs.proofs.set_up.Invariant.{set_up_few}
 
@@ -27,14 +27,14 @@ module _ {C : Type 0} (R : Rules C) (i : Inputs) (s : State C) {s₁ : State C}
       let l : s₁.queue.len ≡ (set_up R.costs.none i s).queue.len = ap (λ (z : State C). z.queue.len) up in
       (omega (arith, few, l, ok.deck_most), ok.span_most)
 
-  pub inner_is : {b : ℕ} {x : RunEnd} {r : Answer} {l' : Lent C} → b ≡ bound R s₁ → RunTurns R s₁ b x l'
+  pub inner_is : {b : ℕ} {x : RunEnd} {r : Answer} {l' : Lent C} → b ≡ fuel R s₁ → RunTurns R s₁ b x l'
       → ((y : Stop) → x.halt ≡ Some y → r ≡ answer_of y (progress x.turns s₁.queue.len x.at.queued x.at.draws))
       → InnerContract R (set_up R.costs.none i s) r l'
   unfolding run_from
   inner_is {b = b} {x = x} {r = r} {l' = l'} eb p q =
       subst (λ (z : State C). InnerContract R z r l') up (go (subst (λ (z : ℕ). RunTurns R s₁ z x l') eb p))
     where
-      go : RunTurns R s₁ (bound R s₁) x l' → InnerContract R s₁ r l'
+      go : RunTurns R s₁ (fuel R s₁) x l' → InnerContract R s₁ r l'
       go h = record {
         answer = λ y e. q y (h.halt ∙ ap halt_of e) ∙ rw (h.turns, h.queued, h.draws);
         lists = h.lists;

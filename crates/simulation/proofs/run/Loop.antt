@@ -1,6 +1,6 @@
 -- The loop over turns follows the definition: after k turns the lists are the state of `run k`, and what is left of the
 -- run stops as the whole.
---   Going R s₀ bound s k    the state after k turns, of at most bound
+--   Going R s₀ fuel s k    the state after k turns, of at most fuel
 --   going_on, going_stops   one more turn, or a stop
 --   going_cut               no more turn may be taken
 --   going_start             no turn yet
@@ -43,7 +43,7 @@ stopped_same (Ok x) (Err r) e = absurd (not-one cc)
 stopped_same (Err r) (Ok y) e = absurd (not-one cc)
 stopped_same (Err r) (Err r') e = cc
 
-module _ {C : Type 0} (R : Rules C) (s₀ : State C) (bound : ℕ) where
+module _ {C : Type 0} (R : Rules C) (s₀ : State C) (fuel : ℕ) where
   abbrev after : ℕ → RunState (Turn Drawn) (State C)
   after k = run (next R) k [] s₀
 
@@ -51,13 +51,13 @@ module _ {C : Type 0} (R : Rules C) (s₀ : State C) (bound : ℕ) where
   pub record Going (s : State C) (k : ℕ) : Type 0 where
     pub at : s ≡ (after k).state
     pub many : length (after k).turns ≡ k
-    pub within : k ≤ bound
-    pub left : stop_of (next R) (bound - k) s ≡ stop_of (next R) bound s₀
+    pub within : k ≤ fuel
+    pub left : stop_of (next R) (fuel - k) s ≡ stop_of (next R) fuel s₀
 
   module _ {st : State C} {k : ℕ} (i : Going st k) {o : Result (Option Place) RunRefusal}
       {l' : Lent C}
-      (p : TurnContract (next R st) st o l') (l : k < bound) where
-    one_left : bound - k ≡ suc (bound - (k + 1))
+      (p : TurnContract (next R st) st o l') (l : k < fuel) where
+    one_left : fuel - k ≡ suc (fuel - (k + 1))
     one_left = omega arith
 
     pub going_on : (at : Place) → o ≡ Ok (Some at) → Going (state l' at.queued at.draws) (k + 1)
@@ -77,27 +77,27 @@ module _ {C : Type 0} (R : Rules C) (s₀ : State C) (bound : ℕ) where
               at = now ∙ sym (ap (λ (z : RunState (Turn Drawn) (State C)). z.state) one);
               many = ap (λ (z : RunState (Turn Drawn) (State C)). length z.turns) one ∙ omega (arith, i.many);
               within = omega arith;
-              left = ap (λ (z : State C). stop_of (next R) (bound - (k + 1)) z) now
-                  ∙ sym (stop_takes (next R) (bound - (k + 1)) st t s' q)
+              left = ap (λ (z : State C). stop_of (next R) (fuel - (k + 1)) z) now
+                  ∙ sym (stop_takes (next R) (fuel - (k + 1)) st t s' q)
                   ∙ sym (ap (λ (z : ℕ). stop_of (next R) z st) one_left) ∙ i.left;
             }
 
     pub going_stops : (z : Stop) → o ≡ stopped z
-        → RunTurns R s₀ bound
+        → RunTurns R s₀ fuel
         (record { halt = Some z; turns = k; at = record { queued = st.queue.len; draws = st.draws } }) l'
     going_stops z ez = go (next R st) refl p
       where
         go : (x : Next (Turn Drawn) (State C) Stop) → next R st ≡ x → TurnContract x st o l'
-            → RunTurns R s₀ bound
+            → RunTurns R s₀ fuel
             (record { halt = Some z; turns = k; at = record { queued = st.queue.len; draws = st.draws } }) l'
         go (takes u s') q h = absurd (stop_took z _ (sym ez ∙ h.outcome))
         go (stops x) q h =
             let q' : next R (after k).state ≡ stops x = rw (← i.at) q in
-            let one : after bound ≡ after k = run_enough (next R) k bound [] s₀ x i.within q' in
-            let s : st ≡ (after bound).state = i.at
+            let one : after fuel ≡ after k = run_enough (next R) k fuel [] s₀ x i.within q' in
+            let s : st ≡ (after fuel).state = i.at
             ∙ sym (ap (λ (z : RunState (Turn Drawn) (State C)). z.state) one) in
-            let y : stop_of (next R) bound s₀ ≡ some x = sym i.left ∙ ap (λ (z : ℕ). stop_of (next R) z st) one_left
-            ∙ stop_stops (next R) (bound - (k + 1)) st x q in
+            let y : stop_of (next R) fuel s₀ ≡ some x = sym i.left ∙ ap (λ (z : ℕ). stop_of (next R) z st) one_left
+            ∙ stop_stops (next R) (fuel - (k + 1)) st x q in
             record {
               halt = ap (λ (w : Stop). Some w) (stopped_same z x (sym ez ∙ h.outcome)) ∙ sym (ap halt_of y);
               turns = sym (ap (λ (z : RunState (Turn Drawn) (State C)). length z.turns) one ∙ i.many);
@@ -107,12 +107,12 @@ module _ {C : Type 0} (R : Rules C) (s₀ : State C) (bound : ℕ) where
             }
 
   -- a run that is cut off has taken as many turns as it may, and none has stopped it
-  pub going_cut : {st : State C} → Going st bound
-      → RunTurns R s₀ bound
-      (record { halt = None; turns = bound; at = record { queued = st.queue.len; draws = st.draws } }) (lists_of st)
+  pub going_cut : {st : State C} → Going st fuel
+      → RunTurns R s₀ fuel
+      (record { halt = None; turns = fuel; at = record { queued = st.queue.len; draws = st.draws } }) (lists_of st)
   going_cut {st = st} i =
-      let e : bound - bound ≡ 0 = omega arith in
-      let y : stop_of (next R) bound s₀ ≡ none = sym i.left ∙ ap (λ (z : ℕ). stop_of (next R) z st) e in
+      let e : fuel - fuel ≡ 0 = omega arith in
+      let y : stop_of (next R) fuel s₀ ≡ none = sym i.left ∙ ap (λ (z : ℕ). stop_of (next R) z st) e in
       record {
         halt = sym (ap halt_of y);
         turns = sym i.many;
@@ -121,7 +121,7 @@ module _ {C : Type 0} (R : Rules C) (s₀ : State C) (bound : ℕ) where
         lists = ap lists_of i.at;
       }
 
-pub going_start : {C : Type 0} (R : Rules C) (bound : ℕ) (s : State C) → Going R s bound s 0
-going_start R bound s =
-    let e : bound - 0 ≡ bound = omega arith in
+pub going_start : {C : Type 0} (R : Rules C) (fuel : ℕ) (s : State C) → Going R s fuel s 0
+going_start R fuel s =
+    let e : fuel - 0 ≡ fuel = omega arith in
     record { at = refl; many = refl; within = omega arith; left = ap (λ (z : ℕ). stop_of (next R) z s) e }

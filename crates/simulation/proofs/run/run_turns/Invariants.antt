@@ -8,6 +8,6 @@ use Rattle.simulation.proofs.run.run_turns.Given as goal
 
 abbrev pub invariant-loop-turns : goal.invariant-loop-turns
 invariant-loop-turns l = record {
-  going : Going (rules_as l.rules) (state_at l.initial.lists l.fn.from) l.bound (state_at l.lists l.at) l.turns;
+  going : Going (rules_as l.rules) (state_at l.initial.lists l.fn.from) l.fuel (state_at l.lists l.at) l.turns;
   same : SameLists l.initial.lists l.lists;
 }

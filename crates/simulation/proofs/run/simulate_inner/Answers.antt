@@ -13,8 +13,8 @@ set_up-cards-requires c =
     let ok = accepted (inputs_of a.learner a.settings) (state (lent_of a.lists.now) 0 a.settings.seed) c.requires in
     (omega (arith, ok.existing_few, ok.deck_most), ok.span_most)
 
-pub bound_of-bound-requires : goal.bound_of-bound-requires
-bound_of-bound-requires c =
+pub fuel_of-fuel-requires : goal.fuel_of-fuel-requires
+fuel_of-fuel-requires c =
     let a = c.args in
     few_cards (rules_as (record { config = a.settings.config; model = c.new.result }))
     (inputs_of a.learner a.settings) (state (lent_of a.lists.now) 0 a.settings.seed)
@@ -26,4 +26,4 @@ returns-clause-run c =
     rw (← c.new.ensures)
     (inner_is (rules_as (record { config = a.settings.config; model = c.new.result }))
     (inputs_of a.learner a.settings) (state (lent_of a.lists.now) 0 a.settings.seed)
-    c.set_up-cards.ensures.state c.bound_of-bound.ensures c.run_held-end.ensures.run c.answer_of.ensures)
+    c.set_up-cards.ensures.state c.fuel_of-fuel.ensures c.run_held-end.ensures.run c.answer_of.ensures)
