@@ -26,7 +26,7 @@ cheapest_search s =
 
 unfoldable pub answer_text : SearchAnswer → List ℕ
 answer_text (Ok x) = cheapest_line x.retention x.rounds x.mean
-answer_text (Err r) = refused_line (Forms.number_of r) (Forms.second_of r)
+answer_text (Err r) = refused_line (number_of r) (second_of r)
 
 unfoldable pub verdict_text : Result Unit ReadError → Settings → List ℕ
 verdict_text (Err e) s = refused_line (Forms.number_of e) (Forms.second_of e)

@@ -68,7 +68,7 @@ entry_is s =
     )
 
 entry-refused : (s : Settings) (r : Refusal) → entry_of s ≡ Err r
-    → run_text s ≡ refused_line (Forms.number_of r) (Forms.second_of r)
+    → run_text s ≡ refused_line (number_of r) (second_of r)
 unfolding run_text forecast_run run_with simulated_by answer_text
 entry-refused s r e = rw (entry_is s, e)
 

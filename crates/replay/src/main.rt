@@ -9,8 +9,8 @@ mod digest;
 mod inputs;
 mod kept;
 mod record;
-mod whole;
 mod shown;
+mod whole;
 
 use inputs::Inputs;
 use kept::Kept;
