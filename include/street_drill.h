@@ -180,12 +180,12 @@ drill_simulate(const float *parameters, size_t parameters_len, const struct dril
                float *memorized, size_t memorized_len, uint32_t *due, size_t due_len, struct drill_interval_key *keys,
                size_t keys_len, float *intervals, size_t intervals_len);
 
-/* The same with names, so that no list can stand in another's place: what a run is given, and the lists that it writes.
- * Lists that belong together have one length. */
+/* The same with names, by which each list is set (`.costs = costs`): what a run is given, and the lists that it writes.
+ * Lists that belong together have one length, which is at least what stands beside it. */
 struct drill_inputs {
     const float *parameters;
     size_t parameters_len;
-    const struct drill_card_state *existing_cards; /* NULL where existing_len is 0 */
+    const struct drill_card_state *existing_cards; /* these two may be NULL where existing_len is 0 */
     const struct drill_card_counts *existing_counts;
     size_t existing_len; /* of both */
     struct drill_config config;
