@@ -15,7 +15,7 @@ use Rattle.capi.specs.declared.run.RunNumbers.{RunNumbers}
 
 -- the first list that fails the test of refusal 6
 abbrev pub list_of : {C : Type 0} → Inputs → State C → ℕ
-list_of i s = short_list i.config (length i.existing) (length i.existing_counts) (lengths_of s)
+list_of i s = short_list i.settings.config (length i.existing) (length i.existing_counts) (lengths_of s)
 
 -- it is told with that refusal alone, by number
 abbrev pub list_in : ℕ → ℕ → ℕ

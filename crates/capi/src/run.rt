@@ -1,7 +1,7 @@
 // The run over lists of numbers.
 ghost use Rattle.runs.specs.State.{lent, state};
 ghost use Rattle.runs.specs.Simulate.{told};
-ghost use Rattle.entry.specs.Entry.{inputs};
+ghost use Rattle.entry.specs.Entry.{settings, inputs};
 ghost use Rattle.capi.specs.Answer.{list_in, numbers_of, CallContract};
 ghost use Rattle.std.specs.Prelude.{◌≡◌};
 
@@ -73,7 +73,7 @@ pub extern "C" fn drill_simulate(
     intervals: &mut [f32],
 ) -> RunNumbers
     ensures { CallContract
-        (inputs config parameters.now desired_retention seed existing.now
+        (inputs (settings config desired_retention seed) parameters.now existing.now
         existing_counts.now)
         (state (lent cards.old counts.old queue.old days.old
         costs.old memorized.old due.old keys.old

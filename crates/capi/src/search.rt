@@ -1,16 +1,18 @@
 // The search over lists of numbers, whole and one trial at a time.
 ghost use Rattle.std.specs.Prelude.{◌≡◌};
 ghost use Rattle.brent.specs.Stepping.{started, next_retention, take_mean, answer};
+ghost use Rattle.float32.specs.Numbers.{0ᶠ};
+ghost use Rattle.entry.specs.Entry.{settings, inputs};
 ghost use Rattle.runs.specs.State.{lent};
 ghost use Rattle.retention.specs.SampleSize.{sample_size};
-ghost use Rattle.retention.specs.Trials.{search_inputs, total, target, mean_of};
+ghost use Rattle.retention.specs.Trials.{total, target, mean_of};
 ghost use Rattle.capi.specs.Search.{numbers_of, SearchCall, asked, verdict_number};
 
 use super::run::list_in;
 use brent::{Stepper, Verdict};
 use cards::{CardRow, CountRow, SimulatorConfig};
 use days::DayRow;
-use entry::{Learner, Lists, Refusal};
+use entry::{Learner, Lists, Refusal, Settings};
 use intervals::KeyRow;
 use queue::QueueRow;
 use retention::Optimum;
@@ -65,7 +67,7 @@ pub extern "C" fn drill_optimal_retention(
     intervals: &mut [f32],
 ) -> SearchNumbers
     ensures { SearchCall
-        (search_inputs config parameters.now existing.now existing_counts.now) rounds
+        (inputs (settings config 0ᶠ 0) parameters.now existing.now existing_counts.now) rounds
         (lent cards.old counts.old queue.old days.old costs.old
         memorized.old due.old keys.old intervals.old)
         result
@@ -88,13 +90,19 @@ pub extern "C" fn drill_optimal_retention(
         existing,
         existing_counts,
     };
+    // the search tries its own retentions with its own seeds
+    let settings = Settings {
+        config,
+        retention: 0.0,
+        seed: 0,
+    };
     let list = entry::short_list(
         config,
         existing.len(),
         existing_counts.len(),
         lists.lengths(),
     );
-    let told = retention::optimal_retention(&mut lists, learner, config, rounds);
+    let told = retention::optimal_retention(&mut lists, learner, settings, rounds);
     numbers_of(told, list)
 }
 

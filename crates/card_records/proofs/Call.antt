@@ -152,7 +152,7 @@ module _ (w : List Float) (cs : List Card) (set : Settings) (l : Lent Float) (ro
         ∙ is_passed
 
     pub when_passed : {r : Answer} {l' : Lent Float}
-        → RunContract (inputs set.config w set.retention set.seed (take (length cs) rows_in)
+        → RunContract (inputs set w (take (length cs) rows_in)
         (take (length cs) counts_in)) start r l'
         → RecordsContract given start room room-counts r l' rows_in counts_in
     unfolding simulated_by
@@ -161,9 +161,9 @@ module _ (w : List Float) (cs : List Card) (set : Settings) (l : Lent Float) (ro
         let rows : take (length cs) rows_in ≡ float_rows cs = rows_taken floats_of cs room h.0 in
         let counts : take (length cs) counts_in ≡ count_rows cs = rows_taken counts_of cs room-counts h.1 in
         let run : RunContract given start r l' =
-        subst (λ (z : List (List Float)). RunContract (inputs set.config w set.retention set.seed z (count_rows cs)) start
+        subst (λ (z : List (List Float)). RunContract (inputs set w z (count_rows cs)) start
         r l') rows
-        (subst (λ (z : List (List ℕ)). RunContract (inputs set.config w set.retention set.seed (take (length cs) rows_in)
+        (subst (λ (z : List (List ℕ)). RunContract (inputs set w (take (length cs) rows_in)
         z) start r l') counts said) in
         record {
           result = subst (λ (c : Check). IsResult (after_check (rules_for given) given c start) r l')

@@ -48,7 +48,7 @@ has_room n floats counts = leb n floats && leb n counts
 unfoldable pub checked_records : Inputs → State Float → ℕ → ℕ → Check
 checked_records i s floats counts =
     let n = length i.existing in
-    check_settings (is_finite i.retention) (lists_ok i s && has_room n floats counts) i.parameters i.config n
+    check_settings (is_finite i.settings.retention) (lists_ok i s && has_room n floats counts) i.parameters i.settings.config n
     (check_cards i.existing i.existing_counts n)
 
 -- a list with others at its first places where the tests pass, and else as it was
@@ -58,7 +58,7 @@ laid (Err r) new old = old
 
 -- the core's inputs: the records' rows are their existing cards
 abbrev pub record_inputs : List Float → List Card → Settings → Inputs
-record_inputs w cs s = inputs s.config w s.retention s.seed (float_rows cs) (count_rows cs)
+record_inputs w cs s = inputs s w (float_rows cs) (count_rows cs)
 
 -- WHAT A CALL PROMISES. `i` has the records' rows as its existing cards, `room` and `room-counts` are lent for them.
 pub record RecordsContract (i : Inputs) (s : State Float) (room : List (List Float)) (room-counts : List (List ℕ))

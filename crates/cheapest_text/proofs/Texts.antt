@@ -17,7 +17,7 @@ use Rattle.report.specs.Lines.{refused_line}
 use Rattle.report.proofs.WriteLaws.{refused-short, cheapest-short}
 use Rattle.entry.specs.Refusals.{number_of, second_of}
 use Rattle.runs.specs.State.{Lent}
-use Rattle.retention.specs.Trials.{search_inputs}
+use Rattle.entry.specs.Entry.{settings, inputs}
 use Rattle.retention.specs.Retention.{SearchAnswer, optimum_of, SearchContract}
 use Rattle.forecast_text.specs.Settings.{most_span, default_settings, config_of, parameters_of}
 use Rattle.forecast_text.specs.Forecast.{lists}
@@ -26,7 +26,7 @@ use Rattle.cheapest_text.specs.Cheapest.{cheapest_search, answer_text, verdict_t
 -- the call that the code makes is that of the definition
 pub searched_is : (s : Settings) (g : SimulatorConfig) (w : List Float) (r : SearchAnswer) (l : Lent Float)
     → g ≡ config_of s → w ≡ parameters_of s
-    → SearchContract (search_inputs g w [] []) 64
+    → SearchContract (inputs (settings g 0ᶠ 0) w [] []) 64
     (lists (replicate most_span (replicate 4 0)) (replicate most_span 0ᶠ) (replicate most_span 0ᶠ)) r l
     → r ≡ optimum_of (cheapest_search s).answer
 unfolding cheapest_search

@@ -13,7 +13,7 @@ use Rattle.entry.specs.declared.Refusal.{Refusal}
 use Rattle.entry.specs.Refusals.{number_of, second_of}
 use Rattle.runs.specs.State.{Lent}
 use Rattle.brent.specs.Search.{Searched}
-use Rattle.retention.specs.Trials.{search_inputs}
+use Rattle.entry.specs.Entry.{settings, inputs}
 use Rattle.retention.specs.Retention.{SearchAnswer, most_rounds, optimal_retention, optimum_of}
 use Rattle.forecast_text.specs.Settings.{most_span, default_settings, config_of, parameters_of}
 use Rattle.forecast_text.specs.Forecast.{lists}
@@ -21,7 +21,7 @@ use Rattle.forecast_text.specs.Forecast.{lists}
 -- the lists of the forecast, and all rounds that the search allows; the text's retention and seed play no part
 unfoldable pub cheapest_search : Settings → Searched (Lent Float) Refusal
 cheapest_search s =
-    optimal_retention (search_inputs (config_of s) (parameters_of s) [] []) most_rounds
+    optimal_retention (inputs (settings (config_of s) 0ᶠ 0) (parameters_of s) [] []) most_rounds
     (lists (replicate most_span (replicate 4 0)) (replicate most_span 0ᶠ) (replicate most_span 0ᶠ))
 
 unfoldable pub answer_text : SearchAnswer → List ℕ

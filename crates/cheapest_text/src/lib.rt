@@ -32,7 +32,13 @@ fn search(set: Settings) -> Result<Optimum, Refusal>
         existing: &[],
         existing_counts: &[],
     };
-    retention::optimal_retention(&mut lists, learner, settings::config_of(set), 64)
+    // the search tries its own retentions with its own seeds
+    let settings = entry::Settings {
+        config: settings::config_of(set),
+        retention: 0.0,
+        seed: 0,
+    };
+    retention::optimal_retention(&mut lists, learner, settings, 64)
 }
 
 #[tactic(auto, unfolding(crate::specs::Cheapest::answer_text))]

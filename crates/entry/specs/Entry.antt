@@ -1,6 +1,6 @@
 -- The entry's tests, in their order (docs/RULES.md, E1 to E9). Definitions only.
 --   most_cards, most_days              the largest deck and the longest span
---   Inputs, inputs, with_parameters   what a run is given besides the lists that it writes
+--   Inputs, settings, inputs, with_parameters   what a run is given besides the lists that it writes
 --   Check, passed                     what a test says: it is passed, or why not
 --   first_where p n i                 the first number that passes a test
 --   is_bad k                          whether refusal 5 turns a card away
@@ -24,6 +24,7 @@ use Rattle.days.specs.Due.{due_days}
 use Rattle.entry.specs.declared.Refusal.{Refusal}
 use Rattle.entry.specs.declared.Refusal.TheVariants as refusal
 use Rattle.entry.specs.declared.lists.Lengths.{Lengths}
+use Rattle.entry.specs.declared.lists.Settings.{Settings}
 
 -- the largest deck, and the longest span
 abbrev pub most_cards : ℕ
@@ -34,26 +35,25 @@ most_days = 36500
 
 -- What a run is given besides the lists that it writes
 pub record Inputs : Type 0 where
-  pub config : SimulatorConfig
+  pub settings : Settings
   pub parameters : List Float
-  pub retention : Float
-  pub seed : ℕ
   pub existing : List (List Float)
   pub existing_counts : List (List ℕ)
 
-abbrev pub inputs : SimulatorConfig → List Float → Float → ℕ → List (List Float) → List (List ℕ) → Inputs
-inputs config w retention seed existing counts = record {
-  config = config;
+abbrev pub settings : SimulatorConfig → Float → ℕ → Settings
+settings config retention seed = record { config = config; retention = retention; seed = seed }
+
+abbrev pub inputs : Settings → List Float → List (List Float) → List (List ℕ) → Inputs
+inputs set w existing counts = record {
+  settings = set;
   parameters = w;
-  retention = retention;
-  seed = seed;
   existing = existing;
   existing_counts = counts;
 }
 
 -- the same inputs with other parameters
 abbrev pub with_parameters : List Float → Inputs → Inputs
-with_parameters w i = inputs i.config w i.retention i.seed i.existing i.existing_counts
+with_parameters w i = inputs i.settings w i.existing i.existing_counts
 
 -- what the entry's tests say: all are passed, or the first that is not
 abbrev pub Check : Type 0
@@ -154,5 +154,5 @@ check_settings ok lists w g n next = check_parameters w (first_refusal (setting_
 abbrev pub check_entry : Bool → Inputs → Lengths → Check
 check_entry ok i x =
     let n = length i.existing in
-    check_settings ok (lengths_ok i.config n (length i.existing_counts) x) i.parameters i.config n
+    check_settings ok (lengths_ok i.settings.config n (length i.existing_counts) x) i.parameters i.settings.config n
     (check_cards i.existing i.existing_counts n)

@@ -34,4 +34,4 @@ lengths_of_lists x = record {
 }
 
 abbrev pub inputs_of : Learner → Settings → Inputs
-inputs_of l s = inputs s.config l.parameters.now s.retention s.seed l.existing.now l.existing_counts.now
+inputs_of l s = inputs s l.parameters.now l.existing.now l.existing_counts.now

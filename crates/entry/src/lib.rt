@@ -3,8 +3,8 @@
 #![tactic(auto)]
 
 ghost use Rattle.std.specs.Prelude.{◌≡◌, ◌==◌, ◌||◌, nat_lt};
-ghost use Rattle.float32.specs.Numbers.{0ᶠ};
-ghost use Rattle.entry.specs.Entry.{inputs, is_bad, passed};
+ghost use Rattle.entry.specs.Entry.{is_bad, passed};
+ghost use Rattle.entry.specs.Lists.{inputs_of};
 ghost use Rattle.entry.specs.Entry.{check_parameters, lengths_ok, short_list, check_cards};
 ghost use Rattle.entry.specs.Entry.{check_settings, check_entry};
 
@@ -168,13 +168,12 @@ pub fn check_settings(
 pub fn check_entry(
     lengths: Lengths,
     learner: Learner<'_>,
-    config: SimulatorConfig,
+    settings: Settings,
     setting_ok: bool,
 ) -> Result<(), Refusal>
-    ensures { result ≡ check_entry setting_ok
-        (inputs config learner.entry.parameters.now 0ᶠ 0 learner.entry.existing.now
-        learner.entry.existing_counts.now) lengths }
+    ensures { result ≡ check_entry setting_ok (inputs_of learner.entry settings) lengths }
 {
+    let config = settings.config;
     let n = learner.existing.len();
     let long = lists_ok(config, n, learner.existing_counts.len(), lengths);
     check_settings(learner.parameters, config, setting_ok, long, n)?;

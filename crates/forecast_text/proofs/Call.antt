@@ -13,7 +13,7 @@ use Rattle.cards.specs.declared.configuration.SimulatorConfig.{SimulatorConfig}
 use Rattle.settings_text.specs.declared.Settings.{Settings}
 use Rattle.runs.specs.Simulate.{Answer}
 use Rattle.runs.specs.State.{Lent, state}
-use Rattle.entry.specs.Entry.{inputs}
+use Rattle.entry.specs.Entry.{settings, inputs}
 use Rattle.runs.specs.Demands.{RunContract}
 use Rattle.forecast_text.specs.Settings.{config_of, parameters_of, inputs_of, zero_above}
 use Rattle.forecast_text.specs.Forecast.{lists, run_with, RunDays}
@@ -21,7 +21,7 @@ use Rattle.forecast_text.specs.Forecast.{lists, run_with, RunDays}
 pub run_days : (s : Settings) (days : List (List ℕ)) (costs memorized : List Float)
     (g : SimulatorConfig) (w : List Float) (x : Float) (r : Answer) (l : Lent Float)
     → g ≡ config_of s → w ≡ parameters_of s → x ≡ of_bits binary32 s.retention
-    → RunContract (inputs g w x s.seed [] []) (state (lists days costs memorized) 0 s.seed) r l
+    → RunContract (inputs (settings g x s.seed) w [] []) (state (lists days costs memorized) 0 s.seed) r l
     → {days' : List (List ℕ)} {costs' memorized' : List Float} → days' ≡ l.days → costs' ≡ l.costs
     → memorized' ≡ l.memorized → RunDays (run_with days costs memorized s) r days' costs' memorized'
 unfolding run_with inputs_of

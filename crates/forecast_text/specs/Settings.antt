@@ -11,7 +11,7 @@ use Rattle.std.specs.Float.Ieee.{round, to_bits, of_bits}
 use Rattle.model.specs.Defaults as Defaults
 use Rattle.cards.specs.declared.configuration.SimulatorConfig.{SimulatorConfig}
 use Rattle.settings_text.specs.declared.Settings.{Settings}
-use Rattle.entry.specs.Entry.{Inputs, inputs}
+use Rattle.entry.specs.Entry.{Inputs, settings, inputs}
 
 -- `SimulatorConfig::default`; 4294967295 is no limit
 unfoldable pub default_config : SimulatorConfig
@@ -95,4 +95,4 @@ parameters_of s = cond (get_or s.seen 0 false) (floats_of s.parameters) []
 
 -- no existing cards
 unfoldable pub inputs_of : Settings → Inputs
-inputs_of s = inputs (config_of s) (parameters_of s) (of_bits binary32 s.retention) s.seed [] []
+inputs_of s = inputs (settings (config_of s) (of_bits binary32 s.retention) s.seed) (parameters_of s) [] []

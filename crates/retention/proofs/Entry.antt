@@ -42,9 +42,9 @@ use Rattle.retention.specs.Laws.{beyond_runs}
 module _ (i : Inputs) (rounds : ℕ) (l : Lent Float) where
   -- the tests, as the code makes them
   pub entry_is : (ok : Bool) {c : Check} → ok ≡ rounds_ok rounds
-      → c ≡ checked_with ok (inputs i.config i.parameters 0ᶠ 0 i.existing i.existing_counts) (state l 0 0)
+      → c ≡ checked_with ok i (state l 0 0)
       → c ≡ checked_search rounds i l
-  entry_is ok f e = same_tests i (state l 0 i.seed) ok e ∙ ap (λ (b : Bool). checked_with b i (state l 0 i.seed)) f
+  entry_is ok f e = same_tests i (state l 0 i.settings.seed) ok e ∙ ap (λ (b : Bool). checked_with b i (state l 0 i.settings.seed)) f
 
   pub search-refused : (r : Refusal) → checked_search rounds i l ≡ Err r
       → IsSearched (optimal_retention i rounds l) (Err r) l
@@ -59,11 +59,11 @@ module _ (i : Inputs) (rounds : ℕ) (l : Lent Float) where
   pub rounds_few : checked_search rounds i l ≡ passed → rounds ≤ most_rounds
   unfolding rounds_ok
   rounds_few e =
-      let ok = setting_ok (rounds_ok rounds) i (state l 0 i.seed) e in
+      let ok = setting_ok (rounds_ok rounds) i (state l 0 i.settings.seed) e in
       leb-true rounds most_rounds (both (leb 1 rounds) (leb rounds most_rounds) ok).1
 
 -- ---- the entry's tests look only at the lists' lengths
-same_lengths : (ok : Bool) (i j : Inputs) (a a' b b' : ℕ) (l l' : Lent Float) → j.config ≡ i.config
+same_lengths : (ok : Bool) (i j : Inputs) (a a' b b' : ℕ) (l l' : Lent Float) → j.settings.config ≡ i.settings.config
     → j.parameters ≡ i.parameters → j.existing ≡ i.existing → j.existing_counts ≡ i.existing_counts
     → SameLengths l l' → checked_with ok j (state l' a' b') ≡ checked_with ok i (state l a b)
 unfolding check_settings lengths_ok short_list
@@ -74,9 +74,9 @@ pub passes_again : (rounds : ℕ) (i : Inputs) (l l' : Lent Float) (u : Float) (
     → checked_search rounds i l ≡ passed → SameLengths l l' → T (within u)
     → checked (run_inputs i u n) (state l' 0 (first_seed + n)) ≡ passed
 passes_again rounds i l l' u n e h w =
-    let ok = setting_ok (rounds_ok rounds) i (state l 0 i.seed) e in
+    let ok = setting_ok (rounds_ok rounds) i (state l 0 i.settings.seed) e in
     ap (λ (b : Bool). checked_with b (run_inputs i u n) (state l' 0 (first_seed + n))) (within_finite u w ∙ sym ok)
-    ∙ same_lengths (rounds_ok rounds) i (run_inputs i u n) 0 0 i.seed (first_seed + n) l l' refl refl refl refl h ∙ e
+    ∙ same_lengths (rounds_ok rounds) i (run_inputs i u n) 0 0 i.settings.seed (first_seed + n) l l' refl refl refl refl h ∙ e
 
 -- ---- what a trial keeps, and that it is refused by 7 or 8 or not at all
 abbrev pub SevenOrEight : Refusal → Type 0
@@ -114,8 +114,8 @@ module _ (rounds : ℕ) (i : Inputs) (l : Lent Float) (e : checked_search rounds
       let same : SameLengths l' (lists_of (simulated j s).state) = rw (d.run_leaves pass) (d.lengths_same pass) in
       let far : beyond_runs i (lists_of (simulated j s).state) ≡ beyond_runs i l' =
       rw (d.run_leaves pass)
-      (subst (λ (c : ℕ). beyond c i.config.learn_span (end_of (rules_for j) j s)
-      ≡ beyond c i.config.learn_span s) (d.cards_are pass) (d.beyond_same pass)) in
+      (subst (λ (c : ℕ). beyond c i.settings.config.learn_span (end_of (rules_for j) j s)
+      ≡ beyond c i.settings.config.learn_span s) (d.cards_are pass) (d.beyond_same pass)) in
       go (simulated j s).answer _ (lists_of (simulated j s).state) (λ r p q. d.run_refusal pass r p q)
       (record { lengths = longer h.lengths same; behind = far ∙ h.behind })
     where
@@ -142,7 +142,7 @@ module _ (rounds : ℕ) (i : Inputs) (l : Lent Float) (e : checked_search rounds
   pub trials_lawful : (l' : Lent Float) (u : Float) → Keeps i l l' → T (within u) → Lawfully (sample i l' u)
   unfolding sample
   trials_lawful l' u h w =
-      let n = sample_size i.config.learn_span in
+      let n = sample_size i.settings.config.learn_span in
       go n (runs_from i u n 0 (neg 0ᶠ) l') (runs_lawful u n 0 (neg 0ᶠ) l' h w)
     where
       go : (n : ℕ) (y : Sampled (Lent Float) Refusal) → Lawfully y

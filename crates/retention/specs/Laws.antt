@@ -18,10 +18,10 @@ use Rattle.retention.specs.Retention.{checked_search, optimal_retention, optimum
 
 -- every run of a search has the same cards: the existing ones that are kept, and those created
 abbrev pub run_cards : Inputs → ℕ
-run_cards i = kept_cards i + new_card_count i.config (kept_cards i)
+run_cards i = kept_cards i + new_card_count i.settings.config (kept_cards i)
 
 abbrev pub beyond_runs : Inputs → Lent Float → Lent Float
-beyond_runs i l = beyond (run_cards i) i.config.learn_span (state l 0 0)
+beyond_runs i l = beyond (run_cards i) i.settings.config.learn_span (state l 0 0)
 
 pub record SearchLaws (i : Inputs) (rounds : ℕ) (l : Lent Float) : Type 0 where
   -- an entry refusal, exactly by the table, makes no trial and writes nothing

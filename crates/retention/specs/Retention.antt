@@ -25,7 +25,7 @@ rounds_ok rounds = leb 1 rounds && leb rounds most_rounds
 
 -- as a run's, in the same order, with the rounds in the retention's place
 abbrev pub checked_search : ℕ → Inputs → Lent Float → Check
-checked_search rounds i l = checked_with (rounds_ok rounds) i (state l 0 i.seed)
+checked_search rounds i l = checked_with (rounds_ok rounds) i (state l 0 i.settings.seed)
 
 -- an entry refusal makes no trial and leaves the lists as they are
 abbrev pub searched_after : Check → Lent Float → Searched (Lent Float) Refusal → Searched (Lent Float) Refusal

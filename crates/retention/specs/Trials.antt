@@ -1,6 +1,5 @@
 -- A TRIAL of the search (docs/RULES.md, O1 to O3): runs at one retention, each with its own seed, one after the other
 -- in the same lists, and the mean of what they cost. Definitions only.
---   search_inputs, search_of   what a search is given besides the lists that it writes
 --   run_inputs i u n      the inputs of run n of a trial at u
 --   total xs n           the first n numbers added up
 --   target span l        what a run costs for each card that is memorized at its end
@@ -14,13 +13,10 @@ use Rattle.std.specs.Float.{binary32, nan}
 use Rattle.std.specs.Float.Ieee.{neg, of_int}
 use Rattle.float32.specs.Numbers.{0ᶠ}
 use Rattle.float32.specs.Ops.{◌+ᶠ◌, ◌/ᶠ◌}
-use Rattle.cards.specs.declared.configuration.SimulatorConfig.{SimulatorConfig}
 use Rattle.entry.specs.declared.Refusal.{Refusal}
-use Rattle.entry.specs.declared.lists.Learner.{Learner}
 use Rattle.runs.specs.State.{Lent, state, lists_of}
 use Rattle.entry.specs.Entry.{Inputs, inputs}
 use Rattle.runs.specs.Simulate.{Answer, simulated}
-use Rattle.brent.specs.Step.{r_min}
 use Rattle.brent.specs.Search.{Sampled, gives, refuses}
 use Rattle.retention.specs.SampleSize.{sample_size}
 
@@ -28,16 +24,9 @@ use Rattle.retention.specs.SampleSize.{sample_size}
 abbrev pub first_seed : ℕ
 first_seed = 42
 
--- a search has no retention and no seed of its own: those of its first run stand for them
-abbrev pub search_inputs : SimulatorConfig → List Float → List (List Float) → List (List ℕ) → Inputs
-search_inputs config w existing counts = inputs config w r_min first_seed existing counts
-
-abbrev pub search_of : Learner → SimulatorConfig → Inputs
-search_of l config = search_inputs config l.parameters.now l.existing.now l.existing_counts.now
-
--- run n of a trial at the retention u
+-- run n of a trial at the retention u; a search looks at no other retention and no other seed
 abbrev pub run_inputs : Inputs → Float → ℕ → Inputs
-run_inputs i u n = inputs i.config i.parameters u (first_seed + n) i.existing i.existing_counts
+run_inputs i u n = inputs (record i.settings { retention = u; seed = first_seed + n }) i.parameters i.existing i.existing_counts
 
 -- the first n numbers added up in their order, as the Rust adds: from −0
 unfoldable pub total : List Float → ℕ → Float
@@ -63,7 +52,7 @@ unfoldable pub run_of : Inputs → Float → ℕ → Lent Float → Sampled (Len
 run_of i u n l =
     let x = simulated (run_inputs i u n) (state l 0 (first_seed + n)) in
     let after = lists_of x.state in
-    sampled_as (refusal_in x.answer) (target i.config.learn_span after.costs after.memorized) after
+    sampled_as (refusal_in x.answer) (target i.settings.config.learn_span after.costs after.memorized) after
 
 -- what follows where nothing was refused
 abbrev pub and_then : {W R : Type 0} → Sampled W R → (W → Float → Sampled W R) → Sampled W R
@@ -81,7 +70,7 @@ mean_of n sum = sum /ᶠ of_int binary32 (pos n)
 
 unfoldable pub sample : Inputs → Lent Float → Float → Sampled (Lent Float) Refusal
 sample i l u =
-    let n = sample_size i.config.learn_span in
+    let n = sample_size i.settings.config.learn_span in
     and_then (runs_from i u n 0 (neg 0ᶠ) l) (λ after sum. gives after (mean_of n sum))
 
 -- ---- as a call says it: the mean, or the refusal of the first run that was refused

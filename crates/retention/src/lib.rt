@@ -4,15 +4,14 @@
 ghost use Rattle.std.specs.Prelude.{◌≡◌, ◌≤◌};
 ghost use Rattle.brent.specs.Search.{search};
 ghost use Rattle.brent.specs.Stepping.{told, answer};
-ghost use Rattle.entry.specs.Lists.{SameLists};
+ghost use Rattle.entry.specs.Lists.{SameLists, inputs_of};
 ghost use Rattle.runs.specs.State.{lent_of};
-ghost use Rattle.retention.specs.Trials.{search_of, sample};
+ghost use Rattle.retention.specs.Trials.{sample};
 ghost use Rattle.retention.specs.Retention.{most_rounds, rounds_ok, optimum_of, number_of, second_of};
 ghost use Rattle.retention.specs.Retention.{IsSearched, SearchContract};
 
 use brent::{Stepper, Verdict};
-use cards::SimulatorConfig;
-use entry::{Learner, Lists, Refusal, refusals};
+use entry::{Learner, Lists, Refusal, Settings, refusals};
 
 mod sizes;
 mod trials;
@@ -73,12 +72,12 @@ fn ended(t: Stepper) -> Result<Optimum, Refusal>
 fn search(
     lists: &mut Lists<'_>,
     learner: Learner<'_>,
-    config: SimulatorConfig,
+    settings: Settings,
     rounds: u32,
 ) -> Result<Optimum, Refusal>
     requires { rounds ≤ most_rounds }
     ensures searched { IsSearched
-        (search (sample (search_of learner.entry config)) rounds (lent_of lists.old))
+        (search (sample (inputs_of learner.entry settings)) rounds (lent_of lists.old))
         result (lent_of lists.new) }
     ensures same { SameLists lists.old lists.new }
 {
@@ -87,23 +86,24 @@ fn search(
         let Some(retention) = brent::next_retention(stepper) else {
             return ended(stepper);
         };
-        let mean = trials::sample(lists, learner, config, retention)?;
+        let mean = trials::sample(lists, learner, settings, retention)?;
         stepper = brent::take_mean(stepper, mean);
     }
     ended(stepper)
 }
 
-// The retention from 0.70 to 0.95 at which a run costs least for each card that it has memorized in the end. The lists
+// The retention from 0.70 to 0.95 at which a run costs least for each card that it has memorized in the end; it tries its
+// own retentions with its own seeds, and looks at no retention and no seed of the settings. The lists
 // are those of `simulation::simulate`, and are left as by the last run made.
 pub fn optimal_retention(
     lists: &mut Lists<'_>,
     learner: Learner<'_>,
-    config: SimulatorConfig,
+    settings: Settings,
     rounds: u32,
 ) -> Result<Optimum, Refusal>
-    ensures search { SearchContract (search_of learner.entry config) rounds (lent_of lists.old) result (lent_of lists.new) }
+    ensures search { SearchContract (inputs_of learner.entry settings) rounds (lent_of lists.old) result (lent_of lists.new) }
     ensures same { SameLists lists.old lists.new }
 {
-    entry::check_entry(lists.lengths(), learner, config, rounds_ok(rounds))?;
-    search(lists, learner, config, rounds)
+    entry::check_entry(lists.lengths(), learner, settings, rounds_ok(rounds))?;
+    search(lists, learner, settings, rounds)
 }

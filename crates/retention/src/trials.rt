@@ -1,13 +1,12 @@
 // A trial: the runs of one retention, in the same lists one after the other, and the mean of what they cost.
 ghost use Rattle.std.specs.Prelude.{◌≡◌, get_or};
 ghost use Rattle.std.specs.Float.{nan};
-ghost use Rattle.entry.specs.Lists.{SameLists};
+ghost use Rattle.entry.specs.Lists.{SameLists, inputs_of};
 ghost use Rattle.runs.specs.State.{lent_of};
-ghost use Rattle.retention.specs.Trials.{search_of, total, target, mean_of, run_of, sample};
+ghost use Rattle.retention.specs.Trials.{total, target, mean_of, run_of, sample};
 ghost use Rattle.retention.specs.Trials.{TrialContract};
 
 use super::sizes::sample_size;
-use cards::SimulatorConfig;
 use entry::{Learner, Lists, Refusal, Settings};
 
 fn place(xs: &[f32], i: u32) -> f32
@@ -51,38 +50,38 @@ fn target_of(lists: &Lists<'_>, span: u32) -> f32
 fn run_of(
     lists: &mut Lists<'_>,
     learner: Learner<'_>,
-    config: SimulatorConfig,
+    settings: Settings,
     retention: f32,
     n: u32,
 ) -> Result<f32, Refusal>
-    ensures run { TrialContract (run_of (search_of learner.entry config) retention n (lent_of lists.old))
+    ensures run { TrialContract (run_of (inputs_of learner.entry settings) retention n (lent_of lists.old))
         result (lent_of lists.new) }
     ensures same { SameLists lists.old lists.new }
 {
-    let settings = Settings {
-        config,
+    let own = Settings {
         retention,
         seed: 42 + u64::from(n),
+        ..settings
     };
-    simulation::simulate(lists, learner, settings).map_err(|it| it.refusal)?;
-    Ok(target_of(lists, config.learn_span))
+    simulation::simulate(lists, learner, own).map_err(|it| it.refusal)?;
+    Ok(target_of(lists, settings.config.learn_span))
 }
 
 // The trial of a retention.
 pub(crate) fn sample(
     lists: &mut Lists<'_>,
     learner: Learner<'_>,
-    config: SimulatorConfig,
+    settings: Settings,
     retention: f32,
 ) -> Result<f32, Refusal>
-    ensures trial { TrialContract (sample (search_of learner.entry config) (lent_of lists.old) retention)
+    ensures trial { TrialContract (sample (inputs_of learner.entry settings) (lent_of lists.old) retention)
         result (lent_of lists.new) }
     ensures same { SameLists lists.old lists.new }
 {
-    let runs = sample_size(config.learn_span);
+    let runs = sample_size(settings.config.learn_span);
     let mut sum = -0.0;
     for made in 0..runs {
-        sum += run_of(lists, learner, config, retention, made)?;
+        sum += run_of(lists, learner, settings, retention, made)?;
     }
     Ok(sum / float32::from_u32(runs))
 }

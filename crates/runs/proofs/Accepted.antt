@@ -26,24 +26,24 @@ use Rattle.turns.proofs.Logic.{not-false}
 
 pub record Accepted {C : Type 0} (i : Inputs) (s : State C) : Type 0 where
   pub parameters_long : 34 ≤ length i.parameters
-  pub deck_some : 0 < i.config.deck_size
-  pub deck_most : i.config.deck_size ≤ most_cards
-  pub span_some : 0 < i.config.learn_span
-  pub span_most : i.config.learn_span ≤ most_days
-  pub config_passes : config_ok i.config ≡ true
-  pub retention_ok : is_finite i.retention ≡ true
+  pub deck_some : 0 < i.settings.config.deck_size
+  pub deck_most : i.settings.config.deck_size ≤ most_cards
+  pub span_some : 0 < i.settings.config.learn_span
+  pub span_most : i.settings.config.learn_span ≤ most_days
+  pub config_passes : config_ok i.settings.config ≡ true
+  pub retention_ok : is_finite i.settings.retention ≡ true
   pub lists_pass : lists_ok i s ≡ true
   pub existing_even : length i.existing ≡ length i.existing_counts
   pub table_even : length s.table.keys ≡ length s.table.intervals
   pub cards_even : length s.cards ≡ length s.counts
-  pub cards_long : i.config.deck_size ≤ length s.cards
-  pub counts_long : i.config.deck_size ≤ length s.counts
-  pub queue_long : i.config.deck_size ≤ length s.queue.rows
-  pub days_long : i.config.learn_span ≤ length s.days
-  pub costs_long : i.config.learn_span ≤ length s.costs
-  pub memorized_long : i.config.learn_span ≤ length s.memorized
-  pub due_long : due_days i.config.learn_span ≤ length s.due
-  pub existing_few : length i.existing ≤ i.config.deck_size
+  pub cards_long : i.settings.config.deck_size ≤ length s.cards
+  pub counts_long : i.settings.config.deck_size ≤ length s.counts
+  pub queue_long : i.settings.config.deck_size ≤ length s.queue.rows
+  pub days_long : i.settings.config.learn_span ≤ length s.days
+  pub costs_long : i.settings.config.learn_span ≤ length s.costs
+  pub memorized_long : i.settings.config.learn_span ≤ length s.memorized
+  pub due_long : due_days i.settings.config.learn_span ≤ length s.due
+  pub existing_few : length i.existing ≤ i.settings.config.deck_size
   pub cards_ok : (j : ℕ) → j < length i.existing → is_kept (card_at i.existing i.existing_counts j) ≡ true
       → card_ok (card_at i.existing i.existing_counts j) ≡ true
 
@@ -54,9 +54,9 @@ kept-ok false b e k = absurd (false≢true k)
 pub accepted : {C : Type 0} (i : Inputs) (s : State C) → checked i s ≡ passed → Accepted i s
 unfolding check_cards
 accepted i s e =
-    let g = i.config in
+    let g = i.settings.config in
     let n = length i.existing in
-    let p = settings_passed (is_finite i.retention) (lists_ok i s) i.parameters g n _ e in
+    let p = settings_passed (is_finite i.settings.retention) (lists_ok i s) i.parameters g n _ e in
     let c = passes (ltb (first_where (not_ok i.existing i.existing_counts) n 0) n) _ _ p.next_passes in
     let l = lengths_pass g n (length i.existing_counts) (lengths_of s) p.lists_pass in
     let even = eqb-true (length s.cards) (length s.counts) l.1.1.0 in
@@ -91,22 +91,20 @@ accepted i s e =
 -- a call that passes has passed the test of its own setting
 pub setting_ok : {C : Type 0} (ok : Bool) (i : Inputs) (s : State C) → checked_with ok i s ≡ passed → ok ≡ true
 setting_ok ok i s e =
-    (settings_passed ok (lists_ok i s) i.parameters i.config (length i.existing) _ e).setting_ok
+    (settings_passed ok (lists_ok i s) i.parameters i.settings.config (length i.existing) _ e).setting_ok
 
 -- a run that passes has lists that are long enough, and a day or more
 pub lists_and_span : {C : Type 0} (i : Inputs) (s : State C) → checked i s ≡ passed
-    → (lists_ok i s ≡ true) × (0 < i.config.learn_span)
+    → (lists_ok i s ≡ true) × (0 < i.settings.config.learn_span)
 lists_and_span i s e = let ok = accepted i s e in (ok.lists_pass, ok.span_some)
 
 module _ (i : Inputs) (s : State Float) where
   -- the entry's tests look neither at the retention's value, nor at the seed, nor at the draws
   pub same_tests : (ok : Bool) {c : Check}
-      → c ≡ checked_with ok (inputs i.config i.parameters 0ᶠ 0 i.existing i.existing_counts) (with_draws 0 s)
-      → c ≡ checked_with ok i s
+      → c ≡ checked_with ok i (with_draws 0 s) → c ≡ checked_with ok i s
   same_tests ok e = e
 
   -- those of a run
-  pub same_check : (ok : Bool) {c : Check} → ok ≡ is_finite i.retention
-      → c ≡ checked_with ok (inputs i.config i.parameters 0ᶠ 0 i.existing i.existing_counts) (with_draws 0 s)
-      → c ≡ checked i s
+  pub same_check : (ok : Bool) {c : Check} → ok ≡ is_finite i.settings.retention
+      → c ≡ checked_with ok i (with_draws 0 s) → c ≡ checked i s
   same_check ok f e = same_tests ok e ∙ ap (λ (b : Bool). checked_with b i s) f

@@ -39,7 +39,7 @@ use Rattle.runs.proofs.run.Answers.{ok_passed, told_stop, stop_told, ok_demand, 
 
 module _ {C : Type 0} (R : Rules C) (i : Inputs) (s : State C) where
   entry_refusal : (r : Refusal) → checked i s ≡ Err r
-      → simulated_by R i s ≡ record { answer = some (refused r (progress 0 0 0 i.seed)); state = s }
+      → simulated_by R i s ≡ record { answer = some (refused r (progress 0 0 0 i.settings.seed)); state = s }
   unfolding simulated_by
   entry_refusal r e = rw e
 
@@ -49,25 +49,25 @@ module _ {C : Type 0} (R : Rules C) (i : Inputs) (s : State C) where
 
 -- the answer tells the stop, and the stop has its condition
 stops_exactly : (w : DrawRule) (i : Inputs) (s : State Float) → checked i s ≡ passed → (x : Stop)
-    → (let R = rules_with w i.config (of_parameters i.parameters) in
+    → (let R = rules_with w i.settings.config (of_parameters i.parameters) in
     ((simulated_by R i s).answer
     ≡ some (answer_of x (progress_of R i s))) ↔ StopCondition R
     (end_of R i s) x)
 stops_exactly w i s e x =
-    let R = rules_with w i.config (of_parameters i.parameters) in
+    let R = rules_with w i.settings.config (of_parameters i.parameters) in
     let fit = suits w i s (accepted i s e) in
-    let by = stops_iff w i.config (of_parameters i.parameters) (end_of R i s) x in
+    let by = stops_iff w i.settings.config (of_parameters i.parameters) (end_of R i s) x in
     (λ z. by.0 (told_stop R i s fit e x _ z), λ z. stop_told R i s fit e x (by.1 z))
 
 -- the answer tells the stop, and no state of the run has the condition of refusal 9
 no_due_refusal : (w : DrawRule) (i : Inputs) (s : State Float) → checked i s ≡ passed → (c : ℕ) (p : Progress)
-    → (simulated_by (rules_with w i.config (of_parameters i.parameters)) i s).answer ≢ some
+    → (simulated_by (rules_with w i.settings.config (of_parameters i.parameters)) i s).answer ≢ some
     (refused (refusal.Run (run_refused.DueCount c)) p)
 no_due_refusal w i s e c p z =
-    let R = rules_with w i.config (of_parameters i.parameters) in
+    let R = rules_with w i.settings.config (of_parameters i.parameters) in
     let fit = suits w i s (accepted i s e) in
     let stop : Stop = Err (run_refused.DueCount c) in
-    let by = stops_iff w i.config (of_parameters i.parameters) (end_of R i s) stop in
+    let by = stops_iff w i.settings.config (of_parameters i.parameters) (end_of R i s) stop in
     never_due R i s (accepted i s e) fit c (by.0 (told_stop R i s fit e stop p z))
 
 -- the condition of a stop leaves only two refusals
@@ -78,23 +78,23 @@ seven_or_eight R s (run_refused.TableFull c) h n = inr refl
 seven_or_eight R s (run_refused.DueCount c) h n = absurd (n c refl)
 
 run_refusal : (w : DrawRule) (i : Inputs) (s : State Float) → checked i s ≡ passed → (r : Refusal) (p : Progress)
-    → (simulated_by (rules_with w i.config (of_parameters i.parameters)) i s).answer ≡ some (refused r p)
+    → (simulated_by (rules_with w i.settings.config (of_parameters i.parameters)) i s).answer ≡ some (refused r p)
     → (number_of r ≡ 7) ⊎ (number_of r ≡ 8)
 run_refusal w i s e r p z =
-    let R = rules_with w i.config (of_parameters i.parameters) in
+    let R = rules_with w i.settings.config (of_parameters i.parameters) in
     let fit = suits w i s (accepted i s e) in
     let x = refused_in R i s fit e r p z in
     let z′ : (simulated_by R i s).answer ≡ some (refused (refusal.Run x.0) p)
     = z ∙ ap (λ (y : Refusal). some (refused y p)) x.1 in
-    let by = stops_iff w i.config (of_parameters i.parameters) (end_of R i s) (Err x.0) in
+    let by = stops_iff w i.settings.config (of_parameters i.parameters) (end_of R i s) (Err x.0) in
     rw x.1 (seven_or_eight R (end_of R i s) x.0 (by.0 (told_stop R i s fit e (Err x.0) p z′))
     (λ c q. no_due_refusal w i s e c p (z′ ∙ ap (λ (y : RunRefusal). some (refused (refusal.Run y) p)) q)))
 
 -- ALL OF THEM, whatever is drawn
 pub demands : (w : DrawRule) (i : Inputs) (s : State Float)
-    → Demands (rules_with w i.config (of_parameters i.parameters)) i s
+    → Demands (rules_with w i.settings.config (of_parameters i.parameters)) i s
 demands w i s =
-    let R = rules_with w i.config (of_parameters i.parameters) in
+    let R = rules_with w i.settings.config (of_parameters i.parameters) in
     record {
       entry_refusal = entry_refusal R i s;
       run_leaves = run_leaves R i s;
@@ -122,5 +122,5 @@ same_model v v' p = sym (runtime_is v) ∙ ap of_runtime (runtime_same v v' p) �
 pub unread_parameters : (w : DrawRule) (i : Inputs) (s : State Float) (v : List Float) → UnreadParameters w i s v
 unfolding simulated_by set_up empty_deck add_all_cards
 unread_parameters w i s v p e e' = rw (e, e')
-    (ap (λ (x : Scalars). result_from (rules_with w i.config x) (start_of (rules_with w i.config x) i s))
+    (ap (λ (x : Scalars). result_from (rules_with w i.settings.config x) (start_of (rules_with w i.settings.config x) i s))
     (sym (same_model i.parameters v p)))

@@ -23,11 +23,11 @@ lengths_of s = record {
 }
 
 abbrev pub lists_ok : {C : Type 0} → Inputs → State C → Bool
-lists_ok i s = lengths_ok i.config (length i.existing) (length i.existing_counts) (lengths_of s)
+lists_ok i s = lengths_ok i.settings.config (length i.existing) (length i.existing_counts) (lengths_of s)
 
 abbrev pub checked_with : {C : Type 0} → Bool → Inputs → State C → Check
 checked_with ok i s = check_entry ok i (lengths_of s)
 
 -- of a run: its retention is finite
 abbrev pub checked : {C : Type 0} → Inputs → State C → Check
-checked i s = checked_with (is_finite i.retention) i s
+checked i s = checked_with (is_finite i.settings.retention) i s

@@ -99,7 +99,7 @@ pub record RunContract (i : Inputs) (s : State Float) (r : Answer) (l : Lent Flo
 pub record Demands {C : Type 0} (R : Rules C) (i : Inputs) (s : State C) : Type 0 where
   -- 1: an entry refusal, exactly by the table, writes nothing and takes no turn
   pub entry_refusal : (r : Refusal) → checked i s ≡ Err r
-      → simulated_by R i s ≡ record { answer = some (refused r (progress 0 0 0 i.seed)); state = s }
+      → simulated_by R i s ≡ record { answer = some (refused r (progress 0 0 0 i.settings.seed)); state = s }
   -- a run refusal leaves the state after the last finished turn: the state that the turns taken lead to
   pub run_leaves : checked i s ≡ passed → (simulated_by R i s).state ≡ end_of R i s
   -- it ends Ok, or is refused by 7 or 8 with card c, exactly on the condition of that stop: Ok exactly when the queue
@@ -107,7 +107,7 @@ pub record Demands {C : Type 0} (R : Rules C) (i : Inputs) (s : State C) : Type 
   pub stops_exactly : checked i s ≡ passed → (x : Stop)
       → ((simulated_by R i s).answer ≡ some (answer_of x (progress_of R i s))) ↔ StopCondition R (end_of R i s) x
   -- a run's cards are the existing ones that are kept, and those created
-  pub cards_are : checked i s ≡ passed → cards_of R i s ≡ kept_cards i + new_card_count i.config (kept_cards i)
+  pub cards_are : checked i s ≡ passed → cards_of R i s ≡ kept_cards i + new_card_count i.settings.config (kept_cards i)
   -- places behind those that the run needs are as they were lent: of cards and queue behind the run's cards, of days
   -- behind the span, of due counts behind theirs
   pub beyond_same : checked i s ≡ passed
@@ -147,5 +147,5 @@ pub record Demands {C : Type 0} (R : Rules C) (i : Inputs) (s : State C) : Type 
 abbrev pub UnreadParameters : DrawRule → Inputs → State Float → List Float → Type 0
 UnreadParameters w i s v =
     SameRead i.parameters v → checked i s ≡ passed → checked (with_parameters v i) s ≡ passed
-    → simulated_by (rules_with w i.config (of_parameters v)) (with_parameters v i) s
-    ≡ simulated_by (rules_with w i.config (of_parameters i.parameters)) i s
+    → simulated_by (rules_with w i.settings.config (of_parameters v)) (with_parameters v i) s
+    ≡ simulated_by (rules_with w i.settings.config (of_parameters i.parameters)) i s

@@ -100,14 +100,14 @@ empty_deck i s = record {
   cards = s.cards;
   counts = s.counts;
   queue = queue s.queue.rows 0;
-  due = filled_with 0 (due_days i.config.learn_span) s.due;
+  due = filled_with 0 (due_days i.settings.config.learn_span) s.due;
 }
 
 -- the existing cards that are kept, and then the new ones
 unfoldable pub add_all_cards : Inputs → Deck → Deck
 add_all_cards i s =
-    let kept = add_existing_cards i.config.learn_span i.existing i.existing_counts (length i.existing) s in
-    add_new_cards i.retention i.config.learn_limit (new_card_count i.config kept.queue.len) kept
+    let kept = add_existing_cards i.settings.config.learn_span i.existing i.existing_counts (length i.existing) s in
+    add_new_cards i.settings.retention i.settings.config.learn_limit (new_card_count i.settings.config kept.queue.len) kept
 
 -- the row of counts at set-up: the known cards are introduced on each day
 abbrev pub first_day_counts : Inputs → List ℕ
@@ -121,10 +121,10 @@ set_up none i s =
       cards = deck.cards;
       counts = deck.counts;
       queue = deck.queue;
-      days = filled_with (first_day_counts i) i.config.learn_span s.days;
-      costs = filled_with none i.config.learn_span s.costs;
-      memorized = filled_with 0ᶠ i.config.learn_span s.memorized;
+      days = filled_with (first_day_counts i) i.settings.config.learn_span s.days;
+      costs = filled_with none i.settings.config.learn_span s.costs;
+      memorized = filled_with 0ᶠ i.settings.config.learn_span s.memorized;
       due = deck.due;
       table = clear_in s.table;
-      draws = i.seed;
+      draws = i.settings.seed;
     }

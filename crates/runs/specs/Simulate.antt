@@ -68,7 +68,7 @@ answer_if (some x) p = some (answer_of x p)
 
 -- the rules of a run's inputs: FSRS-7 by their parameters, and SplitMix64
 abbrev pub rules_for : Inputs → Rules Float
-rules_for i = rules_of i.config (of_parameters i.parameters)
+rules_for i = rules_of i.settings.config (of_parameters i.parameters)
 
 module _ {C : Type 0} (R : Rules C) where
   -- one turn more than is ever taken (`ends_within`)
@@ -91,7 +91,7 @@ module _ {C : Type 0} (R : Rules C) where
   -- an entry refusal leaves the lists as they are
   abbrev pub after_check : Inputs → Check → State C → Outcome C
   after_check i (Ok x) s = result_from (set_up R.costs.none i s)
-  after_check i (Err r) s = record { answer = some (refused r (progress 0 0 0 i.seed)); state = s }
+  after_check i (Err r) s = record { answer = some (refused r (progress 0 0 0 i.settings.seed)); state = s }
 
   -- a run by any rules, from inputs and lent lists
   unfoldable pub simulated_by : Inputs → State C → Outcome C

@@ -3,7 +3,7 @@
 #![tactic(auto)]
 
 use cards::SimulatorConfig;
-use entry::{Learner, Lists};
+use entry::{Learner, Lists, Settings};
 use float32::to_bits;
 use forecast_text::settings::default_config;
 use std::io;
@@ -55,7 +55,12 @@ fn search(rt: &impl Print, config: SimulatorConfig, rounds: u32) -> io::Result<(
         existing: &[],
         existing_counts: &[],
     };
-    let answer = retention::optimal_retention(&mut lists, learner, config, rounds);
+    let settings = Settings {
+        config,
+        retention: 0.0,
+        seed: 0,
+    };
+    let answer = retention::optimal_retention(&mut lists, learner, settings, rounds);
     match answer {
         Ok(x) => {
             print!(rt;

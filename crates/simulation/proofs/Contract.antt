@@ -32,18 +32,18 @@ not_finished r p q e = not-one cc
 
 module _ (i : Inputs) (s : State Float) where
   pub refused_is : (r : Refusal) → checked i s ≡ Err r
-      → RunContract i s (refused r (progress 0 0 0 i.seed)) (lists_of s)
+      → RunContract i s (refused r (progress 0 0 0 i.settings.seed)) (lists_of s)
   unfolding simulated_by
   refused_is r e = record {
     result = rw e (record { answer = refl; numbers = refl; lists = refl });
-    demand_three = λ p f. absurd (not_finished r (progress 0 0 0 i.seed) p f);
+    demand_three = λ p f. absurd (not_finished r (progress 0 0 0 i.settings.seed) p f);
   }
 
   module _ (e : checked i s ≡ passed) {r : Answer} {l' : Lent Float}
-      (d : InnerContract (rules_of i.config (of_runtime (Runtime.runtime_of i.parameters)))
+      (d : InnerContract (rules_of i.settings.config (of_runtime (Runtime.runtime_of i.parameters)))
       (start_of (rules_for i) i s) r l') where
     plainly : InnerContract (rules_for i) (start_of (rules_for i) i s) r l'
-    plainly = subst (λ (x : Scalars). InnerContract (rules_of i.config x) (start_of (rules_for i) i s) r l')
+    plainly = subst (λ (x : Scalars). InnerContract (rules_of i.settings.config x) (start_of (rules_for i) i s) r l')
         (runtime_is i.parameters) d
 
     result : IsResult (simulated i s) r l'

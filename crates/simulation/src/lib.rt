@@ -24,7 +24,7 @@ pub fn simulate(
     ensures same { SameLists lists.old lists.new }
 {
     let retention_ok = float32::is_finite(settings.retention);
-    let entry = entry::check_entry(lists.lengths(), learner, settings.config, retention_ok);
+    let entry = entry::check_entry(lists.lengths(), learner, settings, retention_ok);
     if let Err(refusal) = entry {
         return Err(Refused::at_entry(refusal, settings.seed));
     }

@@ -25,13 +25,13 @@ use Rattle.retention.specs.Trials.{runs_from, mean_of, sample, Trial, trial_of, 
 -- a run tells its target or its refusal
 pub run_is : (i : Inputs) (u : Float) (n : ℕ) (l : Lent Float) {a : Answer} {after : Lent Float}
     → RunContract (run_inputs i u n) (state l 0 (first_seed + n)) a after → {r : Trial}
-    → r ≡ trial_of (sampled_as (refusal_in (some a)) (target i.config.learn_span after.costs after.memorized) after)
+    → r ≡ trial_of (sampled_as (refusal_in (some a)) (target i.settings.config.learn_span after.costs after.memorized) after)
     → TrialContract (run_of i u n l) r after
 unfolding run_of
 run_is i u n l {a} {after} c {r} e = rw (c.result.answer, ← c.result.lists) (record { trial = e; lists = left a })
   where
     left : (a : Answer) → after
-        ≡ left_by (sampled_as (refusal_in (some a)) (target i.config.learn_span after.costs after.memorized) after)
+        ≡ left_by (sampled_as (refusal_in (some a)) (target i.settings.config.learn_span after.costs after.memorized) after)
     left (Ok p) = refl
     left (Err w) = refl
 
@@ -126,7 +126,7 @@ module _ (i : Inputs) (u : Float) (n : ℕ) (l₀ : Lent Float) where
 
 -- the whole loop is the trial
 pub sample_is : (i : Inputs) (u : Float) (l : Lent Float) {r : Trial} {after : Lent Float} (n : ℕ)
-    → n ≡ sample_size i.config.learn_span → TrialContract (whole i u n l) r after
+    → n ≡ sample_size i.settings.config.learn_span → TrialContract (whole i u n l) r after
     → TrialContract (sample i l u) r after
 unfolding sample
 sample_is i u l n e c = rw e at c

@@ -79,7 +79,7 @@ module _ {C : Type 0} (R : Rules C) (i : Inputs) (s : State C) where
     where
       go : (c : Check) → (after_check R i c s).answer ≡ some (finished p) → c ≡ passed
       go (Ok u) x = refl
-      go (Err r) x = absurd (refused-not r (progress 0 0 0 i.seed) p x)
+      go (Err r) x = absurd (refused-not r (progress 0 0 0 i.settings.seed) p x)
 
   pub passed_is : checked i s ≡ passed → simulated_by R i s ≡ result_from R (start_of R i s)
   unfolding simulated_by

@@ -261,7 +261,7 @@ lists_free R i fit s s' e l k =
 -- the run's cards: the existing ones that are kept, and those created
 pub cards_are : {C : Type 0} (R : Rules C) (i : Inputs) (s : State C) → checked i s ≡ passed
     → (let kept = kept_count i.existing i.existing_counts (length i.existing) in cards_of R i s
-    ≡ kept + new_card_count i.config kept)
+    ≡ kept + new_card_count i.settings.config kept)
 cards_are R i s e =
     let a = starts_alike R.costs.none i s s (accepted i s e) (accepted i s e) in
     ap (λ (z : State _). z.queue.len) a.here ∙ a.count
@@ -309,10 +309,10 @@ lengths_same {C = C} R i fit s e =
     let table = end_lengths R i s in
     let same = ap (λ (z : State C). z.table) front.whole in
     let kept = kept_count i.existing i.existing_counts (length i.existing) in
-    let kept_in : kept ≤ i.config.deck_size =
+    let kept_in : kept ≤ i.settings.config.deck_size =
     omega (arith, kept_few i.existing i.existing_counts (length i.existing), ok.existing_few) in
-    let few : n ≤ i.config.deck_size =
-    omega (arith, cards_are R i s e, cards_here R i fit s s e e, new_few i.config kept kept_in) in
+    let few : n ≤ i.settings.config.deck_size =
+    omega (arith, cards_are R i s e, cards_here R i fit s s e e, new_few i.settings.config kept kept_in) in
     subst (λ (z : State C). SameLengths (lists_of s) (lists_of z)) (sym front.whole)
     (own_lengths n R.span own s front.exact (omega (arith, few, ok.cards_long))
     (omega (arith, few, ok.counts_long)) (omega (arith, few, ok.queue_long)) (omega (

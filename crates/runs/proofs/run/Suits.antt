@@ -66,15 +66,15 @@ interval-ok g e =
 -- what demand 3 asks of a run's rules: the span of the inputs, and a model with lawful slots; nothing of limits, prices
 -- or draws
 pub record Suits {C : Type 0} (R : Rules C) (i : Inputs) : Type 0 where
-  pub span_is : i.config.learn_span ≡ R.span
+  pub span_is : i.settings.config.learn_span ≡ R.span
   pub slots : Slots R.model
 
 -- so WHATEVER IS DRAWN
 pub suits : (w : DrawRule) (i : Inputs) (s : State Float) → Accepted i s
-    → Suits (rules_with w i.config (of_parameters i.parameters)) i
+    → Suits (rules_with w i.settings.config (of_parameters i.parameters)) i
 suits w i s ok = record {
   span_is = refl;
-  slots = table_slots i.config (of_parameters i.parameters)
-      (λ x y. scheduled_fair (curve_of i.parameters) x y i.config.max_ivl
-      (interval-ok i.config ok.config_passes));
+  slots = table_slots i.settings.config (of_parameters i.parameters)
+      (λ x y. scheduled_fair (curve_of i.parameters) x y i.settings.config.max_ivl
+      (interval-ok i.settings.config ok.config_passes));
 }

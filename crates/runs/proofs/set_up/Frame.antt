@@ -255,7 +255,7 @@ lists_deck span s = record {
 }
 
 pub has_room : {C : Type 0} (i : Inputs) (s : State C) → Accepted i s
-    → Room i.config.deck_size (lists_deck i.config.learn_span s)
+    → Room i.settings.config.deck_size (lists_deck i.settings.config.learn_span s)
 has_room i s ok = record { cards_long = ok.cards_long; counts_long = ok.counts_long; rows_long = ok.queue_long }
 
 pub new_few : (g : SimulatorConfig) (kept : ℕ) → kept ≤ g.deck_size → kept + new_card_count g kept ≤ g.deck_size
@@ -268,10 +268,10 @@ new_few g kept h = go (eqb g.learn_limit 0)
 
 module _ {C : Type 0} (i : Inputs) (s s' : State C) (ok : Accepted i s) (ok' : Accepted i s') where
   abbrev span : ℕ
-  span = i.config.learn_span
+  span = i.settings.config.learn_span
 
   abbrev deck : ℕ
-  deck = i.config.deck_size
+  deck = i.settings.config.deck_size
 
   abbrev Own : Deck → Deck → ℕ → Type 0
   Own = OwnPlaces span deck (lists_deck span s) (lists_deck span s') (has_room i s ok) (has_room i s' ok') ok.deck_most
@@ -296,23 +296,23 @@ module _ {C : Type 0} (i : Inputs) (s s' : State C) (ok : Accepted i s) (ok' : A
   kept_of z = add_existing_cards span i.existing i.existing_counts (length i.existing) (empty_deck i z)
 
   abbrev dealt : State C → ℕ → Deck
-  dealt z kept = add_new_cards i.retention i.config.learn_limit (new_card_count i.config kept) (kept_of z)
+  dealt z kept = add_new_cards i.settings.retention i.settings.config.learn_limit (new_card_count i.settings.config kept) (kept_of z)
 
   abbrev kept : ℕ
   kept = kept_count i.existing i.existing_counts (length i.existing)
 
   pub own-all : Own (add_all_cards i (empty_deck i s)) (add_all_cards i (empty_deck i s'))
-      (kept + new_card_count i.config kept)
+      (kept + new_card_count i.settings.config kept)
   unfolding add_all_cards
   own-all =
       let r = has_room i s ok in
       let r' = has_room i s' ok' in
       let p = own_existing_all span deck (lists_deck span s) (lists_deck span s') r r' ok.deck_most i.existing
       i.existing_counts (length i.existing) (empty_deck i s) (empty_deck i s') ok.existing_few empty-own in
-      let few : kept + new_card_count i.config kept ≤ deck = new_few i.config kept
+      let few : kept + new_card_count i.settings.config kept ≤ deck = new_few i.settings.config kept
       (omega (arith, kept_few i.existing i.existing_counts (length i.existing), ok.existing_few)) in
-      let q = own_new_all span deck (lists_deck span s) (lists_deck span s') r r' ok.deck_most i.retention
-      i.config.learn_limit (new_card_count i.config kept) kept (kept_of s) (kept_of s') few p in
+      let q = own_new_all span deck (lists_deck span s) (lists_deck span s') r r' ok.deck_most i.settings.retention
+      i.settings.config.learn_limit (new_card_count i.settings.config kept) kept (kept_of s) (kept_of s') few p in
       record {
         own = q.own;
         exact = q.exact;
@@ -328,30 +328,30 @@ own_state none i own t = record {
   cards = own.cards;
   counts = own.counts;
   queue = own.queue;
-  days = replicate i.config.learn_span (first_day_counts i);
-  costs = replicate i.config.learn_span none;
-  memorized = replicate i.config.learn_span 0ᶠ;
+  days = replicate i.settings.config.learn_span (first_day_counts i);
+  costs = replicate i.settings.config.learn_span none;
+  memorized = replicate i.settings.config.learn_span 0ᶠ;
   due = own.due;
   table = clear_in t;
-  draws = i.seed;
+  draws = i.settings.seed;
 }
 
 -- two calls begin with the same places, each in front of those that it was lent behind them
 pub record StartsAlike {C : Type 0} (none : C) (i : Inputs) (s s' : State C) : Type 0 where
   pub own : Deck
   pub count : (let kept = kept_count i.existing i.existing_counts (length i.existing) in own.queue.len
-      ≡ kept + new_card_count i.config kept)
-  pub exact : (t : Table) → Exact own.queue.len i.config.learn_span (own_state none i own t)
+      ≡ kept + new_card_count i.settings.config kept)
+  pub exact : (t : Table) → Exact own.queue.len i.settings.config.learn_span (own_state none i own t)
   pub here : set_up none i s
-      ≡ extended (own_state none i own s.table) (beyond own.queue.len i.config.learn_span s)
+      ≡ extended (own_state none i own s.table) (beyond own.queue.len i.settings.config.learn_span s)
   pub there : set_up none i s'
-      ≡ extended (own_state none i own s'.table) (beyond own.queue.len i.config.learn_span s')
+      ≡ extended (own_state none i own s'.table) (beyond own.queue.len i.settings.config.learn_span s')
 
 pub starts_alike : {C : Type 0} (none : C) (i : Inputs) (s s' : State C) → Accepted i s → Accepted i s'
     → StartsAlike none i s s'
 unfolding set_up
 starts_alike none i s s' ok ok' =
-    let span : ℕ = i.config.learn_span in
+    let span : ℕ = i.settings.config.learn_span in
     let p = own-all i s s' ok ok' in
     record {
       own = p.own;

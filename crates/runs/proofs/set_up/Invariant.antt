@@ -183,10 +183,10 @@ module _ {C : Type 0} (b : CostRule Drawn C) (i : Inputs) (s : State C) (ok : Ac
   ns = i.existing_counts
 
   abbrev span : ℕ
-  span = i.config.learn_span
+  span = i.settings.config.learn_span
 
   abbrev deck : ℕ
-  deck = i.config.deck_size
+  deck = i.settings.config.deck_size
 
   -- so many have joined, and the state is as they left it
   pub record Came (dated most : ℕ) (s' : Deck) : Type 0 where
@@ -276,22 +276,22 @@ module _ {C : Type 0} (b : CostRule Drawn C) (i : Inputs) (s : State C) (ok : Ac
   all_kept : Came (introduced_before es ns (length es)) (length es) kept
   all_kept = retains (length es) (omega arith)
 
-  new_day : (n : ℕ) → n < 65536 → day_of (new_card i.retention i.config.learn_limit n).due < 2147483648
+  new_day : (n : ℕ) → n < 65536 → day_of (new_card i.settings.retention i.settings.config.learn_limit n).due < 2147483648
   unfolding new_card
-  new_day n h = let l = div-le_self n i.config.learn_limit in omega
-      (arith, l, day_int (n / i.config.learn_limit) (omega (arith, l)))
+  new_day n h = let l = div-le_self n i.settings.config.learn_limit in omega
+      (arith, l, day_int (n / i.settings.config.learn_limit) (omega (arith, l)))
 
-  new_lapses : (n : ℕ) → (new_card i.retention i.config.learn_limit n).lapses ≤ most_lapses
+  new_lapses : (n : ℕ) → (new_card i.settings.retention i.settings.config.learn_limit n).lapses ≤ most_lapses
   unfolding new_card
   new_lapses n = omega arith
 
-  new_new : (n : ℕ) → is_new (new_card i.retention i.config.learn_limit n).last_date ≡ true
+  new_new : (n : ℕ) → is_new (new_card i.settings.retention i.settings.config.learn_limit n).last_date ≡ true
   unfolding new_card is_new eq
   new_new n = refl
 
   creates : (n : ℕ) → all_kept.cards + n ≤ deck
       → Came (introduced_before es ns (length es)) (all_kept.cards + n)
-      (add_new_cards i.retention i.config.learn_limit n kept)
+      (add_new_cards i.settings.retention i.settings.config.learn_limit n kept)
   unfolding add_new_cards
   creates zero h = record {
     cards = all_kept.cards;
@@ -303,10 +303,10 @@ module _ {C : Type 0} (b : CostRule Drawn C) (i : Inputs) (s : State C) (ok : Ac
   creates (suc n) h = go (creates n (omega arith))
     where
       before : Deck
-      before = add_new_cards i.retention i.config.learn_limit n kept
+      before = add_new_cards i.settings.retention i.settings.config.learn_limit n kept
 
       k : Card
-      k = new_card i.retention i.config.learn_limit n
+      k = new_card i.settings.retention i.settings.config.learn_limit n
 
       go : Came (introduced_before es ns (length es)) (all_kept.cards + n) before
           → Came (introduced_before es ns (length es)) (all_kept.cards + suc n) (add_card before k)
@@ -330,9 +330,9 @@ module _ {C : Type 0} (b : CostRule Drawn C) (i : Inputs) (s : State C) (ok : Ac
           }
 
   -- ---- the whole set-up
-  room : all_kept.cards + new_card_count i.config kept.queue.len ≤ deck
+  room : all_kept.cards + new_card_count i.settings.config kept.queue.len ≤ deck
   unfolding new_card_count
-  room = go (eqb i.config.learn_limit 0)
+  room = go (eqb i.settings.config.learn_limit 0)
     where
       go : (b : Bool) → all_kept.cards + cond b 0 (deck - kept.queue.len) ≤ deck
       go true = omega (arith, all_kept.few, ok.existing_few)
@@ -344,7 +344,7 @@ module _ {C : Type 0} (b : CostRule Drawn C) (i : Inputs) (s : State C) (ok : Ac
   all_joined : Came (introduced_before es ns (length es)) deck s₁
   unfolding add_all_cards
   all_joined =
-      let c = creates (new_card_count i.config kept.queue.len) room in
+      let c = creates (new_card_count i.settings.config kept.queue.len) room in
       record {
         cards = c.cards;
         few = omega (arith, c.few, room);

@@ -20,7 +20,7 @@ use Rattle.runs.proofs.set_up.Invariant.{set_up_few}
 -- ---- the answer of a run from that state
 module _ {C : Type 0} (R : Rules C) (i : Inputs) (s : State C) {s₁ : State C}
     (up : s₁ ≡ set_up R.costs.none i s) where
-  pub few_cards : checked i s ≡ passed → (s₁.queue.len ≤ 65536) × (i.config.learn_span ≤ 36500)
+  pub few_cards : checked i s ≡ passed → (s₁.queue.len ≤ 65536) × (i.settings.config.learn_span ≤ 36500)
   few_cards e =
       let ok = accepted i s e in
       let few = set_up_few R.costs i s ok in

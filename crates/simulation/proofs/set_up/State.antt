@@ -8,7 +8,7 @@ use Rattle.cards.specs.declared.configuration.SimulatorConfig.{SimulatorConfig}
 use Rattle.days.specs.Counts.{day_row}
 use Rattle.days.specs.Due.{due_days}
 use Rattle.runs.specs.State.{State, lent, state}
-use Rattle.entry.specs.Entry.{Inputs, inputs}
+use Rattle.entry.specs.Entry.{Inputs, settings, inputs}
 use Rattle.runs.specs.SetUp.{deck, add_existing_cards, introduced_before, add_new_cards, new_card_count, empty_deck, add_all_cards, set_up, filled_with}
 
 module _ (g : SimulatorConfig) (w : List Float) (retention : Float) (seed : ℕ) (es : List (List Float))
@@ -29,7 +29,7 @@ module _ (g : SimulatorConfig) (w : List Float) (retention : Float) (seed : ℕ)
     {intervals' : List Float} (e₈ : intervals' ≡ replicate (length intervals) (of_bits binary32 0))
     {keys' : List (List ℕ)} (e₉ : keys' ≡ keys) where
   abbrev i : Inputs
-  i = inputs g w retention seed es ns
+  i = inputs (settings g retention seed) w es ns
 
   abbrev s : State Float
   s = state (lent cards counts rows days costs memorized due keys intervals) 0 seed
