@@ -309,12 +309,12 @@ static void sums(void) {
     FLOAT(drill_target(0, four, 4, NULL, 0), NAN);
     FLOAT(drill_target(4, four, 3, four, 4), NAN);
     FLOAT(drill_target(4, four, 4, four, 3), NAN);
-    FLOAT(drill_target(100000, four, 4, four, 4), NAN);
+    FLOAT(drill_target(UINT32_MAX, four, 4, four, 4), NAN);
     FLOAT(drill_mean(four, 4, 4), 2.5f);
     FLOAT(drill_mean(four, 4, 2), 1.5f);
     FLOAT(drill_mean(four, 4, 0), NAN);
     FLOAT(drill_mean(four, 4, 5), NAN);
-    FLOAT(drill_mean(four, 4, 100000), NAN);
+    FLOAT(drill_mean(four, 4, UINT32_MAX), NAN);
     uint32_t most = 0;
     for (uint32_t span = 0; span <= DRILL_MOST_DAYS; span++)
         if (drill_sample_size(span) > most)

@@ -288,12 +288,10 @@ uint32_t drill_search_answer(struct drill_search s);
  * formula */
 uint32_t drill_sample_size(uint32_t span);
 /* what a run of so many days costs for each card memorized on its last day, from the lists that it left: the first span
- * costs added up in their order, over memorized[span - 1]. A NaN where a list is shorter than span (it makes span
- * additions all the same). For a span of 0: -0.0f over memorized[0], so a zero or a NaN; a NaN where there is no
- * memorized[0] */
+ * costs added up in their order, over memorized[span - 1]. A NaN where a list is shorter than span. For a span of 0:
+ * -0.0f over memorized[0], so a zero or a NaN; a NaN where there is no memorized[0] */
 float drill_target(uint32_t span, const float *costs, size_t costs_len, const float *memorized, size_t memorized_len);
-/* the mean of the first n, added up in their order. A NaN where n is 0 or the list is shorter (it makes n additions all
- * the same) */
+/* the mean of the first n, added up in their order. A NaN where n is 0 or the list is shorter */
 float drill_mean(const float *targets, size_t targets_len, uint32_t n);
 
 /* ==== the float modes

@@ -1,4 +1,4 @@
--- How many dated cards are due on each day. Definitions only.
+-- Due counts: the kept cards, each on its day at set-up, dated or not, and the next day of each event. Definitions only.
 --   due_days span             the days that are counted
 --   add_one_at due d           one more at a place of the list
 --   add_due span due d        one more on a day, if that is counted

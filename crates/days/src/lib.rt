@@ -1,4 +1,4 @@
-// The rows of a run's days: counts, sums, and how many cards are due.
+// The rows of a run's days: counts, sums, and the due counts (specs/Due says what they count).
 #![tactic(auto)]
 
 mod memorized;
