@@ -71,7 +71,7 @@ module _ {i : Inputs} {rounds : ℕ} {l after : Lent Float} where
 
 module _ (x : Lists) {cards : List (List Float)} {counts rows days : List (List ℕ)} {costs memorized : List Float}
     {due : List ℕ} {keys : List (List ℕ)} {intervals : List Float} (a : cards ≡ x.cards.now) (b : counts ≡ x.counts.now)
-    (c : rows ≡ x.rows.now) (d : days ≡ x.days.now) (e : costs ≡ x.costs.now) (f : memorized ≡ x.memorized.now)
+    (c : rows ≡ x.queue_rows.now) (d : days ≡ x.days.now) (e : costs ≡ x.costs.now) (f : memorized ≡ x.memorized.now)
     (g : due ≡ x.due.now) (h : keys ≡ x.keys.now) (j : intervals ≡ x.intervals.now) where
   pub run_left : {i : Inputs} {s : State Float} {r : Answer} {n : RunNumbers} → n ≡ Run.numbers_of (told r) (list_of i s)
       → RunContract i s r (lent_of x)

@@ -85,7 +85,7 @@ pub extern "C" fn drill_simulate(
     let mut lists = Lists {
         cards,
         counts,
-        rows: queue,
+        queue_rows: queue,
         days,
         costs,
         memorized,

@@ -77,7 +77,7 @@ pub extern "C" fn drill_optimal_retention(
     let mut lists = Lists {
         cards,
         counts,
-        rows: queue,
+        queue_rows: queue,
         days,
         costs,
         memorized,

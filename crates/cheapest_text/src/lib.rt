@@ -18,7 +18,7 @@ fn search(set: Settings) -> Result<Optimum, Refusal>
     let mut lists = Lists {
         cards: &mut [[0.0; 6]; 512],
         counts: &mut [[0; 2]; 512],
-        rows: &mut [[0; 2]; 512],
+        queue_rows: &mut [[0; 2]; 512],
         days: &mut [[0; 4]; 730],
         costs: &mut [0.0; 730],
         memorized: &mut [0.0; 730],

@@ -7,7 +7,7 @@ pub same_lists : (x : Lists) → SameLists x x
 same_lists x = record {
   cards = refl;
   counts = refl;
-  rows = refl;
+  queue_rows = refl;
   days = refl;
   costs = refl;
   memorized = refl;
@@ -20,7 +20,7 @@ pub same_then : {x y z : Lists} → SameLists x y → SameLists y z → SameList
 same_then p q = record {
   cards = q.cards ∙ p.cards;
   counts = q.counts ∙ p.counts;
-  rows = q.rows ∙ p.rows;
+  queue_rows = q.queue_rows ∙ p.queue_rows;
   days = q.days ∙ p.days;
   costs = q.costs ∙ p.costs;
   memorized = q.memorized ∙ p.memorized;

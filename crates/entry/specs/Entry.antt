@@ -109,7 +109,7 @@ length_tests g n m x =
     ∷ eqb x.keys x.intervals
     ∷ eqb x.cards x.counts
     ∷ leb deck x.cards
-    ∷ leb deck x.rows
+    ∷ leb deck x.queue_rows
     ∷ leb span x.days
     ∷ leb span x.costs
     ∷ leb span x.memorized

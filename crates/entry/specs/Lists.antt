@@ -12,7 +12,7 @@ use Rattle.entry.specs.Entry.{Inputs, inputs}
 pub record SameLists (old new : Lists) : Type 0 where
   pub cards : new.cards.ghost_name ≡ old.cards.ghost_name
   pub counts : new.counts.ghost_name ≡ old.counts.ghost_name
-  pub rows : new.rows.ghost_name ≡ old.rows.ghost_name
+  pub queue_rows : new.queue_rows.ghost_name ≡ old.queue_rows.ghost_name
   pub days : new.days.ghost_name ≡ old.days.ghost_name
   pub costs : new.costs.ghost_name ≡ old.costs.ghost_name
   pub memorized : new.memorized.ghost_name ≡ old.memorized.ghost_name
@@ -24,7 +24,7 @@ abbrev pub lengths_of_lists : Lists → Lengths
 lengths_of_lists x = record {
   cards = length x.cards.now;
   counts = length x.counts.now;
-  rows = length x.rows.now;
+  queue_rows = length x.queue_rows.now;
   days = length x.days.now;
   costs = length x.costs.now;
   memorized = length x.memorized.now;

@@ -108,7 +108,7 @@ pub fn short_list(
         3
     } else if x.cards < deck {
         4
-    } else if x.rows < deck {
+    } else if x.queue_rows < deck {
         5
     } else if x.days < span {
         6

@@ -14,7 +14,7 @@ use queue::QueueRow;
 pub struct Lists<'a> {
     pub cards: &'a mut [CardRow],
     pub counts: &'a mut [CountRow],
-    pub rows: &'a mut [QueueRow],
+    pub queue_rows: &'a mut [QueueRow],
     pub days: &'a mut [DayRow],
     pub costs: &'a mut [f32],
     pub memorized: &'a mut [f32],
@@ -28,7 +28,7 @@ pub struct Lists<'a> {
 pub struct Lengths {
     pub cards: usize,
     pub counts: usize,
-    pub rows: usize,
+    pub queue_rows: usize,
     pub days: usize,
     pub costs: usize,
     pub memorized: usize,
@@ -60,7 +60,7 @@ impl Lists<'_> {
         Lengths {
             cards: self.cards.len(),
             counts: self.counts.len(),
-            rows: self.rows.len(),
+            queue_rows: self.queue_rows.len(),
             days: self.days.len(),
             costs: self.costs.len(),
             memorized: self.memorized.len(),

@@ -30,7 +30,7 @@ fn run(
     let mut lists = Lists {
         cards: &mut [[0.0; 6]; 512],
         counts: &mut [[0; 2]; 512],
-        rows: &mut [[0; 2]; 512],
+        queue_rows: &mut [[0; 2]; 512],
         days,
         costs,
         memorized,

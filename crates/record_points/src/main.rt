@@ -5,7 +5,7 @@
 
 ghost use Rattle.std.specs.Prelude.{◌<◌, ◌≤◌};
 
-use cards::{Card, SimulatorConfig};
+use cards::{Card, CardRow, CountRow, SimulatorConfig};
 use entry::{Learner, Lists, Settings, refusals};
 use forecast_text::settings::default_config;
 use simulation::{Progress, Refused};
@@ -44,8 +44,8 @@ fn card(stability: f32, last_date: f32, due: f32, lapses: u32) -> Card {
 fn forecast(
     rt: &impl Print,
     records: Option<&[Card]>,
-    existing: &mut [[f32; 6]],
-    existing_counts: &mut [[u32; 2]],
+    existing: &mut [CardRow],
+    existing_counts: &mut [CountRow],
 ) -> io::Result<()> {
     let mut days = [[0; 4]; 10];
     let mut costs = [0.0; 10];
@@ -53,7 +53,7 @@ fn forecast(
     let mut lists = Lists {
         cards: &mut [[0.0; 6]; 8],
         counts: &mut [[0; 2]; 8],
-        rows: &mut [[0; 2]; 8],
+        queue_rows: &mut [[0; 2]; 8],
         days: &mut days,
         costs: &mut costs,
         memorized: &mut memorized,

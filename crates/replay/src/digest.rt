@@ -3,8 +3,11 @@
 // the digest and the word. The table's is a sum over the places in use, since where a key lies is the port's own
 // matter.
 use crate::answers::{drawn, join};
+use cards::{CardRow, CountRow};
+use days::DayRow;
 use entry::Lists;
 use float32::to_bits;
+use intervals::KeyRow;
 
 #[derive(Clone, Copy)]
 pub struct Digests {
@@ -26,7 +29,7 @@ fn add_floats(d: u32, floats: &[f32]) -> u32 {
     floats.iter().fold(d, |d, x| add(d, to_bits(*x)))
 }
 
-fn of_cards(cards: &[[f32; 6]], counts: &[[u32; 2]]) -> u32 {
+fn of_cards(cards: &[CardRow], counts: &[CountRow]) -> u32 {
     let mut d = 0;
     for (card, count) in cards.iter().zip(counts) {
         d = add_words(add_floats(d, card), count);
@@ -34,7 +37,7 @@ fn of_cards(cards: &[[f32; 6]], counts: &[[u32; 2]]) -> u32 {
     d
 }
 
-fn of_days(days: &[[u32; 4]], costs: &[f32], memorized: &[f32]) -> u32 {
+fn of_days(days: &[DayRow], costs: &[f32], memorized: &[f32]) -> u32 {
     let mut d = 0;
     for ((day, cost), share) in days.iter().zip(costs).zip(memorized) {
         d = add_floats(add_words(d, day), &[*cost, *share]);
@@ -42,7 +45,7 @@ fn of_days(days: &[[u32; 4]], costs: &[f32], memorized: &[f32]) -> u32 {
     d
 }
 
-fn of_table(keys: &[[u32; 2]], intervals: &[f32]) -> u32 {
+fn of_table(keys: &[KeyRow], intervals: &[f32]) -> u32 {
     let mut d = 0u32;
     for (key, interval) in keys.iter().zip(intervals) {
         if *interval >= 1.0 {

@@ -12,7 +12,7 @@
 ghost use Rattle.std.specs.Prelude.{◌+◌, ◌≤◌};
 
 use crate::record::Record;
-use cards::SimulatorConfig;
+use cards::{CardRow, CountRow, SimulatorConfig};
 use entry::{Learner, Lists, Settings};
 use float32::from_bits;
 
@@ -20,8 +20,8 @@ use float32::from_bits;
 pub struct Inputs {
     pub numbers: [u32; 8],
     pub settings: [f32; 46],
-    pub existing: [[f32; 6]; 4096],
-    pub existing_counts: [[u32; 2]; 4096],
+    pub existing: [CardRow; 4096],
+    pub existing_counts: [CountRow; 4096],
     pub lengths: [u32; 12],
 }
 

@@ -2,16 +2,17 @@
 use crate::inputs::put;
 use crate::record::Record;
 use float32::from_bits;
+use intervals::KeyRow;
 use model::Fsrs7Runtime;
-use queue::CardPriorityQueue;
+use queue::{CardPriorityQueue, QueueRow};
 
 // A queue's rows and length, not a queue: a struct can't hold one that borrows its own rows.
 #[derive(Drop)]
 pub struct Kept {
     pub parameters: [f32; 40],
-    pub rows: [[u64; 2]; 16],
+    pub rows: [QueueRow; 16],
     pub len: u32,
-    pub keys: [[u32; 2]; 8],
+    pub keys: [KeyRow; 8],
     pub intervals: [f32; 8],
 }
 

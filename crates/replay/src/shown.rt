@@ -1,6 +1,7 @@
 // What is printed of a run: its answer, the rows of its days, and digests of its lists.
 use crate::digest::Digests;
 use crate::inputs::first;
+use days::DayRow;
 use entry::{Lists, Refusal, refusals};
 use float32::to_bits;
 use simulation::{Progress, Refused};
@@ -37,7 +38,7 @@ pub fn has_run(answer: Result<Progress, Refused>) -> bool {
     }
 }
 
-fn day(rt: &impl Print, counts: [u32; 4], cost: f32, memorized: f32) -> io::Result<()> {
+fn day(rt: &impl Print, counts: DayRow, cost: f32, memorized: f32) -> io::Result<()> {
     for count in counts {
         print!(rt; "{count:08x} ")?;
     }

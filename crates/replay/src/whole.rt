@@ -26,7 +26,7 @@ fn called(
     let mut lists = Lists {
         cards: lent(lists.cards, lengths[0]),
         counts: lent(lists.counts, lengths[1]),
-        rows: lent(lists.rows, lengths[2]),
+        queue_rows: lent(lists.queue_rows, lengths[2]),
         days: lent(lists.days, lengths[3]),
         costs: lent(lists.costs, lengths[4]),
         memorized: lent(lists.memorized, lengths[5]),
@@ -45,7 +45,7 @@ pub fn run(rt: &impl Print, parameters: &[f32], inputs: &mut Inputs, r: Record) 
     let mut lists = Lists {
         cards: &mut [[9.0; 6]; 4096],
         counts: &mut [[9; 2]; 4096],
-        rows: &mut [[9; 2]; 4096],
+        queue_rows: &mut [[9; 2]; 4096],
         days: &mut [[9; 4]; 400],
         costs: &mut [9.0; 400],
         memorized: &mut [9.0; 400],

@@ -68,7 +68,7 @@ same_lengths : (ok : Bool) (i j : Inputs) (a a' b b' : ℕ) (l l' : Lent Float) 
     → SameLengths l l' → checked_with ok j (state l' a' b') ≡ checked_with ok i (state l a b)
 unfolding check_settings lengths_ok short_list
 same_lengths ok i j a a' b b' l l' p q r s h =
-    rw (p, q, r, s, h.cards, h.counts, h.rows, h.days, h.costs, h.memorized, h.due, h.keys, h.intervals)
+    rw (p, q, r, s, h.cards, h.counts, h.queue_rows, h.days, h.costs, h.memorized, h.due, h.keys, h.intervals)
 
 pub passes_again : (rounds : ℕ) (i : Inputs) (l l' : Lent Float) (u : Float) (n : ℕ)
     → checked_search rounds i l ≡ passed → SameLengths l l' → T (within u)
@@ -86,7 +86,7 @@ longer : {l l' l'' : Lent Float} → SameLengths l l' → SameLengths l' l'' →
 longer p q = record {
   cards = q.cards ∙ p.cards;
   counts = q.counts ∙ p.counts;
-  rows = q.rows ∙ p.rows;
+  queue_rows = q.queue_rows ∙ p.queue_rows;
   days = q.days ∙ p.days;
   costs = q.costs ∙ p.costs;
   memorized = q.memorized ∙ p.memorized;

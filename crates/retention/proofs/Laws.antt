@@ -31,7 +31,7 @@ all_alike : (l : Lent Float) → SameLengths l l
 all_alike l = record {
   cards = refl;
   counts = refl;
-  rows = refl;
+  queue_rows = refl;
   days = refl;
   costs = refl;
   memorized = refl;

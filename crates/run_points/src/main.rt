@@ -5,6 +5,7 @@
 ghost use Rattle.std.specs.Prelude.{◌≤◌};
 
 use cards::SimulatorConfig;
+use days::DayRow;
 use entry::{Learner, Lists, Settings, refusals};
 use forecast_text::settings::default_config;
 use std::io;
@@ -22,7 +23,7 @@ fn config(deck_size: u32, learn_span: u32) -> SimulatorConfig {
     }
 }
 
-fn day(rt: &impl Print, counts: [u32; 4], cost: f32, memorized: f32) -> io::Result<()> {
+fn day(rt: &impl Print, counts: DayRow, cost: f32, memorized: f32) -> io::Result<()> {
     print!(rt; "day")?;
     for count in counts {
         print!(rt; " {count}")?;
@@ -46,7 +47,7 @@ fn forecast<const CARDS: usize, const DAYS: usize, const DUE: usize, const TABLE
     let mut lists = Lists {
         cards: &mut [[0.0; 6]; CARDS],
         counts: &mut [[0; 2]; CARDS],
-        rows: &mut [[0; 2]; CARDS],
+        queue_rows: &mut [[0; 2]; CARDS],
         days: &mut [[0; 4]; DAYS],
         costs: &mut [0.0; DAYS],
         memorized: &mut [0.0; DAYS],

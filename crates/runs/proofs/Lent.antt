@@ -8,7 +8,7 @@ use Rattle.runs.specs.State.{Lent, lent}
 pub record Lists {C : Type 0} (l l' : Lent C) : Type 0 where
   pub cards_are : l.cards ≡ l'.cards
   pub counts_are : l.counts ≡ l'.counts
-  pub rows_are : l.rows ≡ l'.rows
+  pub rows_are : l.queue_rows ≡ l'.queue_rows
   pub days_are : l.days ≡ l'.days
   pub costs_are : l.costs ≡ l'.costs
   pub memorized_are : l.memorized ≡ l'.memorized

@@ -13,7 +13,7 @@ abbrev pub lengths_of : {C : Type 0} → State C → Lengths
 lengths_of s = record {
   cards = length s.cards;
   counts = length s.counts;
-  rows = length s.queue.rows;
+  queue_rows = length s.queue.rows;
   days = length s.days;
   costs = length s.costs;
   memorized = length s.memorized;

@@ -26,7 +26,7 @@ module _ {C : Type 0} where
   beyond cards span s = record {
     cards = drop cards s.cards;
     counts = drop cards s.counts;
-    rows = drop cards s.queue.rows;
+    queue_rows = drop cards s.queue.rows;
     days = drop span s.days;
     costs = drop span s.costs;
     memorized = drop span s.memorized;
@@ -39,7 +39,7 @@ module _ {C : Type 0} where
   extended s b = record {
     cards = s.cards ++ b.cards;
     counts = s.counts ++ b.counts;
-    queue = queue (s.queue.rows ++ b.rows) s.queue.len;
+    queue = queue (s.queue.rows ++ b.queue_rows) s.queue.len;
     days = s.days ++ b.days;
     costs = s.costs ++ b.costs;
     memorized = s.memorized ++ b.memorized;
@@ -52,7 +52,7 @@ module _ {C : Type 0} where
 pub record SameLengths {C : Type 0} (l l' : Lent C) : Type 0 where
   pub cards : length l'.cards ≡ length l.cards
   pub counts : length l'.counts ≡ length l.counts
-  pub rows : length l'.rows ≡ length l.rows
+  pub queue_rows : length l'.queue_rows ≡ length l.queue_rows
   pub days : length l'.days ≡ length l.days
   pub costs : length l'.costs ≡ length l.costs
   pub memorized : length l'.memorized ≡ length l.memorized

@@ -35,7 +35,7 @@ key_of k = card_priority (day_of k.due) (is_new k.last_date) k.difficulty
 pub record Lent (C : Type 0) : Type 0 where
   pub cards : List (List Float)
   pub counts : List (List ℕ)
-  pub rows : List (List ℕ)
+  pub queue_rows : List (List ℕ)
   pub days : List (List ℕ)
   pub costs : List C
   pub memorized : List Float
@@ -49,10 +49,10 @@ module _ {C : Type 0} where
 
   abbrev pub lent : List (List Float) → List (List ℕ) → List (List ℕ) → List (List ℕ) → List C → List Float → List ℕ
       → List (List ℕ) → List Float → Lent C
-  lent cards counts rows days costs memorized due keys intervals = record {
+  lent cards counts queue_rows days costs memorized due keys intervals = record {
     cards = cards;
     counts = counts;
-    rows = rows;
+    queue_rows = queue_rows;
     days = days;
     costs = costs;
     memorized = memorized;
@@ -66,7 +66,7 @@ module _ {C : Type 0} where
   state l len draws = record {
     cards = l.cards;
     counts = l.counts;
-    queue = queue l.rows len;
+    queue = queue l.queue_rows len;
     days = l.days;
     costs = l.costs;
     memorized = l.memorized;
@@ -80,7 +80,7 @@ module _ {C : Type 0} where
   lists_of s = record {
     cards = s.cards;
     counts = s.counts;
-    rows = s.queue.rows;
+    queue_rows = s.queue.rows;
     days = s.days;
     costs = s.costs;
     memorized = s.memorized;
@@ -110,7 +110,7 @@ module _ {C : Type 0} where
 
 -- the lists that a call is lent, and the state between two turns, of those lists
 abbrev pub lent_of : Lists → Lent Float
-lent_of x = lent x.cards.now x.counts.now x.rows.now x.days.now x.costs.now x.memorized.now x.due.now x.keys.now
+lent_of x = lent x.cards.now x.counts.now x.queue_rows.now x.days.now x.costs.now x.memorized.now x.due.now x.keys.now
     x.intervals.now
 
 abbrev pub state_at : Lists → Place → State Float

@@ -42,7 +42,7 @@ fn search(rt: &impl Print, config: SimulatorConfig, rounds: u32) -> io::Result<(
     let mut lists = Lists {
         cards: &mut [[0.0; 6]; 20],
         counts: &mut [[0; 2]; 20],
-        rows: &mut [[0; 2]; 20],
+        queue_rows: &mut [[0; 2]; 20],
         days: &mut [[0; 4]; 40],
         costs: &mut costs,
         memorized: &mut memorized,

@@ -38,7 +38,7 @@ pub record InnerContract {C : Type 0} (R : Rules C) (s : State C) (r : Answer) (
 
 -- ---- set-up: the lists of cards, and what the joining of cards leaves
 abbrev pub deck_of : Lists → ℕ → Deck
-deck_of x len = deck x.cards.now x.counts.now x.rows.now x.due.now len
+deck_of x len = deck x.cards.now x.counts.now x.queue_rows.now x.due.now len
 
 pub record Joined (d : Deck) (old : Lists) (len : ℕ) (new : Lists) : Type 0 where
   pub same : SameLists old new

@@ -67,7 +67,7 @@ fn run_held(lists: &mut Lists<'_>, rules: Rules, from: Place, fuel: u32) -> RunE
     let mut held = Lists {
         cards: lists.cards,
         counts: lists.counts,
-        rows: lists.rows,
+        queue_rows: lists.queue_rows,
         days: lists.days,
         costs: lists.costs,
         memorized: lists.memorized,

@@ -42,7 +42,7 @@ fn add_card(lists: &mut Lists<'_>, card: Card, len: u32) -> u32
     let key = turn::key_of(card);
     cards::write_floats(lists.cards, len, card);
     cards::write_counts(lists.counts, len, card);
-    push(lists.rows, len, key)
+    push(lists.queue_rows, len, key)
 }
 
 fn add_existing_card(lists: &mut Lists<'_>, span: u32, card: Card, len: u32) -> u32

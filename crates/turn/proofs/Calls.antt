@@ -73,7 +73,7 @@ module _ (R : Rules Float) (l : Lent Float) (len draws : ℕ) where
           → (l' : Lent Float)
           → l'.cards ≡ write_floats l.cards f.place k'
           → l'.counts ≡ write_counts l.counts f.place k'
-          → queue l'.rows len ≡ front_changed (queue l.rows len) (key_of k')
+          → queue l'.queue_rows len ≡ front_changed (queue l.queue_rows len) (key_of k')
           → l'.days ≡ add_event R.span l.days new f.day x.recalled
           → l'.costs ≡ add_cost R.costs.none R.costs.plus l.costs f.day x.cost
           → l'.memorized ≡ add_forgetting_curve R.model l.memorized f.card f.day
@@ -111,7 +111,7 @@ module _ (R : Rules Float) (l : Lent Float) (len draws : ℕ) where
     pub put_off_done : none_due l.due (is_new f.card.last_date) f.day ≡ false
         → (cards' : List (List Float)) (rows' : List (List ℕ)) (due' : List ℕ)
         → cards' ≡ write_floats l.cards f.place (card_after_put_off f.card f.day)
-        → queue rows' len ≡ front_changed (queue l.rows len) (key_of (card_after_put_off f.card f.day))
+        → queue rows' len ≡ front_changed (queue l.queue_rows len) (key_of (card_after_put_off f.card f.day))
         → due' ≡ move_due R.span l.due (is_new f.card.last_date) f.day
         → TurnContract (act R st f choice.PutOff) st (Ok (Some (record { queued = len; draws = draws })))
         (lent cards' l.counts rows' l.days l.costs l.memorized due' l.keys l.intervals)
@@ -122,7 +122,7 @@ module _ (R : Rules Float) (l : Lent Float) (len draws : ℕ) where
     -- ---- a retirement
     pub retired_is : (memorized' : List Float) (rows' : List (List ℕ)) (len' : ℕ)
         → memorized' ≡ add_forgetting_curve R.model l.memorized f.card R.span
-        → queue rows' len' ≡ popped (queue l.rows len)
+        → queue rows' len' ≡ popped (queue l.queue_rows len)
         → TurnContract (act R st f choice.Retire) st (Ok (Some (record { queued = len'; draws = draws })))
         (lent l.cards l.counts rows' l.days l.costs memorized' l.due l.keys l.intervals)
     unfolding after_retire

@@ -31,7 +31,7 @@ use runs::{First, Place};
 fn first_of(lists: &Lists<'_>) -> First
     ensures { (at : Place) → result ≡ first (state_at lists.now at) }
 {
-    let place = queue::first_card(lists.rows);
+    let place = queue::first_card(lists.queue_rows);
     let card = cards::card_at(lists.cards, lists.counts, place);
     let day = cards::day_of(card.due);
     First { place, card, day }
@@ -170,7 +170,7 @@ fn put_off_step(
     let later = put_off_card(card, day);
     let key = queue::card_priority(cards::day_after(day), new, card.difficulty);
     cards::write_floats(lists.cards, place, later);
-    change_front(lists.rows, at.queued, key);
+    change_front(lists.queue_rows, at.queued, key);
     days::move_due(lists.due, rules.config.learn_span, new, day);
     Ok(Some(at))
 }
@@ -194,7 +194,7 @@ fn retire_step(
         first.card,
         rules.config.learn_span,
     );
-    let queued = pop(lists.rows, at.queued);
+    let queued = pop(lists.queue_rows, at.queued);
     Ok(Some(Place { queued, ..at }))
 }
 
@@ -241,7 +241,7 @@ fn event_step(
     // ---- from here on it writes
     cards::write_floats(lists.cards, place, later);
     cards::write_counts(lists.counts, place, later);
-    change_front(lists.rows, at.queued, key);
+    change_front(lists.queue_rows, at.queued, key);
     days::add_event(lists.days, span, new, day, memory.recalled);
     days::add_cost(lists.costs, day, memory.cost);
     add_forgetting_curve(lists.memorized, rules, curve, card, day);

@@ -53,7 +53,7 @@ module _ {C : Type 0} (cards span : ℕ) (s : State C) (b : Lent C) (ex : Exact 
       rw (
         take_at s.cards b.cards cards ex.cards_are,
         take_at s.counts b.counts cards ex.counts_are,
-        take_at s.queue.rows b.rows cards ex.rows_are,
+        take_at s.queue.rows b.queue_rows cards ex.rows_are,
         take_at s.days b.days span ex.days_are,
         take_at s.costs b.costs span ex.costs_are,
         take_at s.memorized b.memorized span ex.memorized_are,
@@ -65,7 +65,7 @@ module _ {C : Type 0} (cards span : ℕ) (s : State C) (b : Lent C) (ex : Exact 
       rw (
         drop_at s.cards b.cards cards ex.cards_are,
         drop_at s.counts b.counts cards ex.counts_are,
-        drop_at s.queue.rows b.rows cards ex.rows_are,
+        drop_at s.queue.rows b.queue_rows cards ex.rows_are,
         drop_at s.days b.days span ex.days_are,
         drop_at s.costs b.costs span ex.costs_are,
         drop_at s.memorized b.memorized span ex.memorized_are,
@@ -289,7 +289,7 @@ own_lengths : {C : Type 0} (n span : ℕ) (x s : State C) → Exact n span x →
 own_lengths n span x s ex a b c d e f g h k = record {
   cards = own-length x.cards s.cards n ex.cards_are a;
   counts = own-length x.counts s.counts n ex.counts_are b;
-  rows = own-length x.queue.rows s.queue.rows n ex.rows_are c;
+  queue_rows = own-length x.queue.rows s.queue.rows n ex.rows_are c;
   days = own-length x.days s.days span ex.days_are d;
   costs = own-length x.costs s.costs span ex.costs_are e;
   memorized = own-length x.memorized s.memorized span ex.memorized_are f;

@@ -110,7 +110,7 @@ module _ {C : Type 0} (R : Rules C) (cards : ℕ) (fine : RunBounds R.span cards
     room = omega (arith, ex.queued, ex.rows_are)
 
     same-front : front wide.queue ≡ c
-    same-front = front-widened s.queue b.rows some room
+    same-front = front-widened s.queue b.queue_rows some room
 
     mine : c < length s.cards
     mine = omega (arith, is_card R cards fine [] wide good some, same-front, ex.cards_are)
@@ -135,7 +135,7 @@ module _ {C : Type 0} (R : Rules C) (cards : ℕ) (fine : RunBounds R.span cards
     retire_own : after_retire R wide f ≡ extended (after_retire R s f) b
     unfolding after_retire
     retire_own = rw (
-      popped-widened s.queue b.rows some room,
+      popped-widened s.queue b.queue_rows some room,
       curve-own R.model s.memorized k R.span b.memorized (omega (arith, ex.memorized_are)),
     )
 
@@ -158,7 +158,7 @@ module _ {C : Type 0} (R : Rules C) (cards : ℕ) (fine : RunBounds R.span cards
       put-own =
           rw (
             set-append_left s.cards b.cards c (floats_of (card_after_put_off k d)) mine,
-            changed_widened s.queue b.rows some room (key_of (card_after_put_off k d)),
+            changed_widened s.queue b.queue_rows some room (key_of (card_after_put_off k d)),
             move_due-own R.span s.due b.due (is_new k.last_date) d (omega (arith, ex.due_are))
                 (omega (arith, h, ex.due_are)),
           )
@@ -184,7 +184,7 @@ module _ {C : Type 0} (R : Rules C) (cards : ℕ) (fine : RunBounds R.span cards
             rw (
               set-append_left s.cards b.cards c (floats_of k') mine,
               set-append_left s.counts b.counts c (counts_of k') mine',
-              changed_widened s.queue b.rows some room (key_of k'),
+              changed_widened s.queue b.queue_rows some room (key_of k'),
               event_own s.days b.days R.span d h (omega (arith, ex.days_are)) x.recalled new,
               cost_own R.costs.none R.costs.plus s.costs b.costs d
                   (R.costs.cost (event_turn R s f new x)) (omega (arith, h, ex.costs_are)),

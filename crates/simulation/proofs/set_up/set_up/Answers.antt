@@ -14,7 +14,7 @@ returns-clause-state c =
     let p = c.add_existing_cards-kept.ensures.joined in
     let q = c.add_new_cards-len.ensures.joined in
     set_up_is a.settings.config a.learner.parameters.now a.settings.retention a.settings.seed a.learner.existing.now
-    a.learner.existing_counts.now x.cards.now x.counts.now x.rows.now x.days.now x.costs.now x.memorized.now
+    a.learner.existing_counts.now x.cards.now x.counts.now x.queue_rows.now x.days.now x.costs.now x.memorized.now
     x.due.now x.keys.now x.intervals.now
     (rw c.due_days.ensures at c.fill_first.ensures) p.deck_is c.new_card_count-more.ensures q.deck_is
     c.introduced_before.ensures (c.fill_first-2.ensures ∙ ap (filled_with _ _) (q.days_are ∙ p.days_are))
