@@ -10,6 +10,10 @@ from collections.abc import Iterable, Iterator, Mapping, Sequence
 from .errors import Mistake
 
 
+# What files of spreadsheets, which are archives, begin with: those of today, and of old.
+_WORKBOOKS = (b"PK\x03\x04", b"\xd0\xcf\x11\xe0")
+
+
 def _reason(error: OSError) -> str:
     return error.strerror or str(error)
 
@@ -23,6 +27,8 @@ def read(path: str) -> str:
         raise Mistake(path, _reason(error)) from error
     except ValueError as error:
         raise Mistake(repr(path), str(error)) from error
+    if data.startswith(_WORKBOOKS):
+        raise Mistake(path, "is a spreadsheet's own file, or an archive: save the sheet as CSV UTF-8")
     # Spreadsheets write "Unicode text" so.
     kind = "utf-16" if data.startswith((codecs.BOM_UTF16_LE, codecs.BOM_UTF16_BE)) else "utf-8-sig"
     try:

@@ -11,9 +11,11 @@ from collections.abc import Callable, Iterable, Sequence
 from dataclasses import dataclass, replace
 from functools import partial
 from pathlib import Path
+from typing import Any
 
 from . import course, deck, files, runs, settings, streets
 from .course import COLUMNS, STANDING, Columns, Course
+from .deck import Deck
 from .errors import Mistake, Mistakes, each_of
 from .settings import Settings, Source
 
@@ -88,17 +90,21 @@ def sources(depots: Sequence[Depot]) -> list[str]:
 # ---- forecasts
 
 
-def _course(depot: Depot, number: int) -> Course | Mistake:
-    # A mistake is given back and not raised, so that one depot's does not hide the others'.
+def _known(depot: Depot, given: Settings) -> Deck:
+    day = given.first_day
+    known = deck.no_deck(day) if depot.deck is None else deck.of_text(depot.deck_path, depot.deck, day)
+    return streets.prepared(given, known)
+
+
+def _course(depot: Depot, number: int) -> tuple[Course, list[str]] | Mistake:
+    """With what is told beside it. A mistake is given back and not raised, so that none hides another depot's."""
     given = depot.given
     if isinstance(given, Mistake):
         return given
     try:
-        day = given.first_day
-        known = deck.no_deck(day) if depot.deck is None else deck.of_text(depot.deck_path, depot.deck, day)
-        known = streets.prepared(given, known)
+        known = _known(depot, given)
         drawn, _ = runs.drilled(given, known, number, 1)
-        return drawn
+        return drawn, streets.warnings(given, known)
     except Mistake as mistake:
         return mistake
 
@@ -110,20 +116,26 @@ def _check_first_days(folder: str, depots: Sequence[Depot]) -> None:
         raise Mistake(folder, f"the depots must have one first_day, and have {told}")
 
 
-def courses(folder: str, depots: Sequence[Depot], number: int, mapped: Callable[..., Iterable[Course | Mistake]],
-            done: Callable[[], None] = lambda: None) -> list[Course]:
-    """The forecasts of each depot, so many runs each, in their order; `mapped` calls side by side, as `map` does."""
+def courses(folder: str, depots: Sequence[Depot], number: int, mapped: Callable[..., Iterable[Any]],
+            done: Callable[[], None] = lambda: None) -> tuple[list[Course], list[str]]:
+    """The forecasts of each depot, so many runs each, in their order, and what is told beside them.
+
+    `mapped` calls side by side, as `map` does.
+    """
     _check_first_days(folder, depots)
-    made, mistakes = [], []
+    made: list[Course] = []
+    warnings: list[str] = []
+    mistakes: list[Mistake] = []
     for each in mapped(partial(_course, number=number), depots):
         done()
-        if isinstance(each, Course):
-            made.append(each)
-        else:
+        if isinstance(each, Mistake):
             mistakes += each_of(each)
+        else:
+            made.append(each[0])
+            warnings += each[1]
     if mistakes:
         raise Mistakes(mistakes)
-    return made
+    return made, warnings
 
 
 # ---- all depots as one

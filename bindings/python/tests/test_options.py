@@ -93,6 +93,29 @@ class WithDeck(unittest.TestCase):
         self.assertNotEqual(said, kept[1].replace(",0.9,", ",0.7,"))
         self.assertIn("  retention: the deck's 3 are reviewed at 0.7\n", summary)
 
+    def test_how_many_are_known(self) -> None:
+        """With a deck it is always told, also where none is taken for known."""
+        for command in [["forecast", EXAMPLE], ["cheapest", EXAMPLE]]:
+            self.assertIn("  streets: 3 known by the deck, 117 new\n", run(*command, "--deck", self.deck)[1])
+        self.deck.write_text(f"{HEAD}High Street,,,,,,,,\n")
+        self.assertIn("  streets: 0 known by the deck, 120 new\n", run("forecast", EXAMPLE, "--deck", self.deck)[1])
+        self.assertNotIn("streets: ", run("forecast", EXAMPLE)[1])
+
+    def test_notes(self) -> None:
+        """What is not refused and likely not meant is told, once for several settings files."""
+        self.deck.write_text(self.deck.read_text().replace("street,", "name,") + ROW.replace("Mill", "Mill 0"))
+        for options, told in [
+            ([EXAMPLE, SIX, "--deck", self.deck], f"{self.deck}: line 5, column 1 (name): 'Mill 0 Lane' stands on line 2 "
+             "already; a street that stands twice is drilled and counted twice"),
+            ([EXAMPLE, "--set", "desired_retention_for_deck=0.8"], "--set 'desired_retention_for_deck=0.8' "
+             "(desired_retention_for_deck): changes nothing for new_round, which has no street that is known"),
+            ([EXAMPLE, "--set", "suspend_after_lapses=0"], "--set 'suspend_after_lapses=0' (suspend_after_lapses): is 0: "
+             "every street retires at its first turn; without the key there is no limit"),
+        ]:
+            status, said, errors = run("forecast", *options)
+            self.assertEqual((status, errors), (0, f"street_drill: note: {told}\n"))
+        self.assertIn("note: --set", run("cheapest", EXAMPLE, "--set", "desired_retention_for_deck=0.8")[2])
+
     def test_new_streets_too(self) -> None:
         self.assertIn("  retention: 0.8 for 117 new streets; the deck's 3 keep their own, 0.9\n",
                       run("forecast", EXAMPLE, "--deck", self.deck, "--retention", "0.8")[1])

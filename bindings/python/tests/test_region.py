@@ -108,9 +108,18 @@ class Region(unittest.TestCase):
             alone = dict(line.strip().split(": ", 1) for line in
                          run("forecast", path, *deck, "--open", 100)[1].splitlines()[1:])
             line = next(line for line in said.splitlines() if line.startswith(f"depot {number} "))
-            labels = "span", "100 streets held", "held on the last day", "in all", "busiest day"
-            self.assertEqual(re.split("  +", line), [f"depot {number}", *(alone[label] for label in labels)])
+            labels = ["span", "100 streets held", "held on the last day", "in all", "busiest day", "streets"]
+            self.assertEqual(re.split("  +", line), [f"depot {number}", *(alone[each] for each in labels if each in alone)])
             self.assertIn(f"<td>{alone['100 streets held']}</td>", (self.out / "a.html").read_text())
+
+    def test_notes_of_decks(self) -> None:
+        """As `forecast` tells them; from processes too."""
+        for number in (0, 2):
+            deck = damage.DECK.replace(b"street,", b"name,") + b"Mill Lane,5,3.5,-2,1,3,0.9,4,1\n"
+            (self.depots / f"depot {number}.csv").write_bytes(deck)
+        status, _, errors = self.region("a", "--workers", 2)
+        self.assertEqual(status, 0)
+        self.assertRegex(errors, r"^(street_drill: note: .*depot \d\.csv: line 5, column 1 \(name\): 'Mill Lane' .*\n){2}$")
 
     def test_runs(self) -> None:
         """A depot's numbers are those of its runs, and the region's those of the sums of each run."""
