@@ -201,6 +201,7 @@ def main(arguments: Sequence[str] | None = None) -> int:
         told = ["there is not enough memory"]
     else:
         return 0
-    for each in told:
+    # What an option sets wrongly is wrong for each settings file, and told once.
+    for each in dict.fromkeys(map(str, told)):
         print(f"street_drill: {each}", file=sys.stderr)
     return 2

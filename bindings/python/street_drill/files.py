@@ -51,10 +51,16 @@ def csv_text(rows: Iterable[Sequence[str]], delimiter: str = ",") -> str:
 
 
 def _destination(path: str) -> str:
-    """The file that a name stands for. A rename would put a device or a folder aside, so neither is taken."""
+    """The file that a name stands for. A rename would put a device or a folder aside, and a file that is read-only:
+    none is taken."""
     real = os.path.realpath(path)
-    if os.path.exists(real) and not os.path.isfile(real):
+    if not os.path.exists(real):
+        return real
+    if not os.path.isfile(real):
         raise Mistake(path, "is no file")
+    # Its owner may have made it so; root may write to any.
+    if not (os.stat(real).st_mode & 0o222 and os.access(real, os.W_OK)):
+        raise Mistake(path, "is read-only, and is not written over")
     return real
 
 

@@ -8,12 +8,29 @@ import argparse
 import os
 import sys
 from pathlib import Path
+from typing import Any, NoReturn
 
 from . import __version__, text
+from .causes import cause
 from .decimals import exact
+from .errors import Mistake
 from .settings import Source
 
-_Parser = argparse.ArgumentParser
+
+class _Parser(argparse.ArgumentParser):
+    def error(self, message: str) -> NoReturn:
+        """A line as of any other mistake, and no page of usage."""
+        self.exit(2, f"street_drill: {message}; {self.prog} --help tells more\n")
+
+
+class _Once(argparse.Action):
+    def __call__(self, parser: argparse.ArgumentParser, namespace: argparse.Namespace, values: Any,
+                 option_string: str | None = None) -> None:
+        """The planner cannot mean both of two."""
+        if getattr(namespace, self.dest) is not None:
+            parser.error(f"argument {option_string}: stands twice")
+        setattr(namespace, self.dest, values)
+
 
 # A mean of so many runs is off by some hundredths of the spread, and more of them would fill the memory.
 MOST_RUNS = 1000
@@ -39,21 +56,13 @@ def _runs(text: str) -> int:
 _runs.__name__ = f"whole number from 1 to {MOST_RUNS}"
 
 
-def _number(text: str) -> str:
-    """As the settings read it, which round it once."""
-    return str(exact(text))
-
-
-_number.__name__ = "number"
-
-
 def _made() -> _Parser:
     """What commands that make runs have in common."""
     made = _Parser(add_help=False)
     made.add_argument("--set", action="append", default=[], metavar="KEY=VALUE",
                       help="a setting, in place of the file's")
-    made.add_argument("--seed", type=int, metavar="SEED", help="as --set seed=SEED")
-    made.add_argument("--retention", type=_number, metavar="RETENTION",
+    made.add_argument("--seed", type=int, action=_Once, metavar="SEED", help="as --set seed=SEED")
+    made.add_argument("--retention", action=_Once, metavar="RETENTION",
                       help="of new streets, as --set desired_retention=RETENTION")
     made.add_argument("--workers", type=_positive, default=os.cpu_count(), help="runs at once (default: all cores)")
     _add_quiet(made)
@@ -102,8 +111,8 @@ def parser() -> _Parser:
     drawn.add_argument("--page", metavar="PAGE.html", help="default: the first listing's name with .html")
     _add_region(commands.add_parser("region", parents=[opened, made], help="a forecast of each depot of a folder"))
     told = commands.add_parser("text", help="a text as the program forecast reads it, with a status for scripts")
-    told.add_argument("--program", default=text.PROGRAM,
-                      help="forecast or cheapest (default: the repository's target/bin/forecast)")
+    told.add_argument("--program", default=text.PROGRAMS[0],
+                      help="forecast (default) or cheapest of the repository's target/bin, or a program's path")
     return own
 
 
@@ -115,8 +124,19 @@ def _add_region(parser: _Parser) -> None:
     parser.add_argument("--page", metavar="PAGE.html", default="region.html", help="all as one (region.html)")
 
 
+def _retention(text: str) -> str:
+    """A number as the settings read it, which round it once."""
+    try:
+        return str(exact(text))
+    except ValueError as error:
+        raise Mistake("--retention", f"{text[:40]!r} {cause(text) or error}") from error
+
+
 def sources(options: argparse.Namespace) -> list[Source]:
-    """In their order a later one goes before an earlier one, and the short options go before --set."""
+    """Each sets a key; two that set the same are a mistake."""
     told = [(f"--set {text[:80]!r}", text) for text in options.set]
-    short = [("--seed", "seed", options.seed), ("--retention", "desired_retention", options.retention)]
-    return [*told, *((option, f"{key} = {value}") for option, key, value in short if value is not None)]
+    if options.seed is not None:
+        told.append(("--seed", f"seed = {options.seed}"))
+    if options.retention is not None:
+        told.append(("--retention", f"desired_retention = {_retention(options.retention)}"))
+    return told

@@ -219,6 +219,22 @@ class Processes(unittest.TestCase):
             told = "street_drill: standard output: No space left on device\n"
             self.assertEqual((ended.returncode, ended.stderr), (1, told))
 
+    def test_closed_output(self) -> None:
+        """From the start, or by a reader that wants no more."""
+        for option in ["forecast", "--help"]:
+            shell = 'exec "$0" -m street_drill "$@" >&-'
+            arguments = [option] if option == "--help" else [option, EXAMPLE]
+            ended = subprocess.run(["sh", "-c", shell, sys.executable, *arguments], cwd=PACKAGE, stderr=subprocess.PIPE)
+            self.assertEqual((ended.returncode, ended.stderr), (1, b"street_drill: standard output: is closed\n"))
+            reader, writer = os.pipe()
+            os.close(reader)
+            # Python's own help passes over what fails at once, where PYTHONUNBUFFERED is set.
+            buffered = {name: value for name, value in os.environ.items() if name != "PYTHONUNBUFFERED"}
+            ended = subprocess.run([sys.executable, "-m", "street_drill", *arguments], cwd=PACKAGE, env=buffered,
+                                   stdout=writer, stderr=subprocess.PIPE)
+            os.close(writer)
+            self.assertEqual((ended.returncode, ended.stderr), (1, b"street_drill: standard output: Broken pipe\n"))
+
     def test_interrupted(self) -> None:
         """Ctrl-C in the middle of a long run: an end at once, without a word or a file, and without its workers."""
         long = EXAMPLE.read_text().replace("= 120", "= 65536").replace("= 30", "= 36500") + "max_cost_perday = inf\n"

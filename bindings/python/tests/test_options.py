@@ -41,6 +41,9 @@ class Settings(unittest.TestCase):
             ("--set", "max_ivl=0", "--set 'max_ivl=0' (max_ivl): refused 4 0: must be 1 to 36,500"),
             ("--set", "max_ivl", "--set 'max_ivl': end of document: Expected '='"),
             ("--retention", "90", "--retention (desired_retention): must be above 0 and below 1; 90 % is written 0.9"),
+            ("--retention", "90%", "--retention: '90%' is a percentage: 90% is written 0.9\n"),
+            ("--retention", "0,9", "--retention: '0,9' has a decimal comma: write a point\n"),
+            ("--retention", "high", "--retention: 'high' is no decimal number\n"),
             ("--seed", -1, "--seed (seed): must be 0 to 18446744073709551615"),
         ]:
             status, said, errors = run("forecast", EXAMPLE, option, value)
@@ -55,17 +58,29 @@ class Settings(unittest.TestCase):
         self.assertEqual(errors.count("(deck): is no setting"), 2)
         self.assertEqual(errors.count("(seed): must be"), 2)
 
+    def test_twice(self) -> None:
+        errors = run("forecast", EXAMPLE, "--set", "learn_limit=4", "--set", "learn_limit=5", "--seed", 3)[2]
+        self.assertEqual(errors, "street_drill: --set 'learn_limit=5' (learn_limit): is set by --set 'learn_limit=4' "
+                                 "already\n")
+        with self.assertRaises(SystemExit), contextlib.redirect_stderr(io.StringIO()) as told:
+            main(["forecast", str(EXAMPLE), "--retention", "0.8", "--retention", "0.9"])
+        self.assertIn("argument --retention: stands twice", told.getvalue())
+
+    def test_told_once(self) -> None:
+        """An option's mistake, whatever the number of settings files."""
+        self.assertEqual(run("forecast", SIX, NINE, "--set", "desired_retension=0.8")[2].count("\n"), 1)
+
     def test_count_of_parameters(self) -> None:
         for text, count in [("[1, 2]", 2), ("[]", 0)]:
             errors = run("forecast", EXAMPLE, "--set", f"parameters={text}")[2]
             self.assertIn(f"(parameters): refused 1 34: there are {count} parameters, and 34 are needed\n", errors)
 
     def test_what_is_not_an_option(self) -> None:
-        for options in [["--runs", "1001"], ["--runs", "0"], ["--seed", "x"], ["--retention", "high"], ["--open", "0"]]:
+        for options in [["--runs", "1001"], ["--runs", "0"], ["--seed", "x"], ["--open", "0"]]:
             with self.assertRaises(SystemExit) as ended, contextlib.redirect_stderr(io.StringIO()) as errors:
                 main(["forecast", str(EXAMPLE), *options])
             self.assertEqual(ended.exception.code, 2)
-            self.assertIn(f"argument {options[0]}: invalid", errors.getvalue())
+            self.assertRegex(errors.getvalue(), rf"^street_drill: argument {options[0]}: invalid .*\n$")
 
     def test_version(self) -> None:
         with self.assertRaises(SystemExit) as ended, contextlib.redirect_stdout(io.StringIO()) as said:
@@ -202,6 +217,16 @@ class Outputs(unittest.TestCase):
         self.assertEqual(run("forecast", own)[0], 0)
         errors = run("forecast", own, "--rows", self.folder / "fsrs.txt")[2]
         self.assertIn("fsrs.txt: was read, and is not written over", errors)
+
+    def test_read_only(self) -> None:
+        rows, link = self.folder / "rows.csv", self.folder / "link.csv"
+        rows.write_text("as it was\n")
+        rows.chmod(0o444)
+        link.symlink_to(rows)
+        for path in (rows, link):
+            told = f"street_drill: {path}: is read-only, and is not written over\n"
+            self.assertEqual(run("forecast", EXAMPLE, "--rows", path), (2, "", told))
+        self.assertEqual(rows.read_text(), "as it was\n")
 
     def test_page_of_the_search(self) -> None:
         page = self.folder / "cheapest.html"
