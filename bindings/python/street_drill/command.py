@@ -155,16 +155,25 @@ def _page(asked: argparse.Namespace) -> None:
     _write({path: drawn}, asked.listings, "".join(facts.summary(each, asked.open) for each in courses))
 
 
+def _new_file(option: str, path: str) -> str:
+    """Where no name is asked for; a planner's file of that name is not written over."""
+    if os.path.lexists(path):
+        raise Mistake(path, f"is there already; {option} {path} writes over it")
+    return path
+
+
 def _region(asked: argparse.Namespace) -> None:
     listed = region.read(asked.folder, options.sources(asked))
-    _warn(region.notes(asked.folder, listed, [asked.summary, asked.page]))
+    summary = asked.summary or _new_file("--summary", "region.csv")
+    page_path = asked.page or _new_file("--page", "region.html")
+    _warn(region.notes(asked.folder, listed, [summary, page_path]))
     with (progress("region", len(listed), asked.quiet) as told,
           cluster.mapping(asked.scheduler, min(asked.workers, len(listed))) as mapped):
         courses, warnings = region.courses(asked.folder, listed, asked.runs, mapped, told.done)
         whole = region.total(courses)
-        texts = {asked.summary: course.as_csv(depots.table(courses, asked.open))}
-        _add(texts, asked.page, page([whole], tables=[depots.page_table(courses, asked.open)]))
-    _warn(warnings)
+        texts = {summary: course.as_csv(depots.table(courses, asked.open))}
+        _add(texts, page_path, page([whole], tables=[depots.page_table(courses, asked.open)]))
+    _warn([*warnings, *(region.alike(asked.folder, listed) if asked.runs == 1 else [])])
     _write(texts, region.sources(listed), facts.summary(whole, None) + depots.lines(courses, asked.open))
 
 

@@ -37,7 +37,8 @@ def _openings(depot: Course, streets: int) -> dict[str, int | None]:
 def _row(depot: Course, streets: int | None) -> dict[str, float | str]:
     costs = [run["cost"] for run in depot.runs]
     busiest, worst = facts.worst(costs)
-    return {"depot": depot.name, "days": depot.span, **_cells("seconds", list(map(total_of, costs))),
+    seed = depot.origin.settings["seed"] if depot.origin else ""
+    return {"depot": depot.name, "days": depot.span, "seed": seed, **_cells("seconds", list(map(total_of, costs))),
             **_days(depot, {"busiest_day": busiest}), **_cells("busiest_seconds", worst),
             **_cells("introduced", [run["introduced"][-1] for run in depot.runs]),
             **_cells("memorized", [run["memorized"][-1] for run in depot.runs]),

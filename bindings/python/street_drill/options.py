@@ -120,8 +120,8 @@ def _add_region(parser: _Parser) -> None:
     parser.add_argument("folder", metavar="DIR", help="has NAME.toml for each depot, and NAME.csv where it has a deck")
     _add_runs(parser)
     parser.add_argument("--scheduler", metavar="ADDRESS", help="HOST:PORT of a Dask cluster for the runs")
-    parser.add_argument("--summary", metavar="SUMMARY.csv", default="region.csv", help="a row a depot (region.csv)")
-    parser.add_argument("--page", metavar="PAGE.html", default="region.html", help="all as one (region.html)")
+    parser.add_argument("--summary", metavar="SUMMARY.csv", help="a row a depot (region.csv, a new file)")
+    parser.add_argument("--page", metavar="PAGE.html", help="all as one (region.html, a new file)")
 
 
 def _retention(text: str) -> str:

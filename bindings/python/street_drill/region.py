@@ -1,12 +1,14 @@
 """A region: a folder with a settings file for each depot, NAME.toml, and its deck NAME.csv where there is one.
 
-  read      the folder's files; notes: what of the folder is left out
-  courses   the forecast of each, on several processes
+  read      the folder's files; notes: what of the folder is left out; alike: the depots that draw alike
+  courses   the forecast of each, on several processes; seed_of: the seed of several runs of a depot
   total     all depots as one course
 """
 
+import hashlib
 import math
 import os
+from collections import Counter
 from collections.abc import Callable, Iterable, Sequence
 from dataclasses import dataclass, replace
 from functools import partial
@@ -81,6 +83,13 @@ def notes(folder: str, depots: Sequence[Depot], outputs: Iterable[str]) -> list[
             if path not in used and os.path.realpath(path) not in written]
 
 
+def alike(folder: str, depots: Sequence[Depot]) -> list[str]:
+    """Depots that draw alike in a single run, which is that of `forecast`."""
+    seeds = Counter(depot.given.seed for depot in depots if isinstance(depot.given, Settings))
+    return [f"{folder}: {number} depots have the seed {seed} and draw alike, so that their sum multiplies one luck; with "
+            "--runs each has its own" for seed, number in seeds.items() if number > 1]
+
+
 def sources(depots: Sequence[Depot]) -> list[str]:
     """The files that were read."""
     own = [path for depot in depots if isinstance(depot.given, Settings) for path in depot.given.sources]
@@ -88,6 +97,11 @@ def sources(depots: Sequence[Depot]) -> list[str]:
 
 
 # ---- forecasts
+
+
+def seed_of(name: str, seed: int) -> int:
+    """The first of a depot's several runs: depots of one seed would all be lucky in the same run."""
+    return int.from_bytes(hashlib.sha256(f"{seed} {name}".encode(errors="surrogateescape")).digest()[:8], "big")
 
 
 def _known(depot: Depot, given: Settings) -> Deck:
@@ -103,6 +117,8 @@ def _course(depot: Depot, number: int) -> tuple[Course, list[str]] | Mistake:
         return given
     try:
         known = _known(depot, given)
+        if number > 1:
+            given = replace(given, seed=seed_of(given.name, given.seed))
         drawn, _ = runs.drilled(given, known, number, 1)
         return drawn, streets.warnings(given, known)
     except Mistake as mistake:
