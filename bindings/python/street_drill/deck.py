@@ -22,7 +22,7 @@ from .sheet import Sheet
 _NOT_DRILLED = Card(*[-math.inf] * 3, 0.0, *[-math.inf] * 2, 0, 0)
 
 
-@dataclass(frozen=True)
+@dataclass(frozen=True, repr=False)
 class Deck:
     """The cards of a file with their rows as written, and the line on which each row begins.
 
@@ -45,6 +45,9 @@ class Deck:
     def kept(self) -> list[Card]:
         """The streets that somebody has drilled; the run has new cards in the others' place."""
         return [card for card in self.cards if is_kept(card)]
+
+    def __repr__(self) -> str:
+        return f"<Deck of {self.path or 'no file'}: {len(self.cards):,} streets, {len(self.kept):,} of them known>"
 
 
 NO_DECK = Deck("", FIELDS, (), (), ())

@@ -32,7 +32,7 @@ def column(table: Sheet, names: Sequence[str]) -> int | None:
 
 
 def twice(table: Sheet, names: Sequence[str], place: int) -> Iterator[tuple[int, int]]:
-    """Each row with the one that it is again. A column that is only called a name may be another's than the street's."""
+    """Each row with the one that it is again; none of a column that is only called a name, perhaps another's."""
     if not _STREET.fullmatch(names[place]):
         return
     carried = [other for other, name in enumerate(names) if name not in FIELDS]
@@ -56,5 +56,6 @@ def repeats(table: Sheet, names: Sequence[str], place: int) -> str | None:
     found = again[0][1]
     written = table.rows[table.lines.index(found[0])][place].strip()[:40]
     others = f", and {len(again) - 1:,} more names stand on several" if len(again) > 1 else ""
-    return (f"{table.path}: line {found[1]}, column {place + 1} ({names[place]}): {written!r} stands on line {found[0]} "
-            f"already{others}; a street that stands twice is drilled and counted twice")
+    where = f"{table.path}: line {found[1]}, column {place + 1} ({names[place]})"
+    return (f"{where}: {written!r} stands on line {found[0]} already{others}; a street that stands twice is drilled "
+            "and counted twice")

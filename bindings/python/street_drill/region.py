@@ -86,8 +86,8 @@ def notes(folder: str, depots: Sequence[Depot], outputs: Iterable[str]) -> list[
 def alike(folder: str, depots: Sequence[Depot]) -> list[str]:
     """Depots that draw alike in a single run, which is that of `forecast`."""
     seeds = Counter(depot.given.seed for depot in depots if isinstance(depot.given, Settings))
-    return [f"{folder}: {number} depots have the seed {seed} and draw alike, so that their sum multiplies one luck; with "
-            "--runs each has its own" for seed, number in seeds.items() if number > 1]
+    return [f"{folder}: {number} depots have the seed {seed} and draw alike, so that their sum multiplies one luck; "
+            "with --runs each has its own" for seed, number in seeds.items() if number > 1]
 
 
 def sources(depots: Sequence[Depot]) -> list[str]:

@@ -6,9 +6,9 @@ from collections.abc import Callable, Iterable
 from dataclasses import dataclass
 from typing import Any
 
-from . import given, library
+from . import given, library, rules
 from .errors import Refusal
-from .model import FIRST_TABLE, Cards, Runner, SimulatorConfig
+from .model import DESIRED_RETENTION, FIRST_TABLE, Cards, Runner, SimulatorConfig
 from .threads import mapping
 
 MOST_ROUNDS = 64
@@ -59,10 +59,20 @@ def trial(config: SimulatorConfig, parameters: Iterable[float], cards: Cards = (
         return _tried(Runner(config, parameters, cards), 0, retention, mapped)
 
 
-def _optimum(found: library.Found) -> Optimum:
+def _optimum(found: library.Found, *wrong: str) -> Optimum:
     if found.refusal != 0:
-        raise Refusal(found.refusal, found.second)
+        raise Refusal(found.refusal, found.second, *wrong)
     return Optimum(found.retention, found.mean, found.rounds)
+
+
+def _of_whole_search(runner: Runner, rounds: int, table: int) -> Optimum:
+    """By the library's own entry, which refuses rounds that are not 1 to 64 in the order of its table."""
+    asked = min(max(rounds, 0), MOST_ROUNDS + 1)
+    found = library.optimal_retention(runner.inputs, asked, library.Lists(runner.inputs, table))
+    if found.refusal != 4:
+        return _optimum(found)
+    wrong = rules.wrong_setting(runner.inputs.config, DESIRED_RETENTION)
+    return _optimum(found, *(wrong or ("rounds", f"must be 1 to {MOST_ROUNDS}")))
 
 
 def optimal_retention(config: SimulatorConfig, parameters: Iterable[float], cards: Cards = (), *,
@@ -75,9 +85,7 @@ def optimal_retention(config: SimulatorConfig, parameters: Iterable[float], card
     """
     runner = Runner(config, parameters, cards, table)
     if not 1 <= given.index("rounds", rounds) <= MOST_ROUNDS:
-        # The library's own entry refuses these, in the order of its table.
-        return _optimum(library.optimal_retention(runner.inputs, min(max(rounds, 0), MOST_ROUNDS + 1),
-                                                  library.Lists(runner.inputs, table)))
+        return _of_whole_search(runner, rounds, table)
     search = library.Search(rounds)
     with mapping(workers) as mapped:
         number = 0

@@ -28,7 +28,7 @@ Source = tuple[str, str]
 Finder = Callable[[str, str, str], str]
 
 
-@dataclass(frozen=True)
+@dataclass(frozen=True, repr=False)
 class Settings:
     """What one file says. `path` is its name as the planner wrote it.
 
@@ -50,6 +50,10 @@ class Settings:
     def name(self) -> str:
         """What the file is called, for a head or a row."""
         return Path(self.path).stem
+
+    def __repr__(self) -> str:
+        return (f"<Settings of {self.path}: {self.config!r}, {len(self.parameters)} parameters, "
+                f"desired_retention={self.desired_retention:.6g}, seed={self.seed}>")
 
     def place(self, key: str) -> str:
         """Where a key is set, or would be; it may have an index."""

@@ -120,12 +120,12 @@ class WithDeck(unittest.TestCase):
         """What is not refused and likely not meant is told, once for several settings files."""
         self.deck.write_text(self.deck.read_text().replace("street,", "name,") + ROW.replace("Mill", "Mill 0"))
         for options, told in [
-            ([EXAMPLE, SIX, "--deck", self.deck], f"{self.deck}: line 5, column 1 (name): 'Mill 0 Lane' stands on line 2 "
-             "already; a street that stands twice is drilled and counted twice"),
+            ([EXAMPLE, SIX, "--deck", self.deck], f"{self.deck}: line 5, column 1 (name): 'Mill 0 Lane' stands on "
+             "line 2 already; a street that stands twice is drilled and counted twice"),
             ([EXAMPLE, "--set", "desired_retention_for_deck=0.8"], "--set 'desired_retention_for_deck=0.8' "
              "(desired_retention_for_deck): changes nothing for new_round, which has no street that is known"),
-            ([EXAMPLE, "--set", "suspend_after_lapses=0"], "--set 'suspend_after_lapses=0' (suspend_after_lapses): is 0: "
-             "every street retires at its first turn; without the key there is no limit"),
+            ([EXAMPLE, "--set", "suspend_after_lapses=0"], "--set 'suspend_after_lapses=0' (suspend_after_lapses): is "
+             "0: every street retires at its first turn; without the key there is no limit"),
         ]:
             status, said, errors = run("forecast", *options)
             self.assertEqual((status, errors), (0, f"street_drill: note: {told}\n"))

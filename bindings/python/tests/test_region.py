@@ -114,7 +114,8 @@ class Region(unittest.TestCase):
                          run("forecast", path, *deck, "--open", 100)[1].splitlines()[1:])
             line = next(line for line in said.splitlines() if line.startswith(f"depot {number} "))
             labels = ["span", "100 streets held", "held on the last day", "in all", "busiest day", "streets"]
-            self.assertEqual(re.split("  +", line), [f"depot {number}", *(alone[each] for each in labels if each in alone)])
+            told = [alone[label] for label in labels if label in alone]
+            self.assertEqual(re.split("  +", line), [f"depot {number}", *told])
             self.assertIn(f"<td>{alone['100 streets held']}</td>", (self.out / "a.html").read_text())
 
     def test_notes_of_decks(self) -> None:
@@ -124,7 +125,8 @@ class Region(unittest.TestCase):
             (self.depots / f"depot {number}.csv").write_bytes(deck)
         status, _, errors = self.region("a", "--workers", 2, "--runs", 2)
         self.assertEqual(status, 0)
-        self.assertRegex(errors, r"^(street_drill: note: .*depot \d\.csv: line 5, column 1 \(name\): 'Mill Lane' .*\n){2}$")
+        told = r"street_drill: note: .*depot \d\.csv: line 5, column 1 \(name\): 'Mill Lane' .*\n"
+        self.assertRegex(errors, f"^({told}){{2}}$")
 
     def test_runs(self) -> None:
         """A depot's numbers are those of its runs, and the region's those of the sums of each run."""
@@ -154,8 +156,8 @@ class Region(unittest.TestCase):
 
     def test_luck_of_a_single_run(self) -> None:
         """It is that of `forecast`, and where depots share it that is told."""
-        told = (f"street_drill: note: {self.depots}: 3 depots have the seed 7 and draw alike, so that their sum multiplies "
-                "one luck; with --runs each has its own\n")
+        told = (f"street_drill: note: {self.depots}: 3 depots have the seed 7 and draw alike, so that their sum "
+                "multiplies one luck; with --runs each has its own\n")
         self.assertEqual(self.region("a")[2], told)
         self.assertEqual(self.region("a", "--runs", 2)[2], "")
         (self.depots / "depot 0.toml").write_text(EXAMPLE.replace("seed = 7", "seed = 8"))
@@ -222,11 +224,10 @@ threading.Thread.start = feeder_fails
 """, "can't start new thread")]:
             code = f"{fault}\nfrom street_drill.__main__ import run\nrun()\n"
             outputs = ["--summary", self.out / "a.csv", "--page", self.out / "a.html"]
-            ended = subprocess.run([sys.executable, "-c", code, "region", self.depots, "--workers", "3", *outputs], text=True,
-                                   cwd=PACKAGE, capture_output=True, timeout=60)
-            last = ended.stderr.splitlines()[-1]
-            self.assertEqual((ended.returncode, last), (2, f"street_drill: --workers: {told}; 1 needs no other thread or "
-                                                           "process"))
+            command = [sys.executable, "-c", code, "region", self.depots, "--workers", "3", *outputs]
+            ended = subprocess.run(command, cwd=PACKAGE, capture_output=True, text=True, timeout=60)
+            last = f"street_drill: --workers: {told}; 1 needs no other thread or process"
+            self.assertEqual((ended.returncode, ended.stderr.splitlines()[-1]), (2, last))
 
     def test_no_depot(self) -> None:
         self.assertIn("has no settings file", run("region", self.out)[2])

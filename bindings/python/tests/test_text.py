@@ -48,7 +48,7 @@ class Text(unittest.TestCase):
         self.assertEqual(text(LISTING, "--program", "forecast"), (0, printed("forecast", LISTING), ""))
 
     def test_where_it_is(self) -> None:
-        """In any folder of the repository, for a package that lies elsewhere; where it is not, the right build is told."""
+        """In any folder of the repository, for a package that lies elsewhere; else the right build is told."""
         with tempfile.TemporaryDirectory() as folder:
             below = Path(folder, "docs", "deep")
             below.mkdir(parents=True)
@@ -56,8 +56,8 @@ class Text(unittest.TestCase):
             command = [sys.executable, "-m", "street_drill", "text", "--program", "cheapest"]
             where = {"cwd": below, "env": {**os.environ, "PYTHONPATH": str(Path(folder, "site", "a", "b"))}}
             ended = subprocess.run(command, **where, input=LISTING, capture_output=True, text=True)
-            told = "street_drill: target/bin/cheapest: is not built: tools/build cheapest makes it; --program names another\n"
-            self.assertEqual((ended.returncode, ended.stderr), (2, told))
+            told = "is not built: tools/build cheapest makes it; --program names another"
+            self.assertEqual((ended.returncode, ended.stderr), (2, f"street_drill: target/bin/cheapest: {told}\n"))
             Path(folder, "target", "bin").mkdir(parents=True)
             shutil.copy(CHEAPEST, Path(folder, "target", "bin"))
             ended = subprocess.run(command, **where, input=LISTING, capture_output=True, text=True)
