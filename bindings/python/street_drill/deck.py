@@ -96,14 +96,14 @@ class _Reading:
     def _check_twice(self) -> tuple[str, ...]:
         """What is to be told of the names where it is no mistake."""
         place = names.column(self._table, self._names)
-        if place is None:
+        groups = [] if place is None else names.again(self._table, place)
+        if place is None or not groups:
             return ()
-        again = list(names.twice(self._table, self._names, place))
-        for number, other in again:
+        twice = list(names.twice(self._table, self._names, place, groups))
+        for number, other in twice:
             written = self._table.rows[number][place][:40]
             self._tell(number, self._names[place], f"{written!r} stands on line {self._table.lines[other]} already")
-        told = None if again else names.repeats(self._table, self._names, place)
-        return (told,) if told else ()
+        return () if twice else (names.note(self._table, self._names, place, groups),)
 
     def _check_points(self) -> str:
         """A file with decimal commas has no points: they might stand between thousands there."""

@@ -1,8 +1,9 @@
 """Streets that stand twice in a deck, by their names.
 
-  column    where the names stand
-  twice     the rows that are another's again: of a street's column, and nothing else tells the two apart
-  repeats   what is told of names that stand on several rows
+  column   where the names stand
+  again    the rows of each name that stands on several
+  twice    of these the rows that are another's again: of a street's column, and nothing else tells the two apart
+  note     what is told of the others
 """
 
 import re
@@ -31,31 +32,35 @@ def column(table: Sheet, names: Sequence[str]) -> int | None:
     return texts[0] if len(texts) == 1 else None
 
 
-def twice(table: Sheet, names: Sequence[str], place: int) -> Iterator[tuple[int, int]]:
+def again(table: Sheet, place: int) -> list[list[int]]:
+    """The rows of each name that stands on several."""
+    streets = [row[place].strip().casefold() for row in table.rows]
+    if len(set(streets)) == len(streets):
+        return []
+    rows: dict[str, list[int]] = {}
+    for number, street in enumerate(streets):
+        rows.setdefault(street, []).append(number)
+    return [found for street, found in rows.items() if street and len(found) > 1]
+
+
+def twice(table: Sheet, names: Sequence[str], place: int, groups: Sequence[Sequence[int]]) -> Iterator[tuple[int, int]]:
     """Each row with the one that it is again; none of a column that is only called a name, perhaps another's."""
     if not _STREET.fullmatch(names[place]):
         return
     carried = [other for other, name in enumerate(names) if name not in FIELDS]
-    first: dict[tuple[str, ...], int] = {}
-    for number, row in enumerate(table.rows):
-        street = tuple(row[other].strip().casefold() for other in carried)
-        other = first.setdefault(street, number) if any(street) else number
-        if other != number:
-            yield number, other
+    for rows in groups:
+        first: dict[tuple[str, ...], int] = {}
+        for number in rows:
+            street = tuple(table.rows[number][other].strip().casefold() for other in carried)
+            other = first.setdefault(street, number)
+            if other != number:
+                yield number, other
 
 
-def repeats(table: Sheet, names: Sequence[str], place: int) -> str | None:
-    """None where each name stands on one row."""
-    lines: dict[str, list[int]] = {}
-    for line, row in zip(table.lines, table.rows):
-        if street := row[place].strip().casefold():
-            lines.setdefault(street, []).append(line)
-    again = [(street, found) for street, found in lines.items() if len(found) > 1]
-    if not again:
-        return None
-    found = again[0][1]
-    written = table.rows[table.lines.index(found[0])][place].strip()[:40]
-    others = f", and {len(again) - 1:,} more names stand on several" if len(again) > 1 else ""
-    where = f"{table.path}: line {found[1]}, column {place + 1} ({names[place]})"
-    return (f"{where}: {written!r} stands on line {found[0]} already{others}; a street that stands twice is drilled "
-            "and counted twice")
+def note(table: Sheet, names: Sequence[str], place: int, groups: Sequence[Sequence[int]]) -> str:
+    """Of the first name that stands on several rows."""
+    first, second = groups[0][:2]
+    where = f"{table.path}: line {table.lines[second]}, column {place + 1} ({names[place]})"
+    others = f", and {len(groups) - 1:,} more names stand on several" if len(groups) > 1 else ""
+    return (f"{where}: {table.rows[first][place].strip()[:40]!r} stands on line {table.lines[first]} already{others}; "
+            "a street that stands twice is drilled and counted twice")

@@ -18,6 +18,11 @@ from .settings import Source
 
 
 class _Parser(argparse.ArgumentParser):
+    def __init__(self, *arguments: Any, **named: Any) -> None:
+        super().__init__(*arguments, **named)
+        # For arguments that name no action of their own.
+        self.register("action", None, _Once)
+
     def error(self, message: str) -> NoReturn:
         """A line as of any other mistake, and no page of usage."""
         self.exit(2, f"street_drill: {message}; {self.prog} --help tells more\n")
@@ -27,7 +32,7 @@ class _Once(argparse.Action):
     def __call__(self, parser: argparse.ArgumentParser, namespace: argparse.Namespace, values: Any,
                  option_string: str | None = None) -> None:
         """The planner cannot mean both of two."""
-        if getattr(namespace, self.dest) is not None:
+        if getattr(namespace, self.dest) != self.default:
             parser.error(f"argument {option_string}: stands twice")
         setattr(namespace, self.dest, values)
 
@@ -61,8 +66,8 @@ def _made() -> _Parser:
     made = _Parser(add_help=False)
     made.add_argument("--set", action="append", default=[], metavar="KEY=VALUE",
                       help="a setting, in place of the file's")
-    made.add_argument("--seed", type=int, action=_Once, metavar="SEED", help="as --set seed=SEED")
-    made.add_argument("--retention", action=_Once, metavar="RETENTION",
+    made.add_argument("--seed", type=int, metavar="SEED", help="as --set seed=SEED")
+    made.add_argument("--retention", metavar="RETENTION",
                       help="of new streets, as --set desired_retention=RETENTION")
     made.add_argument("--workers", type=_positive, default=os.cpu_count(), help="runs at once (default: all cores)")
     _add_quiet(made)

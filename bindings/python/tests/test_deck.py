@@ -124,6 +124,8 @@ class Sense(unittest.TestCase):
         self.assertIn("stands on line 2 already", mistake_of(HEAD.replace("street", "Straße") + ROW * 2))
 
     def test_no_wrong_refusal(self) -> None:
+        town = HEAD.replace("street", "street,town") + ROW.replace("Mill Lane", ",Leeds") * 2
+        self.assertEqual((mistake_of(town), of_text("d.csv", town).notes), ("", ()))
         self.assertEqual(mistake_of(HEAD.replace("street", "street type") + ROW.replace("Mill Lane", "Road") * 2), "")
 
     def test_streets_without_a_name(self) -> None:

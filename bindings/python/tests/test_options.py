@@ -62,9 +62,10 @@ class Settings(unittest.TestCase):
         errors = run("forecast", EXAMPLE, "--set", "learn_limit=4", "--set", "learn_limit=5", "--seed", 3)[2]
         self.assertEqual(errors, "street_drill: --set 'learn_limit=5' (learn_limit): is set by --set 'learn_limit=4' "
                                  "already\n")
-        with self.assertRaises(SystemExit), contextlib.redirect_stderr(io.StringIO()) as told:
-            main(["forecast", str(EXAMPLE), "--retention", "0.8", "--retention", "0.9"])
-        self.assertIn("argument --retention: stands twice", told.getvalue())
+        for option, first, second in [("--retention", "0.8", "0.9"), ("--deck", "a.csv", "b.csv"), ("--runs", "2", "3")]:
+            with self.assertRaises(SystemExit), contextlib.redirect_stderr(io.StringIO()) as told:
+                main(["forecast", str(EXAMPLE), option, first, option, second])
+            self.assertIn(f"argument {option}: stands twice", told.getvalue())
 
     def test_told_once(self) -> None:
         """An option's mistake, whatever the number of settings files."""
