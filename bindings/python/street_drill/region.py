@@ -100,8 +100,11 @@ def sources(depots: Sequence[Depot]) -> list[str]:
 
 
 def seed_of(name: str, seed: int) -> int:
-    """The first of a depot's several runs: depots of one seed would all be lucky in the same run."""
-    return int.from_bytes(hashlib.sha256(f"{seed} {name}".encode(errors="surrogateescape")).digest()[:8], "big")
+    """The first of a depot's several runs: depots of one seed would all be lucky in the same run.
+
+    It has at most fifteen digits, since a spreadsheet that reads the summary keeps no more.
+    """
+    return int.from_bytes(hashlib.sha256(f"{seed} {name}".encode(errors="surrogateescape")).digest()[:6], "big")
 
 
 def _known(depot: Depot, given: Settings) -> Deck:
