@@ -219,6 +219,13 @@ class Processes(unittest.TestCase):
             told = "street_drill: standard output: No space left on device\n"
             self.assertEqual((ended.returncode, ended.stderr), (1, told))
 
+    def test_files_beside_a_full_output(self) -> None:
+        with tempfile.TemporaryDirectory() as folder, open("/dev/full", "w") as full:
+            rows = Path(folder, "rows.csv")
+            command = [sys.executable, "-m", "street_drill", "forecast", EXAMPLE, "--rows", rows]
+            self.assertEqual(subprocess.run(command, cwd=PACKAGE, stdout=full, stderr=subprocess.PIPE).returncode, 1)
+            self.assertEqual(len(rows_of(rows)), 30)
+
     def test_closed_output(self) -> None:
         """From the start, or by a reader that wants no more."""
         for option in ["forecast", "--help"]:
