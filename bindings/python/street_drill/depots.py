@@ -36,9 +36,10 @@ def _openings(depot: Course, streets: int) -> dict[str, int | None]:
 
 def _row(depot: Course, streets: int | None) -> dict[str, float | str]:
     costs = [run["cost"] for run in depot.runs]
-    busiest, worst = facts.worst(costs)
+    busiest, times, worst = facts.worst(costs)
+    often = {"busiest_day_runs": times} if depot.each else {}
     return {"depot": depot.name, "days": depot.span, **_cells("seconds", list(map(total_of, costs))),
-            **_days(depot, {"busiest_day": busiest}), **_cells("busiest_seconds", worst),
+            **_days(depot, {"busiest_day": busiest}), **often, **_cells("busiest_seconds", worst),
             **_cells("introduced", [run["introduced"][-1] for run in depot.runs]),
             **_cells("memorized", [run["memorized"][-1] for run in depot.runs]),
             **(_days(depot, _openings(depot, streets)) if streets else {})}

@@ -25,6 +25,11 @@ def _spread(values: Sequence[float], told: Callable[[float], str] = duration) ->
     return mean if len(values) == 1 else f"{mean} ({low} to {high})"
 
 
+def days_told(number: int) -> str:
+    """So many days."""
+    return "1 day" if number == 1 else f"{number:,} days"
+
+
 # ---- the day that holds so many streets
 
 
@@ -70,29 +75,46 @@ def opens(course: Course, streets: int) -> str:
 # ---- costs
 
 
-def worst(costs: Sequence[Sequence[float]]) -> tuple[int, list[float]]:
-    """What the worst day or week of each run costs, and which it is most often."""
+def worst(costs: Sequence[Sequence[float]]) -> tuple[int, int, list[float]]:
+    """Which day or week is most often the worst of a run, in how many of the runs, and what each run's costs."""
     places = [busiest(run) for run in costs]
-    often, _ = Counter(sorted(places)).most_common(1)[0]
-    return often, [run[place] for run, place in zip(costs, places)]
+    often, number = Counter(sorted(places)).most_common(1)[0]
+    return often, number, [run[place] for run, place in zip(costs, places)]
 
 
 def _worst(costs: Sequence[Sequence[float]], told: Callable[[int], str]) -> str:
-    place, values = worst(costs)
+    place, number, values = worst(costs)
     if len(values) == 1:
         return f"{told(place)}, {_spread(values)}"
-    return f"{_spread(values)}, most often {told(place)}"
+    # What is so in one of the runs is luck.
+    often = f", most often {told(place)}, in {number} of {len(values)} runs" if number > 1 else ""
+    return f"{_spread(values)}{often}"
 
 
-def _by(course: Course, kind: str, stretches: Sequence[Stretch], length: int) -> list[tuple[str, str]]:
-    """By week or month: the first ones, the mean and the worst; nothing where there is but one."""
+def _part(each: Stretch) -> str:
+    """What stands before a stretch's cost: a month of the calendar has its name, and what is not whole its days."""
+    days = "" if each.is_whole else days_told(len(each.days))
+    if each.name.isdigit():
+        return f"{days}: " if days else ""
+    return f"{each.name} ({days}): " if days else f"{each.name}: "
+
+
+def _by(course: Course, kind: str, stretches: Sequence[Stretch]) -> list[tuple[str, str]]:
+    """By week or month: the first ones; and of whole ones the mean and the worst, where there are two. Half a week
+    would make both too small."""
     if len(stretches) < 2:
         return []
-    costs = periods.costs(course, stretches)
-    first = ", ".join(_spread(each) for each in list(zip(*costs))[:_FIRST])
-    mean = _spread([sum(run) / course.span * length for run in costs])
-    worst = _worst(costs, lambda place: f"{kind} {stretches[place].name}, from {course.day(stretches[place].days[0])}")
-    return [(f"first {kind}s", first), (f"mean {kind}", mean), (f"worst {kind}", worst)]
+    first = zip(stretches[:_FIRST], zip(*periods.costs(course, stretches)))
+    told = [(f"first {kind}s", ", ".join(f"{_part(each)}{_spread(costs)}" for each, costs in first))]
+    whole = [each for each in stretches if each.is_whole]
+    if len(whole) < 2:
+        return told
+    costs = periods.costs(course, whole)
+    mean = _spread([sum(run) / len(whole) for run in costs])
+    of = "" if len(whole) == len(stretches) else f", of {len(whole)} whole {kind}s"
+    names = [f"{kind} {each.name}" if each.name.isdigit() else each.name for each in whole]
+    worst = _worst(costs, lambda place: f"{names[place]}, from {course.day(whole[place].days.start)}")
+    return [*told, (f"mean {kind}", f"{mean}{of}"), (f"worst {kind}", worst)]
 
 
 # ---- the whole
@@ -105,7 +127,7 @@ def _held(course: Course) -> str:
 
 
 def _span(course: Course) -> str:
-    days = f"{course.span:,} days" if course.span > 1 else "1 day"
+    days = days_told(course.span)
     return f"{days}, {course.date(0)} to {course.date(course.span - 1)}" if course.first_day else days
 
 
@@ -120,8 +142,8 @@ def facts(course: Course, streets: int | None) -> list[tuple[str, str]]:
             ("held on the last day", _held(course)),
             ("in all", _spread([sum(run["cost"]) for run in course.runs])),
             ("busiest day", _worst([run["cost"] for run in course.runs], course.day)),
-            *_by(course, "week", periods.weeks(course), periods.WEEK),
-            *_by(course, "month", periods.months(course), periods.MONTH),
+            *_by(course, "week", periods.weeks(course)),
+            *_by(course, "month", periods.months(course)),
             *course.notes]
 
 

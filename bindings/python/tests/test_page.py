@@ -109,7 +109,7 @@ class Page(unittest.TestCase):
         columns = {name: (1.0,) * 90 for name in COLUMNS}
         dated = Course("round", columns, {}, first_day=date(2026, 11, 23))
         months = told(page([dated]))["views"]["month"]["courses"][0]
-        self.assertEqual(months["month"], ["2026-11", "2026-12", "2027-01", "2027-02"])
+        self.assertEqual(months["month"], ["Nov 2026", "Dec 2026", "Jan 2027", "Feb 2027"])
         self.assertEqual(months["cost"], [None, 31, 31, None])
         numbered = told(page([Course("round", columns, {})]))["views"]["month"]["courses"][0]
         self.assertEqual((numbered["month"], numbered["cost"]), (["1", "2", "3"], [30, 30, 30]))
