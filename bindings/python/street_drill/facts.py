@@ -2,19 +2,16 @@
 
   facts     labels and what stands by them
   summary   the same as lines
-  opens     from when so many streets stay held, in words
 """
 
-from bisect import bisect_right
 from collections import Counter
 from collections.abc import Callable, Sequence
 
-from . import periods
-from .course import Course, busiest, duration, opening, spread, touch
+from . import opens, periods
+from .course import Course, busiest, days_told, duration, spread
 from .periods import Stretch
 
-# Of ten runs, so many are told by when.
-_TENTHS = (5, 9, 10)
+_ONE_RUN = "one; --runs tells how much is luck"
 # So many weeks or months are told one by one.
 _FIRST = 4
 
@@ -23,53 +20,6 @@ def _spread(values: Sequence[float], told: Callable[[float], str] = duration) ->
     """One value as it is; of several the mean, with the tenth and the ninetieth percentile."""
     mean, low, high = map(told, spread(values))
     return mean if len(values) == 1 else f"{mean} ({low} to {high})"
-
-
-def days_told(number: int) -> str:
-    """So many days."""
-    return "1 day" if number == 1 else f"{number:,} days"
-
-
-# ---- the day that holds so many streets
-
-
-def _opens_once(course: Course, streets: int) -> str:
-    held = course.columns["memorized"]
-    day, first = opening(held, streets), touch(held, streets)
-    if first is None:
-        return "on no day"
-    stays = "on no day to the end" if day is None else f"from {course.day(day)} to the end"
-    return stays if first == day else f"{stays}, though first on {course.day(first)}"
-
-
-def _stays(course: Course, streets: int) -> list[int]:
-    """Of the runs in which so many streets stay held: from which day on, in order."""
-    days = [opening(run["memorized"], streets) for run in course.runs]
-    return sorted(day for day in days if day is not None)
-
-
-def openings(course: Course, streets: int) -> list[int | None]:
-    """From which day so many streets stay held in half of the runs, in nine of ten, and in all."""
-    stays = _stays(course, streets)
-    numbers = [-(-tenths * len(course.runs) // 10) for tenths in _TENTHS]
-    return [stays[number - 1] if number <= len(stays) else None for number in numbers]
-
-
-def _opens_of_runs(course: Course, streets: int) -> str:
-    runs, stays = len(course.runs), _stays(course, streets)
-    if not stays:
-        return f"on no day in all {runs} runs"
-    told = []
-    for day in sorted({stays[-1], *(day for day in openings(course, streets) if day is not None)}):
-        number = bisect_right(stays, day)
-        told.append(f"in {f'all {runs}' if number == runs else f'{number} of {runs}'} runs from {course.day(day)}")
-    never = [f"in {runs - len(stays)} on no day"] if len(stays) < runs else []
-    return f"to the end {', '.join([*told, *never])}"
-
-
-def opens(course: Course, streets: int) -> str:
-    """From when so many streets stay held to the end; of several runs, in how many by when."""
-    return _opens_of_runs(course, streets) if course.each else _opens_once(course, streets)
 
 
 # ---- costs
@@ -133,12 +83,11 @@ def _span(course: Course) -> str:
 
 def facts(course: Course, streets: int | None) -> list[tuple[str, str]]:
     """What a planner asks first; days count from 0. `streets` is what --open asks for."""
-    told = [("span", _span(course))]
-    if course.each:
-        told.append(("runs", f"{len(course.each)}: means, with the tenth and the ninetieth percentile"))
-    if streets is not None:
-        told.append((f"{streets:,} streets held", opens(course, streets)))
-    return [*told,
+    runs = len(course.each)
+    of_runs = f"{runs}: means, with the tenth and the ninetieth percentile" if runs else _ONE_RUN
+    return [("span", _span(course)),
+            ("runs", of_runs),
+            *(opens.told(course, streets) if streets is not None else []),
             ("held on the last day", _held(course)),
             ("in all", _spread([sum(run["cost"]) for run in course.runs])),
             ("busiest day", _worst([run["cost"] for run in course.runs], course.day)),

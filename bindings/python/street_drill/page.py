@@ -25,6 +25,8 @@ _DIGITS = 2
 # What several runs add to a column.
 _ADDED = ("p10", "p90", "first")
 
+_DOUBT = " A day with ? is too near the span's end to tell whether the streets stay held."
+
 
 def _few(courses: Sequence[Course]) -> bool:
     """Whether all names have room in a line."""
@@ -231,6 +233,7 @@ def page(given: Sequence[Course], streets: int | None = None, tables: Sequence[T
     return document(_title(courses), [
         _made(courses, made or date.today()),
         f"<main>\n{_summary(courses, streets, shown)}", *pictures, "</main>",
-        "<p>Days count from 0; cost is copied in seconds; memorized is the number of streets held in memory.</p>",
+        f"<p>Days count from 0; cost is copied in seconds; memorized is the number of streets held in memory."
+        f"{_DOUBT if streets else ''}</p>",
         *(_table(number, table, number < len(tables)) for number, table in enumerate(listed)),
     ], _off(courses), _values(courses, shown, listed))

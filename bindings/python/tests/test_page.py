@@ -16,7 +16,7 @@ from pathlib import Path
 
 from street_drill import Mistake, forecasts, settings, simulate
 from street_drill.axes import BOTTOM, TOP, axis
-from street_drill.course import COLUMNS, Course, duration, of_runs, opening
+from street_drill.course import COLUMNS, Course, duration, of_columns, of_runs, opening
 from street_drill.listing import of_text
 from street_drill.page import _beside, page
 from street_drill.picture import TITLES
@@ -91,7 +91,7 @@ class Page(unittest.TestCase):
             self.assertEqual(list(drawn), kinds + ["smooth c0 l0"] * jumps)
             numbers = map(float, re.findall(r"[\d.]+", " ".join(drawn.values())))
             self.assertTrue(all(0 <= number <= 480 for number in numbers))
-        self.assertRegex(figures(text)["day", "memorized"], r"80 streets<.*>day \d+<")
+        self.assertRegex(figures(text)["day", "memorized"], r"80 streets<.*>day 10\? in 5 of 5 runs<")
 
     def test_weeks(self) -> None:
         """A week's sums, what stands at its end, and no number for the two days that are left."""
@@ -126,7 +126,7 @@ class Page(unittest.TestCase):
         picture = figures(text)["day", "memorized"]
         self.assertIn(">23 Nov<", picture)
         day = opening(course.columns["memorized"], 80)
-        self.assertIn(f">{(course.first_day + timedelta(day)).isoformat()}<", picture)
+        self.assertIn(f">{(course.first_day + timedelta(day)).isoformat()}?<", picture)
 
     def test_mark_of_the_day(self) -> None:
         """Courses that come to so many streets have a dot each; their days are told where they have room."""
@@ -134,15 +134,19 @@ class Page(unittest.TestCase):
         for count, told_of in [(2, 2), (5, 0)]:
             picture = figures(page([course] * count, 80))["day", "memorized"]
             self.assertEqual(picture.count("<circle"), count)
-            self.assertEqual(len(re.findall(r">day \d+<", picture)), told_of)
+            self.assertEqual(picture.count(">day 10?<"), told_of)
         self.assertNotIn("<circle", figures(page([course], 121))["day", "memorized"])
 
-    def test_mark_of_the_mean_s_day(self) -> None:
-        """Of several runs the mark lies on the strong line, which is their mean."""
-        course = runs_of("round", 5)
-        day = opening(course.bands["memorized"].mean, 100)
-        self.assertNotEqual(day, opening(course.columns["memorized"], 100))
-        self.assertIn(f">day {day}<", figures(page([course], 100))["day", "memorized"])
+    def test_marks_as_the_text_has_them(self) -> None:
+        """Of several runs the days on which half, nine of ten and all stay, with a ? where the end is too near."""
+        runs = [{name: (0.0,) * day + (10.0,) * (100 - day) for name in COLUMNS} for day in [*range(1, 10), 75]]
+        text = page([of_columns("round", runs)], 10)
+        marks = re.findall(r">(day [^<]*)</text>", figures(text)["day", "memorized"])
+        self.assertEqual(marks, ["day 5 in 5 of 10 runs", "day 9 in 9 of 10 runs", "day 75? in 10 of 10 runs"])
+        self.assertIn("in 5 of 10 runs from day 5, seen for 95 days, in 9 of 10 runs from day 9, seen for 91 days; "
+                      "too near the span&#x27;s end to tell (run a longer one): in all 10 runs from day 75, seen for "
+                      "25 days<", text)
+        self.assertIn("A day with ? is too near the span's end", text)
 
     def test_mark_by_week(self) -> None:
         """Day 10 of a straight line is at 11 streets, and its dot lies on the line of the weeks' ends."""
@@ -185,8 +189,8 @@ class Page(unittest.TestCase):
             text = page([runs_of("round", 1), *[runs_of("other", 3)] * (count - 1)], 80)
             self.check(text)
             # The one run's, and those of three.
-            self.assertEqual(len(re.findall(r">from day \d+ to the end<", text)), 1)
-            self.assertEqual(text.count("to the end in all 3 runs from day"), count - 1)
+            self.assertEqual(len(re.findall(r": from day \d+, seen for \d+ days<", text)), 1)
+            self.assertEqual(text.count(": in all 3 runs from day"), count - 1)
 
     def tables(self, text: str) -> dict[str, str]:
         """The tables by their names."""
@@ -340,7 +344,7 @@ class Browser(unittest.TestCase):
             said, _ = self.found(page(courses, 100), """
                 const html = document.documentElement;
                 const answer = [...document.querySelectorAll("dd, .facts td")]
-                    .find((each) => each.textContent.includes("to the end"));
+                    .find((each) => each.textContent.includes("from day"));
                 const box = answer.getBoundingClientRect();
                 return [html.scrollWidth <= html.clientWidth, box.bottom < 844, box.width > 400];""", "500,844")
             self.assertEqual(said, [True, True, True], count)

@@ -87,14 +87,15 @@ class Facts(unittest.TestCase):
         self.assertEqual([label for label in told if "week" in label], ["first weeks"])
 
     def test_calendar(self) -> None:
-        told = dict(facts(course(70, MONDAY), 60))
+        told = dict(facts(course(70, MONDAY), 40))
         self.assertEqual(told["span"], "70 days, 2026-11-23 to 2027-01-31")
         self.assertEqual(told["busiest day"], "2027-01-31 (day 69), 1 h 09 min")
         self.assertEqual(told["worst week"], "week 10, from 2027-01-25 (day 63), 7 h 42 min")
-        self.assertEqual(told["first months"], "Nov 2026 (8 days): 28 min, Dec 2026: 11 h 53 min, Jan 2027: 27 h 54 min")
+        self.assertEqual(told["first months"],
+                         "Nov 2026 (8 days): 28 min, Dec 2026: 11 h 53 min, Jan 2027: 27 h 54 min")
         self.assertEqual(told["mean month"], "19 h 54 min, of 2 whole months")
         self.assertEqual(told["worst month"], "Jan 2027, from 2027-01-01 (day 39), 27 h 54 min")
-        self.assertEqual(told["60 streets held"], "from 2027-01-22 (day 60) to the end")
+        self.assertEqual(told["40 streets held to the end"], "from 2027-01-02 (day 40), seen for 30 days")
 
     def test_worst_of_runs(self) -> None:
         """The day that is most often the busiest is told with its count, and not at all where it is luck."""

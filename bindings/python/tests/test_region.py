@@ -1,6 +1,7 @@
 """A region of depots."""
 
 import csv
+import html
 import importlib.util
 import os
 import re
@@ -108,9 +109,11 @@ class Region(unittest.TestCase):
             alone = dict(line.strip().split(": ", 1) for line in
                          run("forecast", path, *deck, "--open", 100)[1].splitlines()[1:])
             line = next(line for line in said.splitlines() if line.startswith(f"depot {number} "))
-            labels = "span", "100 streets held", "held on the last day", "in all", "busiest day"
+            labels = ("span", "100 streets held to the end", "100 streets first held", "held on the last day", "in all",
+                      "busiest day")
             self.assertEqual(re.split("  +", line), [f"depot {number}", *(alone[label] for label in labels)])
-            self.assertIn(f"<td>{alone['100 streets held']}</td>", (self.out / "a.html").read_text())
+            told = html.escape(alone["100 streets held to the end"])
+            self.assertIn(f"<td>{told}</td>", (self.out / "a.html").read_text())
 
     def test_runs(self) -> None:
         """A depot's numbers are those of its runs, and the region's those of the sums of each run."""
@@ -123,6 +126,9 @@ class Region(unittest.TestCase):
         self.assertAlmostEqual(float(row["seconds"]), sum(seconds) / 5, places=2)
         self.assertAlmostEqual(float(row["seconds_p10"]), 0.6 * seconds[0] + 0.4 * seconds[1], places=2)
         self.assertEqual((row["opens_half"], row["opens_most"], row["opens_all"]), ("12", "13", "13"))
+        first = sorted(next(day for day, row in enumerate(days) if row.memorized >= 100) for days in made)
+        self.assertEqual([row[f"first_held_{share}"] for share in ("half", "most", "all")],
+                         [str(first[place]) for place in (2, 4, 4)])
         self.region("b", "--runs", 5, "--workers", 1, "--open", 100)
         self.assertEqual((self.out / "a.csv").read_bytes(), (self.out / "b.csv").read_bytes())
 
