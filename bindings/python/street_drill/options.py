@@ -52,7 +52,6 @@ def _made() -> _Parser:
     made = _Parser(add_help=False)
     made.add_argument("--set", action="append", default=[], metavar="KEY=VALUE",
                       help="a setting, in place of the file's")
-    made.add_argument("--seed", type=int, metavar="SEED", help="as --set seed=SEED")
     made.add_argument("--retention", type=_number, metavar="RETENTION",
                       help="of new streets, as --set desired_retention=RETENTION")
     made.add_argument("--workers", type=_positive, default=os.cpu_count(), help="runs at once (default: all cores)")
@@ -71,6 +70,8 @@ def _opened() -> _Parser:
 
 
 def _add_runs(parser: _Parser) -> None:
+    # The search has seeds of its own.
+    parser.add_argument("--seed", type=int, metavar="SEED", help="as --set seed=SEED")
     parser.add_argument("--runs", type=_runs, default=1,
                         help=f"seeds to forecast, from the given one on; at most {MOST_RUNS}")
 
@@ -118,5 +119,6 @@ def _add_region(parser: _Parser) -> None:
 def sources(options: argparse.Namespace) -> list[Source]:
     """In their order a later one goes before an earlier one, and the short options go before --set."""
     told = [(f"--set {text[:80]!r}", text) for text in options.set]
-    short = [("--seed", "seed", options.seed), ("--retention", "desired_retention", options.retention)]
+    short = [("--seed", "seed", getattr(options, "seed", None)),
+             ("--retention", "desired_retention", options.retention)]
     return [*told, *((option, f"{key} = {value}") for option, key, value in short if value is not None)]

@@ -1,7 +1,7 @@
 """The page: courses as a summary, pictures and tables, one HTML file that needs no network.
 
   page        the whole text
-  document    a page of any parts
+  document    a page of any parts; pairs: labels and what stands by them
 """
 
 import json
@@ -36,8 +36,9 @@ def _few(courses: Sequence[Course]) -> bool:
 # ---- the head and the summary
 
 
-def _pairs(pairs: Sequence[tuple[str, str]]) -> str:
-    told = "".join(f"<div><dt>{escape(label)}</dt><dd>{escape(value)}</dd></div>" for label, value in pairs)
+def pairs(labelled: Sequence[tuple[str, str]]) -> str:
+    """Labels and what stands by them."""
+    told = "".join(f"<div><dt>{escape(label)}</dt><dd>{escape(value)}</dd></div>" for label, value in labelled)
     return f"<dl>{told}</dl>"
 
 
@@ -71,7 +72,7 @@ def _made(courses: Sequence[Course], day: date) -> str:
     if not _few(courses) and differing:
         names = ", ".join(name for name, _ in differing)
         table = f"<details><summary>they differ in {escape(names)}</summary>{table}</details>"
-    return f'<section class="made">{_pairs(head.common(courses, day))}{table}</section>'
+    return f'<section class="made">{pairs(head.common(courses, day))}{table}</section>'
 
 
 def _facts_of_each(courses: Sequence[Course], streets: int | None) -> str:
@@ -90,7 +91,7 @@ def _switches(shown: Sequence[View], days: int) -> str:
 
 
 def _summary(courses: Sequence[Course], streets: int | None, shown: Sequence[View]) -> str:
-    inside = _pairs(facts(courses[0], streets)) if len(courses) == 1 else _facts_of_each(courses, streets)
+    inside = pairs(facts(courses[0], streets)) if len(courses) == 1 else _facts_of_each(courses, streets)
     return f'<section class="summary">{inside}{_switches(shown, window(shown[0].last + 1))}</section>'
 
 
