@@ -57,7 +57,7 @@ def table(depots: Sequence[Course], streets: int | None) -> Table:
 def page_table(depots: Sequence[Course], streets: int | None) -> Table:
     """A row a depot, to be read."""
     opening = [label for depot in depots[:1] for label, _ in (opens.told(depot, streets) if streets else [])]
-    wanted = ("span", *opening, "held on the last day", "in all", "busiest day")
+    wanted = ("span", *opening, "held on the last day", "in all", "busiest day", "overdue at the end")
     told = [{label: value for label, value in facts.facts(depot, streets) if label in wanted} for depot in depots]
     labels = list(dict.fromkeys(label for each in told for label in each))
     rows = [[depot.name, *(each.get(label, "") for label in labels)] for depot, each in zip(depots, told)]

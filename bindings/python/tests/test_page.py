@@ -128,6 +128,23 @@ class Page(unittest.TestCase):
         day = opening(course.columns["memorized"], 80)
         self.assertIn(f">{(course.first_day + timedelta(day)).isoformat()}?<", picture)
 
+    def test_different_first_days(self) -> None:
+        """The pictures number the days, since a place there is no one date; the tables and the answers have dates."""
+        course = Course("round", {name: (100.0,) * 90 for name in COLUMNS}, {})
+        dated = [replace(course, first_day=date(2026, month, 23)) for month in (10, 11)]
+        for courses in [dated, [dated[0], course]]:
+            text = page(courses, 80)
+            self.check(text)
+            pictures = figures(text)
+            self.assertNotRegex("".join(pictures.values()), r">\d+ (Oct|Nov)<|>(Oct|Nov) 2026<|>2026-")
+            self.assertIn(">day 0<", pictures["day", "memorized"])
+            self.assertEqual(told(text)["views"]["month"]["courses"][0]["month"], ["1", "2", "3"])
+            self.assertNotIn('"date"', re.search(r'type="application/json">(.*?)</script>', text)[1])
+            self.assertIn("in the pictures days count from each one's own first", text)
+            self.assertIn("from 2026-10-23 (day 0), seen for 90 days", text)
+            self.assertIn("<td>2026-10-23</td>", text)
+        self.assertNotIn("each one's own first", page([course, course]))
+
     def test_mark_of_the_day(self) -> None:
         """Courses that come to so many streets have a dot each; their days are told where they have room."""
         course = runs_of("round", 1)

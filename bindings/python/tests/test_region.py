@@ -110,7 +110,7 @@ class Region(unittest.TestCase):
                          run("forecast", path, *deck, "--open", 100)[1].splitlines()[1:])
             line = next(line for line in said.splitlines() if line.startswith(f"depot {number} "))
             labels = ("span", "100 streets held to the end", "100 streets first held", "held on the last day", "in all",
-                      "busiest day")
+                      "busiest day", "overdue at the end")
             self.assertEqual(re.split("  +", line), [f"depot {number}", *(alone[label] for label in labels)])
             told = html.escape(alone["100 streets held to the end"])
             self.assertIn(f"<td>{told}</td>", (self.out / "a.html").read_text())
