@@ -87,6 +87,12 @@ def _difference(best: Trial, other: Trial) -> str:
     return f"{more:.2f} seconds a street more{doubt}"
 
 
+def _as_cheap(trials: Sequence[Trial], best: Trial) -> list[str]:
+    """What the runs can't tell from the best: four digits of it would be more than they know."""
+    alike = [short(each.retention) for each in trials if each is not best and not _is_told_apart(best, each)]
+    return [f"as cheap, as far as these runs tell: {', '.join(alike)}"] if alike else []
+
+
 def _beside(best: Trial, present: Trial) -> str:
     """What the present setting costs beside the best."""
     if present.mean == best.mean:
@@ -101,8 +107,9 @@ def advice(trials: Sequence[Trial], present: Trial, streets: Streets) -> list[st
     """What is advised, or why nothing is, and what the present setting costs."""
     best = min(trials, key=lambda each: each.mean)
     lines = [_advice(trials, present, streets)]
-    if best.retention != present.retention and not _are_alike(trials):
-        lines.append(_beside(best, present))
+    if not _are_alike(trials):
+        lines += _as_cheap(trials, best)
+        lines += [_beside(best, present)] if best.retention != present.retention else []
     if streets.known and streets.new:
         lines.append(f"desired_retention is for the {streets.new:,} new streets; "
                      f"the deck's {streets.known:,} keep theirs")

@@ -2,7 +2,7 @@
 
   stays, firsts   the days from which they stay held to its end, and those that first hold so many
   shares          of the runs' days those on which half, nine of ten and all are there
-  told            both in words, each with its label
+  told            both in words, each with its label; in_runs: in how many of the runs
 """
 
 from bisect import bisect_right
@@ -55,22 +55,23 @@ def firsts(course: Course, streets: int) -> list[Milestone]:
     return _milestones(course, [touch(run["memorized"], streets) for run in course.runs])
 
 
-def _in_runs(course: Course, number: int) -> str:
+def in_runs(course: Course, number: int) -> str:
+    """In how many of the runs; nothing where there is one."""
     runs = len(course.runs)
     if runs == 1:
         return ""
-    return f"in all {runs} runs " if number == runs else f"in {number} of {runs} runs "
+    return f"in all {runs} runs" if number == runs else f"in {number} of {runs} runs"
 
 
 def _never(course: Course, there: Sequence[Milestone]) -> str:
     """What is told of the runs that are never there."""
     number = len(course.runs) - (there[-1].runs if there else 0)
-    return f"{_in_runs(course, number)}on no day" if number else ""
+    return f"{in_runs(course, number)} on no day".strip() if number else ""
 
 
 def _stays_told(course: Course, streets: int) -> str:
     there = stays(course, streets)
-    told = [f"{_in_runs(course, each.runs)}from {course.day(each.day)}, seen for {days_told(each.days)}"
+    told = [f"{in_runs(course, each.runs)} from {course.day(each.day)}, seen for {days_told(each.days)}".strip()
             for each in there]
     sure = [text for text, each in zip(told, there) if not each.is_near]
     near = [text for text, each in zip(told, there) if each.is_near]
@@ -80,7 +81,7 @@ def _stays_told(course: Course, streets: int) -> str:
 
 def _firsts_told(course: Course, streets: int) -> str:
     there, by = firsts(course, streets), "by" if course.each else "on"
-    told = [f"{_in_runs(course, each.runs)}{by} {course.day(each.day)}" for each in there]
+    told = [f"{in_runs(course, each.runs)} {by} {course.day(each.day)}".strip() for each in there]
     return ", ".join(filter(None, [*told, _never(course, there)]))
 
 

@@ -11,7 +11,7 @@ from datetime import date
 
 from .axes import BOTTOM, HEIGHT, LEFT, RIGHT, WIDTH, Scale, amount, axis, below, grid
 from .course import STANDING, Course
-from .opens import Milestone, stays
+from .opens import Milestone, in_runs, stays
 from .series import smoothed, stretches, thinned, thinned_band, window
 from .views import Shown, View
 
@@ -97,8 +97,7 @@ def swatch(course: int) -> str:
 def _named_day(course: Course, milestone: Milestone) -> str:
     """As the summary has it: in doubt where the end is too near, and of several runs with how many are there."""
     day = course.date(milestone.day) or f"day {milestone.day}"
-    runs = f" in {milestone.runs} of {len(course.each)} runs" if course.each else ""
-    return f"{day}{'?' if milestone.is_near else ''}{runs}"
+    return f"{day}{'?' if milestone.is_near else ''} {in_runs(course, milestone.runs)}".rstrip()
 
 
 def _across(scale: Scale, streets: int, clear: float) -> Iterator[str]:

@@ -91,7 +91,7 @@ class Page(unittest.TestCase):
             self.assertEqual(list(drawn), kinds + ["smooth c0 l0"] * jumps)
             numbers = map(float, re.findall(r"[\d.]+", " ".join(drawn.values())))
             self.assertTrue(all(0 <= number <= 480 for number in numbers))
-        self.assertRegex(figures(text)["day", "memorized"], r"80 streets<.*>day 10\? in 5 of 5 runs<")
+        self.assertRegex(figures(text)["day", "memorized"], r"80 streets<.*>day 10\? in all 5 runs<")
 
     def test_weeks(self) -> None:
         """A week's sums, what stands at its end, and no number for the two days that are left."""
@@ -159,7 +159,7 @@ class Page(unittest.TestCase):
         runs = [{name: (0.0,) * day + (10.0,) * (100 - day) for name in COLUMNS} for day in [*range(1, 10), 75]]
         text = page([of_columns("round", runs)], 10)
         marks = re.findall(r">(day [^<]*)</text>", figures(text)["day", "memorized"])
-        self.assertEqual(marks, ["day 5 in 5 of 10 runs", "day 9 in 9 of 10 runs", "day 75? in 10 of 10 runs"])
+        self.assertEqual(marks, ["day 5 in 5 of 10 runs", "day 9 in 9 of 10 runs", "day 75? in all 10 runs"])
         self.assertIn("in 5 of 10 runs from day 5, seen for 95 days, in 9 of 10 runs from day 9, seen for 91 days; "
                       "too near the span&#x27;s end to tell (run a longer one): in all 10 runs from day 75, seen for "
                       "25 days<", text)
