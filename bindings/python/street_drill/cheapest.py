@@ -83,8 +83,8 @@ def _advice(trials: Sequence[Trial], present: Trial, streets: Streets) -> str:
 
 def _difference(best: Trial, other: Trial) -> str:
     more, error = _more(best, other)
-    doubt = "" if math.isnan(error) else f", give or take {give_or_take(error):.2f}"
-    return f"{more:.2f} seconds a street more{doubt}"
+    off = "" if math.isnan(error) else f", give or take {give_or_take(error):.2f}"
+    return f"{more:.2f} seconds a street more{off}"
 
 
 def _as_cheap(trials: Sequence[Trial], best: Trial) -> list[str]:
