@@ -75,7 +75,7 @@ def _stays_told(course: Course, streets: int) -> str:
             for each in there]
     sure = [text for text, each in zip(told, there) if not each.is_near]
     near = [text for text, each in zip(told, there) if each.is_near]
-    doubt = f"too near the span's end to tell (run a longer one): {', '.join(near)}" if near else ""
+    doubt = f"too near the span's end to tell (run a longer span): {', '.join(near)}" if near else ""
     return "; ".join(filter(None, [", ".join(sure), doubt, _never(course, there)]))
 
 

@@ -96,7 +96,7 @@ class Command(unittest.TestCase):
         held = [day.memorized for day in self.forecast(7).rows]
         self.assertTrue(held[13] < 115 <= held[14] and held[26] < 115 <= min(held[27:]))
         self.assertEqual(self.told("115 streets held to the end", "--open", 115),
-                         "too near the span's end to tell (run a longer one): from day 27, seen for 3 days")
+                         "too near the span's end to tell (run a longer span): from day 27, seen for 3 days")
         self.assertEqual(self.told("115 streets first held", "--open", 115), "on day 14")
         self.assertEqual(self.told("121 streets held to the end", "--open", 121), "on no day")
 
@@ -104,7 +104,7 @@ class Command(unittest.TestCase):
         """What was seen to hold for 28 days is told plainly, and what was not is none of it."""
         first = next(day for day, row in enumerate(self.forecast(7).rows) if row.memorized >= 100)
         for span, told in {first + 28: "from day {}, seen for 28 days",
-                           first + 27: "too near the span's end to tell (run a longer one): from day {}, "
+                           first + 27: "too near the span's end to tell (run a longer span): from day {}, "
                                        "seen for 27 days"}.items():
             said = self.told("100 streets held to the end", "--open", 100, "--set", f"learn_span={span}")
             self.assertEqual(said, told.format(first))
@@ -121,7 +121,7 @@ class Command(unittest.TestCase):
         stay = [day for day in stay if day < 30]
         self.assertEqual(stay, [14, 14, 14, 14, 14, 14, 14, 14, 23, 24])
         told = self.told("114 streets held to the end", "--open", 114, "--runs", 10)
-        self.assertEqual(told, "too near the span's end to tell (run a longer one): "
+        self.assertEqual(told, "too near the span's end to tell (run a longer span): "
                                "in 8 of 10 runs from day 14, seen for 16 days, in 9 of 10 runs from day 23, "
                                "seen for 7 days, in all 10 runs from day 24, seen for 6 days")
         touch = sorted(next(day for day, streets in enumerate(held) if streets >= 108) for held in helds)
@@ -139,7 +139,7 @@ class Command(unittest.TestCase):
         """Half of the runs stay for 31 days, the others for less: those alone are in doubt."""
         told = self.told("114 streets held to the end", "--open", 114, "--runs", 20, "--set", "learn_span=120")
         self.assertRegex(told, r"^in 10 of 20 runs from day 89, seen for 31 days; too near the span's end to tell "
-                               r"\(run a longer one\): in 18 of 20 runs from day 96, ")
+                               r"\(run a longer span\): in 18 of 20 runs from day 96, ")
 
     def test_one_run(self) -> None:
         """It says that it is one."""

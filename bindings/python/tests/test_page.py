@@ -161,7 +161,7 @@ class Page(unittest.TestCase):
         marks = re.findall(r">(day [^<]*)</text>", figures(text)["day", "memorized"])
         self.assertEqual(marks, ["day 5 in 5 of 10 runs", "day 9 in 9 of 10 runs", "day 75? in all 10 runs"])
         self.assertIn("in 5 of 10 runs from day 5, seen for 95 days, in 9 of 10 runs from day 9, seen for 91 days; "
-                      "too near the span&#x27;s end to tell (run a longer one): in all 10 runs from day 75, seen for "
+                      "too near the span&#x27;s end to tell (run a longer span): in all 10 runs from day 75, seen for "
                       "25 days<", text)
         self.assertIn("A day with ? is too near the span's end", text)
 
