@@ -122,7 +122,8 @@ class Command(unittest.TestCase):
 
     def test_within(self) -> None:
         said = run("cheapest", NINE, "--set", "learn_span=365", "--retention", "0.85")[1]
-        self.assertRegex(said, r"\n  retention 0.7283 costs least\n  as cheap, as far as these runs tell: 0.7139, 0.7211\n"
+        self.assertRegex(said, r"\n  retention 0.7283 costs least\n"
+                               r"  as cheap, as far as these runs tell: 0.7139, 0.7211\n"
                                r"  the present 0.85 costs [\d.]+ seconds")
 
     def test_no_seed(self) -> None:
