@@ -13,6 +13,7 @@ from .test_command import EXAMPLE, run
 from .test_model import KNOWN
 
 SPAN = 30
+LIMITED = SimulatorConfig(deck_size=120, learn_span=SPAN, learn_limit=8, review_limit=6)
 
 
 class Overdue(unittest.TestCase):
@@ -22,8 +23,7 @@ class Overdue(unittest.TestCase):
         free = simulate(SimulatorConfig(deck_size=120, learn_span=SPAN, learn_limit=8), PARAMETERS, seed=7)
         self.assertEqual(overdue(free.cards, [], SPAN), 0)
         self.assertGreater(sum(card.due == SPAN for card in free.cards), 0)
-        limited = simulate(SimulatorConfig(deck_size=120, learn_span=SPAN, learn_limit=8, review_limit=6), PARAMETERS,
-                           seed=7)
+        limited = simulate(LIMITED, PARAMETERS, seed=7)
         asked = sum(card.last_date + card.interval < SPAN for card in limited.cards)
         self.assertEqual((overdue(limited.cards, [], SPAN), limited.rows[-1].reviewed), (asked, 6))
         self.assertGreater(asked, 20)
@@ -41,6 +41,16 @@ class Overdue(unittest.TestCase):
         kept = [replace(KNOWN, due=3.0, lapses=5)]
         left = simulate(SimulatorConfig(deck_size=1, learn_span=SPAN, suspend_after_lapses=5), PARAMETERS, kept).cards
         self.assertEqual((left[0].due, overdue(left, kept, SPAN)), (3, 0))
+
+    def test_due_is_no_backlog(self) -> None:
+        """As README has it: what was reviewed, though 33 streets wait, and what was retired."""
+        retiring = replace(LIMITED, suspend_after_lapses=1)
+        for config in [LIMITED, retiring]:
+            made = simulate(config, PARAMETERS, seed=7)
+            retired = sum(card.lapses == 1 and card.due < SPAN for card in made.cards) if config is retiring else 0
+            self.assertEqual(sum(made.due[:SPAN]), sum(day.reviewed for day in made.rows) + retired)
+            self.assertGreater(overdue(made.cards, [], SPAN), 0)
+        self.assertGreater(retired, 0)
 
     def test_told(self) -> None:
         limited = ["--set", "review_limit=6"]
