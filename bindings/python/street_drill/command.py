@@ -8,15 +8,17 @@ import math
 import os
 import sys
 from collections.abc import Callable, Iterable, Sequence
+from datetime import date
 from functools import partial
 from pathlib import Path
 
-from . import cheapest, cluster, course, curve, deck, depots, facts, files, listing, next_deck, options, periods
-from . import places, region, runs, settings, streets, text
+from . import cheapest, cluster, course, curve, deck, depots, facts, files, head, listing, next_deck, options
+from . import periods, places, region, runs, settings, streets, text
 from .course import Course
 from .deck import Deck
 from .errors import Mistake, Refusal, each_of, gathered
 from .library import LibraryMissing
+from .origin import origin
 from .page import page
 from .progress import progress
 from .search import Trial, optimal_retention, trial
@@ -141,7 +143,8 @@ def _cheapest(asked: argparse.Namespace) -> None:
     texts: dict[str, str] = {}
     if asked.page:
         drawn = [each for each in trials if math.isfinite(each.mean)]
-        texts[asked.page] = curve.page(given.name, drawn, present, advice)
+        made_from = head.of_search(origin(given, known), date.today())
+        texts[asked.page] = curve.page(given.name, drawn, present, advice, made_from)
     told = "".join(f"  {line}\n" for line in advice)
     _write(texts, [*given.sources, *([asked.deck] if asked.deck else [])],
            f"{given.name}\n{_streets(given, known)}{cheapest.curve(trials, present)}{told}")

@@ -66,7 +66,6 @@ def _made() -> _Parser:
     made = _Parser(add_help=False)
     made.add_argument("--set", action="append", default=[], metavar="KEY=VALUE",
                       help="a setting, in place of the file's")
-    made.add_argument("--seed", type=int, metavar="SEED", help="as --set seed=SEED")
     made.add_argument("--retention", metavar="RETENTION",
                       help="of new streets, as --set desired_retention=RETENTION")
     made.add_argument("--workers", type=_positive, default=os.cpu_count(), help="runs at once (default: all cores)")
@@ -85,6 +84,8 @@ def _opened() -> _Parser:
 
 
 def _add_runs(parser: _Parser) -> None:
+    # The search has seeds of its own.
+    parser.add_argument("--seed", type=int, metavar="SEED", help="as --set seed=SEED")
     parser.add_argument("--runs", type=_runs, default=1,
                         help=f"seeds to forecast, from the given one on; at most {MOST_RUNS}")
 
@@ -140,7 +141,7 @@ def _retention(text: str) -> str:
 def sources(options: argparse.Namespace) -> list[Source]:
     """Each sets a key; two that set the same are a mistake."""
     told = [(f"--set {text[:80]!r}", text) for text in options.set]
-    if options.seed is not None:
+    if getattr(options, "seed", None) is not None:
         told.append(("--seed", f"seed = {options.seed}"))
     if options.retention is not None:
         told.append(("--retention", f"desired_retention = {_retention(options.retention)}"))

@@ -1,9 +1,10 @@
 """The search for the retention, from 0.70 to 0.95, at which a drill costs least for each street held at its end."""
 
 import math
+import statistics
 import time
-from collections.abc import Callable, Iterable
-from dataclasses import dataclass
+from collections.abc import Callable, Iterable, Sequence
+from dataclasses import dataclass, field
 from typing import Any
 
 from . import given, library, rules
@@ -32,7 +33,8 @@ class Optimum:
 class Trial:
     """A retention that was tried: its number from 1, the mean of its runs, and the seconds that they took.
 
-    `held` is how many streets the runs hold on their last day, on the mean.
+    `held` is how many streets the runs hold on their last day, on the mean; `costs` are what each run costs for each
+    street held, in the order of their seeds, which all trials have alike.
     """
 
     number: int
@@ -40,6 +42,19 @@ class Trial:
     mean: float
     seconds: float
     held: float
+    costs: tuple[float, ...] = field(default=(), repr=False)
+
+    @property
+    def error(self) -> float:
+        """The standard error of the mean."""
+        return standard_error(self.costs)
+
+
+def standard_error(values: Sequence[float]) -> float:
+    """By how much the mean of such values is off, as their spread tells; no number where they tell none."""
+    if len(values) < 2 or not all(map(math.isfinite, values)):
+        return math.nan
+    return statistics.stdev(values) / math.sqrt(len(values))
 
 
 def _tried(runner: Runner, number: int, retention: float, mapped: Callable[..., Any]) -> Trial:
@@ -47,9 +62,9 @@ def _tried(runner: Runner, number: int, retention: float, mapped: Callable[..., 
     seeds = range(FIRST_SEED, FIRST_SEED + library.sample_size(runner.inputs.learn_span))
     # They come, and the first refusal, in the order of the seeds, as one thread would.
     outcomes = list(mapped(lambda seed: runner.outcome(retention, seed), seeds))
-    mean = library.mean([target for target, _ in outcomes])
+    costs = tuple(target for target, _ in outcomes)
     held = sum(streets for _, streets in outcomes) / len(outcomes)
-    return Trial(number, retention, mean, time.monotonic() - begun, held)
+    return Trial(number, retention, library.mean(list(costs)), time.monotonic() - begun, held, costs)
 
 
 def trial(config: SimulatorConfig, parameters: Iterable[float], cards: Cards = (), *, retention: float,

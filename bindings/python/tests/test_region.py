@@ -1,6 +1,7 @@
 """A region of depots."""
 
 import csv
+import html
 import importlib.util
 import io
 import math
@@ -113,10 +114,12 @@ class Region(unittest.TestCase):
             alone = dict(line.strip().split(": ", 1) for line in
                          run("forecast", path, *deck, "--open", 100)[1].splitlines()[1:])
             line = next(line for line in said.splitlines() if line.startswith(f"depot {number} "))
-            labels = ["span", "100 streets held", "held on the last day", "in all", "busiest day", "streets"]
-            told = [alone[label] for label in labels if label in alone]
-            self.assertEqual(re.split("  +", line), [f"depot {number}", *told])
-            self.assertIn(f"<td>{alone['100 streets held']}</td>", (self.out / "a.html").read_text())
+            labels = ("span", "100 streets held to the end", "100 streets first held", "held on the last day", "in all",
+                      "busiest day", "overdue at the end", "streets")
+            self.assertEqual(re.split("  +", line), [f"depot {number}", *(alone[label] for label in labels
+                                                                         if label in alone)])
+            told = html.escape(alone["100 streets held to the end"])
+            self.assertIn(f"<td>{told}</td>", (self.out / "a.html").read_text())
 
     def test_notes_of_decks(self) -> None:
         """As `forecast` tells them; from processes too."""
@@ -130,7 +133,7 @@ class Region(unittest.TestCase):
 
     def test_runs(self) -> None:
         """A depot's numbers are those of its runs, and the region's those of the sums of each run."""
-        self.assertEqual(self.region("a", "--runs", 5, "--open", 114)[0], 0)
+        self.assertEqual(self.region("a", "--runs", 5, "--open", 100)[0], 0)
         with (self.out / "a.csv").open(newline="") as file:
             row = list(csv.DictReader(file))[2]
         given = settings.read(str(self.depots / "depot 2.toml"))
@@ -140,11 +143,12 @@ class Region(unittest.TestCase):
         seconds = sorted(sum(day.cost for day in days) for days in made)
         self.assertAlmostEqual(float(row["seconds"]), sum(seconds) / 5, places=2)
         self.assertAlmostEqual(float(row["seconds_p10"]), 0.6 * seconds[0] + 0.4 * seconds[1], places=2)
-        stays = sorted(1 + max(number for number, day in enumerate(days) if day.memorized < 114) for days in made)
-        self.assertEqual([row["opens_half"], row["opens_most"], row["opens_all"]],
-                         [str(stays[2]), str(stays[4]), str(stays[4])])
-        self.assertLess(stays[2], stays[4])
-        self.region("b", "--runs", 5, "--workers", 1, "--open", 114)
+        stays = sorted(1 + max(day for day, row in enumerate(days) if row.memorized < 100) for days in made)
+        touches = sorted(next(day for day, row in enumerate(days) if row.memorized >= 100) for days in made)
+        for name, days in [("opens", stays), ("first_held", touches)]:
+            self.assertEqual([row[f"{name}_{share}"] for share in ("half", "most", "all")],
+                             [str(days[place]) for place in (2, 4, 4)])
+        self.region("b", "--runs", 5, "--workers", 1, "--open", 100)
         self.assertEqual((self.out / "a.csv").read_bytes(), (self.out / "b.csv").read_bytes())
 
     def test_luck_of_several_runs(self) -> None:
