@@ -13,16 +13,21 @@ def _status() -> int:
     signal.signal(signal.SIGINT, signal.SIG_DFL)
     from .command import main
 
+    if sys.stdout is None:
+        print("street_drill: standard output: is closed", file=sys.stderr)
+        return 1
     if isinstance(sys.stdout, io.TextIOWrapper):
         # A file's name may hold bytes that are no text.
         sys.stdout.reconfigure(errors="backslashreplace")
     try:
-        status = main()
-        print(end="", flush=True)
+        try:
+            status = main()
+        finally:
+            # --help leaves main by an exit of its own.
+            print(end="", flush=True)
     except OSError as error:
         # Of all files only standard output is written here. What Python would flush at its end goes nowhere.
-        if not isinstance(error, BrokenPipeError):
-            print(f"street_drill: standard output: {error.strerror}", file=sys.stderr)
+        print(f"street_drill: standard output: {error.strerror}", file=sys.stderr)
         os.dup2(os.open(os.devnull, os.O_WRONLY), sys.stdout.fileno())
         status = 1
     return status

@@ -10,6 +10,7 @@ from collections.abc import Callable, Sequence
 from datetime import date
 from functools import partial
 
+from .causes import cause
 from .decimals import rounded
 from .model import CARD_COUNTS, CARD_FLOATS
 
@@ -19,24 +20,25 @@ STATE = ("difficulty", "stability", "last_date", "due", "interval")
 
 Reader = Callable[[str], float]
 
-_DATE = re.compile(r"\d{4}-\d\d-\d\d", re.ASCII)
+# Spreadsheets write a date with its midnight, too.
+_DATE = re.compile(r"(\d{4}-\d\d-\d\d)([ T]00:00(:00)?)?", re.ASCII)
 _COUNT = re.compile(r"(\d+)([.,]0*)?", re.ASCII)
-# Why a cell is no number, as far as it can be seen.
-_CAUSES = {
-    r".*%": "is a percentage: 90% is written 0.9",
-    r"\d{4}-\d\d-\d\d": "is a date",
-    r"\d+([./-])\d+\1\d+": "is a date, perhaps: dates are written as 2026-11-23",
-    r"[+-]?\d+,\d+": "has a decimal comma: write a point, or have semicolons or tabs between the cells",
-    r"[+-]?\d{1,3}([.,'\s])\d{3}(\1\d{3})*([.,]\d+)?": "has marks between its thousands: write the digits alone",
-}
 
 
 def _number(text: str) -> float:
     try:
         return rounded(text)
     except ValueError as error:
-        cause = next((told for pattern, told in _CAUSES.items() if re.fullmatch(pattern, text)), str(error))
-        raise ValueError(cause) from error
+        raise ValueError(cause(text) or str(error)) from error
+
+
+def _point_number(text: str) -> float:
+    """Where commas stand between the cells a comma is no decimal one."""
+    try:
+        return _number(text)
+    except ValueError as error:
+        more = ", or have semicolons or tabs between the cells" if str(error).endswith("write a point") else ""
+        raise ValueError(f"{error}{more}") from error
 
 
 def _comma_number(text: str) -> float:
@@ -46,12 +48,13 @@ def _comma_number(text: str) -> float:
 
 def _day(text: str, number: Reader, first_day: date | None) -> float:
     """Days count from the forecast's first."""
-    if not _DATE.fullmatch(text):
+    found = _DATE.fullmatch(text)
+    if not found:
         return number(text)
     if first_day is None:
         raise ValueError("is a date, and the settings have no first_day")
     try:
-        return float((date.fromisoformat(text) - first_day).days)
+        return float((date.fromisoformat(found[1]) - first_day).days)
     except ValueError:
         raise ValueError("is no date of the calendar") from None
 
@@ -69,8 +72,8 @@ def _count(text: str) -> int:
 
 
 def readers(delimiter: str, first_day: date | None) -> dict[str, Reader]:
-    """A wrong cell raises ValueError. Where commas stand between the cells a comma is no decimal one."""
-    number = _number if delimiter == "," else _comma_number
+    """A wrong cell raises ValueError."""
+    number = _point_number if delimiter == "," else _comma_number
     day = partial(_day, number=number, first_day=first_day)
     return {**dict.fromkeys(CARD_FLOATS, number), **dict.fromkeys(DAYS, day), **dict.fromkeys(CARD_COUNTS, _count)}
 

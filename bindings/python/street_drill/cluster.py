@@ -3,15 +3,17 @@
 import contextlib
 import ctypes
 import logging
+import multiprocessing
 import re
 import signal
+import threading
 from collections.abc import Callable, Iterator
-from concurrent.futures import BrokenExecutor, ProcessPoolExecutor
+from concurrent.futures import BrokenExecutor, Future, ProcessPoolExecutor
 from typing import Any
 
 from .errors import Mistake
 from .library import LibraryMissing
-from .threads import starting
+from .threads import NoWorker
 
 # Of Linux's sys/prctl.h.
 _PR_SET_PDEATHSIG = 1
@@ -44,9 +46,39 @@ def _processes(workers: int) -> Iterator[Callable[..., Any]]:
         return
     try:
         with ProcessPoolExecutor(workers, initializer=_end_with_parent) as processes:
-            yield starting(processes.map)
+            _start(processes)
+            yield processes.map
     except BrokenExecutor as error:
         raise Mistake("--workers", "a worker ended before its forecast") from error
+
+
+def _start(processes: ProcessPoolExecutor) -> None:
+    """Makes a first call, since the processes and threads of the pool start with it, and some of them may not.
+
+    Those that did would wait for ever then, and this process for them, so they are ended.
+    """
+    others = multiprocessing.active_children()
+    started: Future[None] = Future()
+    try:
+        with _told_threads(started):
+            processes.submit(int).add_done_callback(lambda call: started.set_result(None))
+            started.result()
+    except (RuntimeError, OSError) as error:
+        for process in multiprocessing.active_children():
+            if process not in others:
+                process.kill()
+        processes.shutdown(wait=False)
+        raise NoWorker(str(error)) from error
+
+
+@contextlib.contextmanager
+def _told_threads(started: "Future[None]") -> Iterator[None]:
+    """The pool's own thread starts another, and where it cannot would end by a traceback alone."""
+    before, threading.excepthook = threading.excepthook, lambda told: started.set_exception(told.exc_value)
+    try:
+        yield
+    finally:
+        threading.excepthook = before
 
 
 def _end_with_parent() -> None:

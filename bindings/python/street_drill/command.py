@@ -8,15 +8,17 @@ import math
 import os
 import sys
 from collections.abc import Callable, Iterable, Sequence
+from datetime import date
 from functools import partial
 from pathlib import Path
 
-from . import cheapest, cluster, course, curve, deck, depots, facts, files, listing, next_deck, options, periods
-from . import places, region, runs, settings, streets, text
+from . import cheapest, cluster, course, curve, deck, depots, facts, files, head, listing, next_deck, options
+from . import periods, places, region, runs, settings, streets, text
 from .course import Course
 from .deck import Deck
 from .errors import Mistake, Refusal, each_of, gathered
 from .library import LibraryMissing
+from .origin import origin
 from .page import page
 from .progress import progress
 from .search import Trial, optimal_retention, trial
@@ -45,6 +47,12 @@ def _write(texts: dict[str, str], sources: Iterable[str], summary: str) -> None:
         print(summary, end="", file=sys.stderr)
 
 
+def _warn(warnings: Iterable[str]) -> None:
+    """What is not refused and likely not meant; each once, of several settings files too."""
+    for warning in dict.fromkeys(warnings):
+        print(f"street_drill: note: {warning}", file=sys.stderr)
+
+
 def _named(path: str, given: Settings, asked: Sequence[Settings]) -> str:
     """One settings file's output has the name itself, those of several lie in the folder of that name."""
     if len(asked) == 1:
@@ -62,9 +70,9 @@ def _deck(path: str | None, given: Settings) -> Deck:
     return streets.prepared(given, known)
 
 
-def _drill(asked: argparse.Namespace, given: Settings, done: Callable[[], None]) -> tuple[Course, dict[str, str]]:
+def _drill(asked: argparse.Namespace, given: Settings, known: Deck,
+           done: Callable[[], None]) -> tuple[Course, dict[str, str]]:
     """The course of one settings file, and the texts of its own files by their options."""
-    known = _deck(asked.deck, given)
     drawn, cards = runs.drilled(given, known, asked.runs, asked.workers, done)
     texts = {}
     if asked.rows:
@@ -82,14 +90,18 @@ def _forecast(asked: argparse.Namespace) -> None:
               if getattr(asked, option)} for each in given]
     courses: list[Course] = []
     texts: dict[str, str] = {}
+    warnings: list[str] = []
     with progress("forecast", asked.runs * len(given), asked.quiet) as told:
         for each, paths in zip(given, named):
-            drawn, own = _drill(asked, each, told.done)
+            known = _deck(asked.deck, each)
+            warnings += streets.warnings(each, known)
+            drawn, own = _drill(asked, each, known, told.done)
             courses.append(drawn)
             for option, written in own.items():
                 _add(texts, paths[option], written)
         if asked.page:
             _add(texts, asked.page, page(courses, asked.open))
+    _warn(warnings)
     # The deck may be followed by its next one under the same name.
     sources = [path for each in given for path in each.sources]
     sources += [asked.deck] if asked.deck and asked.deck != asked.cards else []
@@ -117,19 +129,25 @@ def _search(asked: argparse.Namespace, given: Settings, known: Deck) -> tuple[li
             raise places.placed(given, known, refusal) from refusal
 
 
+def _streets(given: Settings, known: Deck) -> str:
+    return f"  streets: {streets.told(given, known)}\n" if known.path else ""
+
+
 def _cheapest(asked: argparse.Namespace) -> None:
     given = settings.read(asked.settings, options.sources(asked))
     known = _deck(asked.deck, given)
+    _warn(streets.warnings(given, known))
     tried, present = _search(asked, given, known)
     trials = cheapest.in_order(given.path, tried, present)
     advice = cheapest.advice(trials, present, streets.counts(given, known))
     texts: dict[str, str] = {}
     if asked.page:
         drawn = [each for each in trials if math.isfinite(each.mean)]
-        texts[asked.page] = curve.page(given.name, drawn, present, advice)
+        made_from = head.of_search(origin(given, known), date.today())
+        texts[asked.page] = curve.page(given.name, drawn, present, advice, made_from)
     told = "".join(f"  {line}\n" for line in advice)
     _write(texts, [*given.sources, *([asked.deck] if asked.deck else [])],
-           f"{given.name}\n{cheapest.curve(trials, present)}{told}")
+           f"{given.name}\n{_streets(given, known)}{cheapest.curve(trials, present)}{told}")
 
 
 def _page(asked: argparse.Namespace) -> None:
@@ -140,16 +158,25 @@ def _page(asked: argparse.Namespace) -> None:
     _write({path: drawn}, asked.listings, "".join(facts.summary(each, asked.open) for each in courses))
 
 
+def _new_file(option: str, path: str) -> str:
+    """Where no name is asked for; a planner's file of that name is not written over."""
+    if os.path.lexists(path):
+        raise Mistake(path, f"is there already; {option} {path} writes over it")
+    return path
+
+
 def _region(asked: argparse.Namespace) -> None:
     listed = region.read(asked.folder, options.sources(asked))
-    for note in region.notes(asked.folder, listed, [asked.summary, asked.page]):
-        print(f"street_drill: note: {note}", file=sys.stderr)
+    summary = asked.summary or _new_file("--summary", "region.csv")
+    page_path = asked.page or _new_file("--page", "region.html")
+    _warn(region.notes(asked.folder, listed, [summary, page_path]))
     with (progress("region", len(listed), asked.quiet) as told,
           cluster.mapping(asked.scheduler, min(asked.workers, len(listed))) as mapped):
-        courses = region.courses(asked.folder, listed, asked.runs, mapped, told.done)
+        courses, warnings = region.courses(asked.folder, listed, asked.runs, mapped, told.done)
         whole = region.total(courses)
-        texts = {asked.summary: course.as_csv(depots.table(courses, asked.open))}
-        _add(texts, asked.page, page([whole], tables=[depots.page_table(courses, asked.open)]))
+        texts = {summary: course.as_csv(depots.table(courses, asked.open))}
+        _add(texts, page_path, page([whole], tables=[depots.page_table(courses, asked.open)]))
+    _warn([*warnings, *(region.alike(asked.folder, listed) if asked.runs == 1 else [])])
     _write(texts, region.sources(listed), facts.summary(whole, None) + depots.lines(courses, asked.open))
 
 
@@ -186,6 +213,7 @@ def main(arguments: Sequence[str] | None = None) -> int:
         told = ["there is not enough memory"]
     else:
         return 0
-    for each in told:
+    # What an option sets wrongly is wrong for each settings file, and told once.
+    for each in dict.fromkeys(map(str, told)):
         print(f"street_drill: {each}", file=sys.stderr)
     return 2

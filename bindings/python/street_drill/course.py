@@ -2,10 +2,9 @@
 
   Course      columns by name, with bands where there were several runs
   of_runs     from forecasts; of_columns: from the columns of each run
-  line        what is drawn of a column
   opening     the day from which so many streets stay held; touch: the first that holds so many
   days_table  a row a day; as_csv: a table as CSV
-  duration    seconds as a planner says them
+  duration    seconds as a planner says them; days_told: days
 """
 
 import ctypes
@@ -118,11 +117,6 @@ def of_runs(name: str, forecasts: Sequence[Forecast]) -> Course:
     return of_columns(name, list(map(columns_of, forecasts)))
 
 
-def line(course: Course, column: str) -> Sequence[float]:
-    """Of several runs the mean: a day of one of them is luck. Empty where a listing tells nothing of the column."""
-    return course.bands[column].mean if column in course.bands else course.columns.get(column, ())
-
-
 def touch(held: Sequence[float], streets: int) -> int | None:
     """The first day on which so many streets are held; they may be fewer again later."""
     return next((day for day, number in enumerate(held) if number >= streets), None)
@@ -185,3 +179,8 @@ def duration(seconds: float) -> str:
         return f"{seconds:.0f} s"
     minutes = round(seconds / 60)
     return f"{minutes // 60:,} h {minutes % 60:02} min" if minutes >= 60 else f"{minutes} min"
+
+
+def days_told(number: int) -> str:
+    """So many days."""
+    return "1 day" if number == 1 else f"{number:,} days"

@@ -7,8 +7,8 @@ from collections.abc import Callable, Iterator, Sequence
 from html import escape
 
 from .axes import LEFT, RIGHT, Scale, axis, below, grid
-from .cheapest import short
-from .page import document
+from .cheapest import doubt, short
+from .page import document, pairs
 from .picture import frame
 from .search import Trial
 
@@ -50,24 +50,28 @@ def _figure(title: str, trials: Sequence[Trial], of: Callable[[Trial], float], p
 
 
 def _table(trials: Sequence[Trial]) -> str:
-    cells = [(short(trial.retention), f"{trial.mean:,.2f}", f"{trial.held:,.1f}") for trial in trials]
+    cells = [(short(trial.retention), f"{trial.mean:,.2f}", doubt(trial), f"{trial.held:,.1f}") for trial in trials]
     rows = "".join("<tr>" + "".join(f"<td>{cell}</td>" for cell in row) + "</tr>" for row in cells)
     return ('<details class="rows" open><summary>Retentions that were tried</summary><div class="scroll"><table>'
-            "<thead><tr><th>retention</th><th>seconds for each street held</th><th>streets held</th></tr></thead>"
+            "<thead><tr><th>retention</th><th>seconds for each street held</th><th>give or take</th>"
+            "<th>streets held</th></tr></thead>"
             f"<tbody>{rows}</tbody></table></div></details>")
 
 
-def page(name: str, tried: Sequence[Trial], present: Trial | None = None, told: Sequence[str] = ()) -> str:
-    """The page of trials, whose means must be finite; `present` is the setting's own retention, and `told` what the
-    search says of them, in lines."""
+def page(name: str, tried: Sequence[Trial], present: Trial | None = None, told: Sequence[str] = (),
+         made_from: Sequence[tuple[str, str]] = ()) -> str:
+    """The page of trials, whose means must be finite; `present` is the setting's own retention, `told` what the search
+    says of them, in lines, and `made_from` what stands at the head."""
     by_retention = {trial.retention: trial for trial in [*([present] if present else []), *tried]}
     trials = [by_retention[retention] for retention in sorted(by_retention)]
     lines = "".join(f"<p>{escape(line)}</p>" for line in told)
     return document(f"{name}: cost by retention", [
+        f'<section class="made">{pairs(made_from)}</section>',
         "<main>", f'<section class="summary">{lines}</section>' if told else "",
         _figure("Seconds for each street held at the end", trials, lambda trial: trial.mean, present),
         _figure("Streets held at the end", trials, lambda trial: trial.held, present),
         "</main>",
-        "<p>Each retention's numbers are the means of the runs that the search made for it.</p>",
+        "<p>Each retention's numbers are the means of the runs that the search made for it, with the same seeds for "
+        "each. Give or take: two standard errors.</p>",
         _table(trials),
     ])

@@ -4,31 +4,30 @@
   with_retention    a deck whose streets are all reviewed at one retention
 """
 
-import ctypes
 import math
-from collections.abc import Iterator, Mapping, Sequence
+from collections.abc import Iterator, Sequence
 from dataclasses import dataclass, replace
 from datetime import date
 from operator import itemgetter
 from typing import Any
 
-from . import files, sheet
-from .cells import FIELDS, STATE, Reader, is_blank, readers
+from . import files, names, sheet
+from .cells import FIELDS, is_blank, readers
 from .errors import Mistake, raise_all
 from .model import CARD_FLOATS, Card
+from .rows import is_kept as is_kept
+from .rows import makes_sense, wrong_cells
 from .sheet import Sheet
 
-# The run keeps an existing card only where its stability is above this f32; the others' streets are new ones.
-_KEPT_ABOVE = ctypes.c_float(1e-9).value
 _NOT_DRILLED = Card(*[-math.inf] * 3, 0.0, *[-math.inf] * 2, 0, 0)
 
 
-@dataclass(frozen=True)
+@dataclass(frozen=True, repr=False)
 class Deck:
     """The cards of a file with their rows as written, and the line on which each row begins.
 
     `names` are the head's as the fields are called, `first_day` is the date of day 0; `delimiter` and `point` are how
-    the file is written.
+    the file is written; `notes` are told beside the forecast.
     """
 
     path: str
@@ -40,11 +39,15 @@ class Deck:
     first_day: date | None = None
     delimiter: str = ","
     point: str = "."
+    notes: tuple[str, ...] = ()
 
     @property
     def kept(self) -> list[Card]:
         """The streets that somebody has drilled; the run has new cards in the others' place."""
         return [card for card in self.cards if is_kept(card)]
+
+    def __repr__(self) -> str:
+        return f"<Deck of {self.path or 'no file'}: {len(self.cards):,} streets, {len(self.kept):,} of them known>"
 
 
 NO_DECK = Deck("", FIELDS, (), (), ())
@@ -55,51 +58,16 @@ def no_deck(first_day: date | None) -> Deck:
     return replace(NO_DECK, first_day=first_day)
 
 
-def is_kept(card: Card) -> bool:
-    """Whether somebody has drilled it."""
-    return card.stability > _KEPT_ABOVE
-
-
 # ---- rows
-
-
-def _wrong_cells(by_field: Mapping[str, Reader], texts: Sequence[str]) -> Iterator[tuple[str, str]]:
-    for name, text in zip(FIELDS, texts):
-        if not text:
-            yield name, f"is empty; of a street not yet drilled {', '.join(STATE)} are empty, all of them"
-            continue
-        try:
-            by_field[name](text)
-        except ValueError as error:
-            yield name, f"{text[:40]!r} {error}"
-
-
-def _makes_sense(card: Card) -> bool:
-    """Whether nothing is to be told of it; the next function tells what, this one is soon done."""
-    return 1 <= card.difficulty <= 10 and card.last_date <= 0 and 0 < card.desired_retention < 1 or not is_kept(card)
-
-
-def _odd_cells(card: Card, texts: Sequence[str]) -> Iterator[tuple[str, str]]:
-    """What the library takes of a drilled street and makes no sense; what is not finite is for the library to tell."""
-    if not is_kept(card):
-        return
-    rules = {
-        "difficulty": (1 <= card.difficulty <= 10 or card.last_date == -math.inf, "is not within 1 and 10"),
-        "last_date": (card.last_date <= 0, "is after the forecast's first day"),
-        "desired_retention": (0 < card.desired_retention < 1, "is not between 0 and 1; 90 % is written 0.9"),
-    }
-    for name, (holds, sentence) in rules.items():
-        if not holds and math.isfinite(getattr(card, name)):
-            yield name, f"{texts[FIELDS.index(name)]!r} {sentence}"
 
 
 class _Reading:
     """The rows of a table as cards, and all that is wrong with them."""
 
-    def __init__(self, table: Sheet, names: Sequence[str], first_day: date | None) -> None:
-        self._table, self._names = table, names
+    def __init__(self, table: Sheet, columns: Sequence[str], first_day: date | None) -> None:
+        self._table, self._names = table, columns
         self._readers = readers(table.delimiter, first_day)
-        self._columns = [[row[place].strip() for row in table.rows] for place in map(names.index, FIELDS)]
+        self._columns = [[row[place].strip() for row in table.rows] for place in map(columns.index, FIELDS)]
         stabilities = self._columns[FIELDS.index("stability")]
         self._blank = {row for row, text in enumerate(stabilities) if not text and is_blank(self._texts(row))}
         self._mistakes: list[tuple[int, Mistake]] = []
@@ -125,17 +93,17 @@ class _Reading:
             return list(cards)
         return [_NOT_DRILLED if row in self._blank else next(cards) for row in range(len(self._table.rows))]
 
-    def _check_twice(self) -> None:
-        """A street is the same where all is that the deck carries through for it, its name among that."""
-        name = next((name for name in self._names if name.startswith("street")), None)
-        carried = [place for place, name in enumerate(self._names) if name not in FIELDS]
-        first: dict[tuple[str, ...], int] = {}
-        for number, row in enumerate(self._table.rows) if name else ():
-            street = tuple(row[place].strip().casefold() for place in carried)
-            other = first.setdefault(street, number) if any(street) else number
-            if other != number:
-                written = row[self._names.index(name)][:40]
-                self._tell(number, name, f"{written!r} stands on line {self._table.lines[other]} already")
+    def _check_twice(self) -> tuple[str, ...]:
+        """What is to be told of the names where it is no mistake."""
+        place = names.column(self._table, self._names)
+        groups = [] if place is None else names.again(self._table, place)
+        if place is None or not groups:
+            return ()
+        twice = list(names.twice(self._table, self._names, place, groups))
+        for number, other in twice:
+            written = self._table.rows[number][place][:40]
+            self._tell(number, self._names[place], f"{written!r} stands on line {self._table.lines[other]} already")
+        return () if twice else (names.note(self._table, self._names, place, groups),)
 
     def _check_points(self) -> str:
         """A file with decimal commas has no points: they might stand between thousands there."""
@@ -153,30 +121,21 @@ class _Reading:
             self._mistakes.append((line, Mistake(f"{self._table.path}: line {line}", sentence)))
         return "." if "." in seen or self._table.delimiter == "\t" and not seen else ","
 
-    def _check_row(self, row: int) -> None:
-        """Its cells one by one, and where each can be read the street that they make."""
-        texts = self._texts(row)
-        wrong = list(_wrong_cells(self._readers, texts))
-        if not wrong:
-            values: Iterator[Any] = (self._readers[name](text) for name, text in zip(FIELDS, texts))
-            wrong = list(_odd_cells(Card(*values), texts))
-        for name, sentence in wrong:
-            self._tell(row, name, sentence)
-
-    def cards(self) -> tuple[tuple[Card, ...], str]:
-        """The cards, and the mark before a number's fraction."""
+    def cards(self) -> tuple[tuple[Card, ...], str, tuple[str, ...]]:
+        """The cards, the mark before a number's fraction, and notes."""
         cards: list[Card] = []
         try:
             cards = self._cards()
-            odd = [row for row, card in enumerate(cards) if not _makes_sense(card)]
+            odd = [row for row, card in enumerate(cards) if not makes_sense(card)]
         except ValueError:
             odd = [row for row in range(len(self._table.rows)) if row not in self._blank]
         for row in odd:
-            self._check_row(row)
-        self._check_twice()
+            for name, sentence in wrong_cells(self._readers, self._texts(row)):
+                self._tell(row, name, sentence)
+        notes = self._check_twice()
         point = self._check_points()
         raise_all(self._table.path, [mistake for _, mistake in sorted(self._mistakes, key=itemgetter(0))])
-        return tuple(cards), point
+        return tuple(cards), point, notes
 
 
 # ---- the whole
@@ -195,10 +154,10 @@ def _check_head(table: Sheet, names: Sequence[str]) -> None:
 def of_text(path: str, text: str, first_day: date | None = None) -> Deck:
     """A deck from a text; `path` is for the errors, `first_day` the date of day 0 where days are written as dates."""
     table = sheet.read(path, text)
-    names = table.names()
-    _check_head(table, names)
-    cards, point = _Reading(table, names, first_day).cards()
-    return Deck(path, table.head, table.rows, table.lines, cards, names, first_day, table.delimiter, point)
+    columns = table.names()
+    _check_head(table, columns)
+    cards, point, notes = _Reading(table, columns, first_day).cards()
+    return Deck(path, table.head, table.rows, table.lines, cards, columns, first_day, table.delimiter, point, notes)
 
 
 def read(path: str, first_day: date | None = None) -> Deck:

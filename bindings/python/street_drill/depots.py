@@ -6,7 +6,7 @@
 
 from collections.abc import Sequence
 
-from . import course, facts
+from . import course, facts, opens
 from .course import Course, Table
 from .region import total_of
 
@@ -27,18 +27,23 @@ def _days(depot: Course, days: dict[str, int | None]) -> dict[str, float | str]:
 
 
 def _openings(depot: Course, streets: int) -> dict[str, int | None]:
-    """From when so many streets stay held; of several runs, in half, nine of ten and all of them."""
-    if not depot.each:
-        held = depot.columns["memorized"]
-        return {"opens": course.opening(held, streets), "first_held": course.touch(held, streets)}
-    return dict(zip(("opens_half", "opens_most", "opens_all"), facts.openings(depot, streets)))
+    """From when so many streets stay held, and when they are first; of several runs, half, nine of ten and all."""
+    helds = [run["memorized"] for run in depot.runs]
+    told: dict[str, int | None] = {}
+    for name, of in [("opens", course.opening), ("first_held", course.touch)]:
+        days = [of(held, streets) for held in helds]
+        several = zip((f"{name}_half", f"{name}_most", f"{name}_all"), opens.shares(days))
+        told |= dict(several) if depot.each else {name: days[0]}
+    return told
 
 
 def _row(depot: Course, streets: int | None) -> dict[str, float | str]:
     costs = [run["cost"] for run in depot.runs]
-    busiest, worst = facts.worst(costs)
-    return {"depot": depot.name, "days": depot.span, **_cells("seconds", list(map(total_of, costs))),
-            **_days(depot, {"busiest_day": busiest}), **_cells("busiest_seconds", worst),
+    busiest, times, worst = facts.worst(costs)
+    seed = depot.origin.settings["seed"] if depot.origin else ""
+    often = {"busiest_day_runs": times} if depot.each else {}
+    return {"depot": depot.name, "days": depot.span, "seed": seed, **_cells("seconds", list(map(total_of, costs))),
+            **_days(depot, {"busiest_day": busiest}), **often, **_cells("busiest_seconds", worst),
             **_cells("introduced", [run["introduced"][-1] for run in depot.runs]),
             **_cells("memorized", [run["memorized"][-1] for run in depot.runs]),
             **(_days(depot, _openings(depot, streets)) if streets else {})}
@@ -52,7 +57,8 @@ def table(depots: Sequence[Course], streets: int | None) -> Table:
 
 def page_table(depots: Sequence[Course], streets: int | None) -> Table:
     """A row a depot, to be read."""
-    wanted = ("span", f"{streets or 0:,} streets held", "held on the last day", "in all", "busiest day")
+    opening = [label for depot in depots[:1] for label, _ in (opens.told(depot, streets) if streets else [])]
+    wanted = ("span", *opening, "held on the last day", "in all", "busiest day", "overdue at the end", "streets")
     told = [{label: value for label, value in facts.facts(depot, streets) if label in wanted} for depot in depots]
     labels = list(dict.fromkeys(label for each in told for label in each))
     rows = [[depot.name, *(each.get(label, "") for label in labels)] for depot, each in zip(depots, told)]

@@ -40,16 +40,23 @@ _SECONDS = {
 
 
 class Refusal(Exception):
-    """A call that the library turned away, with the numbers of its table of refusals."""
+    """A call that the library turned away, with the numbers of its table of refusals.
 
-    def __init__(self, number: int, second: int) -> None:
-        super().__init__(number, second)
+    `field` and `rule` are what of the call is wrong, where the numbers do not say it.
+    """
+
+    def __init__(self, number: int, second: int, field: str = "", rule: str = "") -> None:
+        super().__init__(number, second, field, rule)
         self.number = number
         self.second = second
+        self.field = field
+        self.rule = rule
 
     @property
     def sentence(self) -> str:
-        """What the numbers say."""
+        """What the numbers say, or the field."""
+        if self.field:
+            return f"{self.field} {self.rule}" if self.rule.startswith("must") else f"{self.field}: {self.rule}"
         if (self.number, self.second) == (1, 34):
             return "there are fewer than 34 parameters"
         if (self.number, self.second) == (2, 1):

@@ -10,6 +10,10 @@ from collections.abc import Iterable, Iterator, Mapping, Sequence
 from .errors import Mistake
 
 
+# What files of spreadsheets, which are archives, begin with: those of today, and of old.
+_WORKBOOKS = (b"PK\x03\x04", b"\xd0\xcf\x11\xe0")
+
+
 def _reason(error: OSError) -> str:
     return error.strerror or str(error)
 
@@ -23,6 +27,8 @@ def read(path: str) -> str:
         raise Mistake(path, _reason(error)) from error
     except ValueError as error:
         raise Mistake(repr(path), str(error)) from error
+    if data.startswith(_WORKBOOKS):
+        raise Mistake(path, "is a spreadsheet's own file, or an archive: save the sheet as CSV UTF-8")
     # Spreadsheets write "Unicode text" so.
     kind = "utf-16" if data.startswith((codecs.BOM_UTF16_LE, codecs.BOM_UTF16_BE)) else "utf-8-sig"
     try:
@@ -45,10 +51,16 @@ def csv_text(rows: Iterable[Sequence[str]], delimiter: str = ",") -> str:
 
 
 def _destination(path: str) -> str:
-    """The file that a name stands for. A rename would put a device or a folder aside, so neither is taken."""
+    """The file that a name stands for. A rename would put a device or a folder aside, and a file that is read-only:
+    none is taken."""
     real = os.path.realpath(path)
-    if os.path.exists(real) and not os.path.isfile(real):
+    if not os.path.exists(real):
+        return real
+    if not os.path.isfile(real):
         raise Mistake(path, "is no file")
+    # Its owner may have made it so; root may write to any.
+    if not (os.stat(real).st_mode & 0o222 and os.access(real, os.W_OK)):
+        raise Mistake(path, "is read-only, and is not written over")
     return real
 
 

@@ -2,7 +2,8 @@
 
   number, index, whole   one value, one that is whole, and one of so many bits
   like                   a setting
-  numbers                a list, such as the parameters
+  listed, numbers        a list, and one of numbers, such as the parameters
+  workers                how many
   cards                  cards of any kind, as floats and counts
 """
 
@@ -42,17 +43,24 @@ def whole(name: str, value: Any, bits: int) -> int:
     return given
 
 
-def _listed(name: str, value: Any) -> list[Any]:
+def listed(name: str, value: Any) -> list[Any]:
     try:
         return list(value)
     except TypeError:
         raise TypeError(f"{name} must be a list, and is {value!r}") from None
 
 
+def workers(value: Any) -> int | None:
+    """None is all cores."""
+    if value is not None and index("workers", value) < 1:
+        raise ValueError(f"workers is {value}, and must be 1 or more")
+    return None if value is None else index("workers", value)
+
+
 def like(name: str, value: Any, default: Any) -> Any:
     """A setting of the kind of its default: a list has as many entries."""
     if isinstance(default, tuple):
-        entries = _listed(name, value)
+        entries = listed(name, value)
         if len(entries) != len(default):
             raise ValueError(f"{name} has {len(entries)} entries, and must have {len(default)}")
         return tuple(like(f"{name}[{place}]", entry, default[0]) for place, entry in enumerate(entries))
@@ -75,7 +83,7 @@ def _packed(kind: str, values: Sequence[Any], check: Callable[[int, Any], object
 
 def numbers(name: str, values: Iterable[Any]) -> "array[Any]":
     """A list of numbers."""
-    return _packed("f", _listed(name, values), lambda place, value: number(f"{name}[{place}]", value))
+    return _packed("f", listed(name, values), lambda place, value: number(f"{name}[{place}]", value))
 
 
 # ---- cards
@@ -86,9 +94,12 @@ def _columns(given: Any) -> Iterator[tuple[Any, ...]]:
     columns = []
     for name in CARD_FLOATS + CARD_COUNTS:
         try:
-            columns.append(list(given[name]))
+            column = given[name]
         except KeyError:
             raise ValueError(f"the cards have no column {name}") from None
+        if not isinstance(column, Iterable):
+            raise TypeError(f"column {name} must be a list, and is {column!r}; a single card stands in a list")
+        columns.append(list(column))
         if len(columns[-1]) != len(columns[0]):
             raise ValueError(f"column {name} has {len(columns[-1])} cards, and {CARD_FLOATS[0]} has {len(columns[0])}")
     return zip(*columns)
@@ -107,7 +118,7 @@ def _row(place: int, card: Any) -> tuple[Any, ...]:
 def cards(given: Any) -> tuple["array[Any]", "array[Any]"]:
     """Of cards or mappings, or of columns by name, as a data frame has them: the floats of all, and their counts."""
     by_name = isinstance(given, Mapping) or (hasattr(given, "columns") and hasattr(given, "__getitem__"))
-    rows = list(_columns(given)) if by_name else [_row(*each) for each in enumerate(_listed("cards", given))]
+    rows = list(_columns(given)) if by_name else [_row(*each) for each in enumerate(listed("cards", given))]
     width = len(CARD_FLOATS)
 
     def float_at(place: int, value: Any) -> float:

@@ -2,6 +2,7 @@
 
   told_apart   the courses with names that differ
   common       what all courses have alike; differing: what they have not, a value a course
+  of_search    what a search was made from
 """
 
 import os
@@ -13,7 +14,7 @@ from pathlib import Path
 
 from . import __version__
 from .course import Course
-from .origin import DEFAULTS
+from .origin import DEFAULTS, Origin
 
 # ---- names
 
@@ -47,15 +48,17 @@ def told_apart(courses: Sequence[Course]) -> list[Course]:
 # ---- what is alike, and what is not
 
 
+def _own(origin: Origin) -> dict[str, str]:
+    """The deck, and of the settings those that are not the default."""
+    own = {name: text for name, text in origin.settings.items() if name != "seed" and text != DEFAULTS.get(name)}
+    return {"deck": origin.deck, **own}
+
+
 def _made_from(course: Course) -> dict[str, str]:
-    """The seed and the deck, and of the settings those that are not the default."""
     if course.origin is None:
         return {}
-    settings, runs = course.origin.settings, len(course.runs)
-    own = {name: text for name, text in settings.items() if name != "seed" and text != DEFAULTS.get(name)}
-    first = settings["seed"]
-    seeds = first if runs == 1 else f"{first} to {int(first) + runs - 1}"
-    return {"seed": seeds, "deck": course.origin.deck, **own}
+    first, runs = course.origin.settings["seed"], len(course.runs)
+    return {"seed": first if runs == 1 else f"{first} to {int(first) + runs - 1}", **_own(course.origin)}
 
 
 def _texts(courses: Sequence[Course]) -> dict[str, list[str]]:
@@ -64,11 +67,22 @@ def _texts(courses: Sequence[Course]) -> dict[str, list[str]]:
     return {name: [each.get(name, DEFAULTS.get(name, "")) for each in made] for name in names}
 
 
+def _made(day: date) -> tuple[str, str]:
+    return "made", f"{day.isoformat()}, by street_drill {__version__}"
+
+
 def common(courses: Sequence[Course], made: date) -> list[tuple[str, str]]:
     """The day it was made, and what is alike; parameters would fill the page."""
     alike = [(name, texts[0]) for name, texts in _texts(courses).items()
              if len(set(texts)) == 1 and name != "parameters"]
-    return [("made", f"{made.isoformat()}, by street_drill {__version__}"), *alike]
+    return [_made(made), *alike]
+
+
+def of_search(origin: Origin, made: date) -> list[tuple[str, str]]:
+    """The same of a search, which has seeds and retentions of its own."""
+    own = _own(origin)
+    return [_made(made), *((name, text) for name, text in own.items()
+                           if name not in ("parameters", "desired_retention"))]
 
 
 def differing(courses: Sequence[Course]) -> list[tuple[str, list[str]]]:

@@ -134,11 +134,15 @@ class Inputs:
         self._parameters = array("f", parameters)
         self._cards = array("f", cards)
         self._counts = array("I", counts)
-        self._config = config
+        self.config = config
         self.deck_size, self.learn_span = config.deck_size, config.learn_span
 
+    def card(self, place: int) -> Sequence[float]:
+        """Its floats and counts."""
+        return [*self._cards[6 * place : 6 * place + 6], *self._counts[2 * place : 2 * place + 2]]
+
     def _arguments(self) -> list[Any]:
-        return [*_lent(self._parameters), *_lent(self._cards, 6), *_lent(self._counts, 2), self._config]
+        return [*_lent(self._parameters), *_lent(self._cards, 6), *_lent(self._counts, 2), self.config]
 
 
 class Lists:

@@ -12,7 +12,7 @@ from collections.abc import Iterable, Iterator, Mapping
 from dataclasses import dataclass, fields
 from typing import Any
 
-from . import given, library
+from . import given, library, rules
 from .errors import Refusal
 from .given import CARD_COUNTS as CARD_COUNTS
 from .given import CARD_FLOATS as CARD_FLOATS
@@ -149,6 +149,8 @@ class Forecast:
 
 
 def _inputs(config: SimulatorConfig, parameters: Iterable[float], cards: Cards) -> library.Inputs:
+    if not isinstance(config, SimulatorConfig):
+        raise TypeError(f"config must be a SimulatorConfig, and is {config!r}")
     settings = {}
     for field in fields(config):
         value = getattr(config, field.name)
@@ -194,8 +196,16 @@ class Runner:
             table = min(max(4 * table, FIRST_TABLE), MOST_TABLE)
             self._table = max(self._table, table)
         if answer.refusal != 0:
-            raise Refusal(answer.refusal, answer.second)
+            raise self._refused(answer.refusal, answer.second, retention)
         return answer, lists
+
+    def _refused(self, number: int, second: int, desired_retention: float) -> Refusal:
+        wrong = None
+        if number == 4:
+            wrong = rules.wrong_setting(self.inputs.config, desired_retention)
+        elif number == 5 and (found := rules.wrong_field(Card(*self.inputs.card(second)))):
+            wrong = f"card {second}: {found[0]}", found[1]
+        return Refusal(number, second, *(wrong or ()))
 
     def forecast(self, desired_retention: float, seed: int, with_cards: bool = True) -> Forecast:
         """Without its cards where they are not asked for: while Python makes them, other threads wait."""
@@ -205,8 +215,9 @@ class Runner:
     def forecasts(self, desired_retention: float, seeds: Iterable[int], workers: int | None = None,
                   with_cards: bool = True) -> list[Forecast]:
         """Of each seed, in their order, on so many threads (all cores where it is None)."""
+        listed = given.listed("seeds", seeds)
         with mapping(workers) as mapped:
-            return list(mapped(lambda seed: self.forecast(desired_retention, seed, with_cards), seeds))
+            return list(mapped(lambda seed: self.forecast(desired_retention, seed, with_cards), listed))
 
     def outcome(self, desired_retention: float, seed: int) -> tuple[float, float]:
         """What the run costs for each card memorized on its last day, and how many these are."""

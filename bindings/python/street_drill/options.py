@@ -8,12 +8,34 @@ import argparse
 import os
 import sys
 from pathlib import Path
+from typing import Any, NoReturn
 
 from . import __version__, text
+from .causes import cause
 from .decimals import exact
+from .errors import Mistake
 from .settings import Source
 
-_Parser = argparse.ArgumentParser
+
+class _Parser(argparse.ArgumentParser):
+    def __init__(self, *arguments: Any, **named: Any) -> None:
+        super().__init__(*arguments, **named)
+        # For arguments that name no action of their own.
+        self.register("action", None, _Once)
+
+    def error(self, message: str) -> NoReturn:
+        """A line as of any other mistake, and no page of usage."""
+        self.exit(2, f"street_drill: {message}; {self.prog} --help tells more\n")
+
+
+class _Once(argparse.Action):
+    def __call__(self, parser: argparse.ArgumentParser, namespace: argparse.Namespace, values: Any,
+                 option_string: str | None = None) -> None:
+        """The planner cannot mean both of two."""
+        if getattr(namespace, self.dest) != self.default:
+            parser.error(f"argument {option_string}: stands twice")
+        setattr(namespace, self.dest, values)
+
 
 # A mean of so many runs is off by some hundredths of the spread, and more of them would fill the memory.
 MOST_RUNS = 1000
@@ -39,21 +61,12 @@ def _runs(text: str) -> int:
 _runs.__name__ = f"whole number from 1 to {MOST_RUNS}"
 
 
-def _number(text: str) -> str:
-    """As the settings read it, which round it once."""
-    return str(exact(text))
-
-
-_number.__name__ = "number"
-
-
 def _made() -> _Parser:
     """What commands that make runs have in common."""
     made = _Parser(add_help=False)
     made.add_argument("--set", action="append", default=[], metavar="KEY=VALUE",
                       help="a setting, in place of the file's")
-    made.add_argument("--seed", type=int, metavar="SEED", help="as --set seed=SEED")
-    made.add_argument("--retention", type=_number, metavar="RETENTION",
+    made.add_argument("--retention", metavar="RETENTION",
                       help="of new streets, as --set desired_retention=RETENTION")
     made.add_argument("--workers", type=_positive, default=os.cpu_count(), help="runs at once (default: all cores)")
     _add_quiet(made)
@@ -71,6 +84,8 @@ def _opened() -> _Parser:
 
 
 def _add_runs(parser: _Parser) -> None:
+    # The search has seeds of its own.
+    parser.add_argument("--seed", type=int, metavar="SEED", help="as --set seed=SEED")
     parser.add_argument("--runs", type=_runs, default=1,
                         help=f"seeds to forecast, from the given one on; at most {MOST_RUNS}")
 
@@ -102,8 +117,8 @@ def parser() -> _Parser:
     drawn.add_argument("--page", metavar="PAGE.html", help="default: the first listing's name with .html")
     _add_region(commands.add_parser("region", parents=[opened, made], help="a forecast of each depot of a folder"))
     told = commands.add_parser("text", help="a text as the program forecast reads it, with a status for scripts")
-    told.add_argument("--program", default=text.PROGRAM,
-                      help="forecast or cheapest (default: the repository's target/bin/forecast)")
+    told.add_argument("--program", default=text.PROGRAMS[0],
+                      help="forecast (default) or cheapest of the repository's target/bin, or a program's path")
     return own
 
 
@@ -111,12 +126,23 @@ def _add_region(parser: _Parser) -> None:
     parser.add_argument("folder", metavar="DIR", help="has NAME.toml for each depot, and NAME.csv where it has a deck")
     _add_runs(parser)
     parser.add_argument("--scheduler", metavar="ADDRESS", help="HOST:PORT of a Dask cluster for the runs")
-    parser.add_argument("--summary", metavar="SUMMARY.csv", default="region.csv", help="a row a depot (region.csv)")
-    parser.add_argument("--page", metavar="PAGE.html", default="region.html", help="all as one (region.html)")
+    parser.add_argument("--summary", metavar="SUMMARY.csv", help="a row a depot (region.csv, a new file)")
+    parser.add_argument("--page", metavar="PAGE.html", help="all as one (region.html, a new file)")
+
+
+def _retention(text: str) -> str:
+    """A number as the settings read it, which round it once."""
+    try:
+        return str(exact(text))
+    except ValueError as error:
+        raise Mistake("--retention", f"{text[:40]!r} {cause(text) or error}") from error
 
 
 def sources(options: argparse.Namespace) -> list[Source]:
-    """In their order a later one goes before an earlier one, and the short options go before --set."""
+    """Each sets a key; two that set the same are a mistake."""
     told = [(f"--set {text[:80]!r}", text) for text in options.set]
-    short = [("--seed", "seed", options.seed), ("--retention", "desired_retention", options.retention)]
-    return [*told, *((option, f"{key} = {value}") for option, key, value in short if value is not None)]
+    if getattr(options, "seed", None) is not None:
+        told.append(("--seed", f"seed = {options.seed}"))
+    if options.retention is not None:
+        told.append(("--retention", f"desired_retention = {_retention(options.retention)}"))
+    return told

@@ -1,12 +1,13 @@
 """The page: courses as a summary, pictures and tables, one HTML file that needs no network.
 
   page        the whole text
-  document    a page of any parts
+  document    a page of any parts; pairs: labels and what stands by them
 """
 
 import json
 import math
 from collections.abc import Iterable, Iterator, Sequence
+from dataclasses import replace
 from datetime import date
 from html import escape
 from pathlib import Path
@@ -25,6 +26,10 @@ _DIGITS = 2
 # What several runs add to a column.
 _ADDED = ("p10", "p90", "first")
 
+_DOUBT = "A day with ? is too near the span's end to tell whether the streets stay held."
+_FIRST_DAYS = ("These forecasts begin on different days: in the pictures days count from each one's own first, and a "
+               "month has 30 of them.")
+
 
 def _few(courses: Sequence[Course]) -> bool:
     """Whether all names have room in a line."""
@@ -34,8 +39,9 @@ def _few(courses: Sequence[Course]) -> bool:
 # ---- the head and the summary
 
 
-def _pairs(pairs: Sequence[tuple[str, str]]) -> str:
-    told = "".join(f"<div><dt>{escape(label)}</dt><dd>{escape(value)}</dd></div>" for label, value in pairs)
+def pairs(labelled: Sequence[tuple[str, str]]) -> str:
+    """Labels and what stands by them."""
+    told = "".join(f"<div><dt>{escape(label)}</dt><dd>{escape(value)}</dd></div>" for label, value in labelled)
     return f"<dl>{told}</dl>"
 
 
@@ -69,7 +75,7 @@ def _made(courses: Sequence[Course], day: date) -> str:
     if not _few(courses) and differing:
         names = ", ".join(name for name, _ in differing)
         table = f"<details><summary>they differ in {escape(names)}</summary>{table}</details>"
-    return f'<section class="made">{_pairs(head.common(courses, day))}{table}</section>'
+    return f'<section class="made">{pairs(head.common(courses, day))}{table}</section>'
 
 
 def _facts_of_each(courses: Sequence[Course], streets: int | None) -> str:
@@ -88,7 +94,7 @@ def _switches(shown: Sequence[View], days: int) -> str:
 
 
 def _summary(courses: Sequence[Course], streets: int | None, shown: Sequence[View]) -> str:
-    inside = _pairs(facts(courses[0], streets)) if len(courses) == 1 else _facts_of_each(courses, streets)
+    inside = pairs(facts(courses[0], streets)) if len(courses) == 1 else _facts_of_each(courses, streets)
     return f'<section class="summary">{inside}{_switches(shown, window(shown[0].last + 1))}</section>'
 
 
@@ -195,6 +201,25 @@ def _values(courses: Sequence[Course], shown: Sequence[View], tables: Sequence[T
 # ---- the page
 
 
+def _is_one_day(courses: Sequence[Course]) -> bool:
+    """Whether all begin on the same day, or on none."""
+    return len({course.first_day for course in courses}) == 1
+
+
+def _numbered(courses: Sequence[Course]) -> Sequence[Course]:
+    """For the pictures: where courses begin on different days, a place on the axis is a day's number and no date."""
+    return courses if _is_one_day(courses) else [replace(course, first_day=None) for course in courses]
+
+
+def _notes(courses: Sequence[Course], streets: int | None) -> str:
+    """What the numbers mean."""
+    told = ["Days count from 0; cost is copied in seconds; memorized is the number of streets held in memory; a street "
+            "put off is due on the day that it was put off to."]
+    told += [_DOUBT] if streets else []
+    told += [] if _is_one_day(courses) else [_FIRST_DAYS]
+    return f"<p>{' '.join(told)}</p>"
+
+
 def _beside(name: str) -> str:
     return Path(__file__).with_name(name).read_text(encoding="utf-8")
 
@@ -222,15 +247,16 @@ def page(given: Sequence[Course], streets: int | None = None, tables: Sequence[T
     """The page of courses: `streets` is what --open asks for, and `made` the day, today where it is None. The given
     tables stand open; behind them are those of the courses' weeks, months and days."""
     courses = head.told_apart(given)
-    shown = views(courses)
+    drawn = _numbered(courses)
+    shown = views(drawn)
     columns = [column for column in picture.TITLES if any(column in course.columns for course in courses)]
     legend = _legend(courses)
-    pictures = [picture.picture(view, courses, column, streets, legend) for column in columns for view in shown]
+    pictures = [picture.picture(view, drawn, column, streets, legend) for column in columns for view in shown]
     own = [table(course) for course in courses for table in (weeks_table, months_table, days_table)]
     listed = [*tables, *own]
     return document(_title(courses), [
         _made(courses, made or date.today()),
         f"<main>\n{_summary(courses, streets, shown)}", *pictures, "</main>",
-        "<p>Days count from 0; cost is copied in seconds; memorized is the number of streets held in memory.</p>",
+        _notes(courses, streets),
         *(_table(number, table, number < len(tables)) for number, table in enumerate(listed)),
     ], _off(courses), _values(courses, shown, listed))

@@ -6,10 +6,10 @@ given, else thirty days each.
   weeks_table, months_table   a row a week, a row a month
 """
 
+from calendar import monthrange
 from collections.abc import Sequence
 from dataclasses import dataclass
-from datetime import timedelta
-from itertools import groupby
+from datetime import date, timedelta
 
 from .course import STANDING, Columns, Course, Table, of_columns, values_table
 
@@ -18,15 +18,16 @@ WEEK, MONTH = 7, 30
 
 @dataclass(frozen=True)
 class Stretch:
-    """Some days in a row: a week by its number from 1, a month by its number or as 2026-11."""
+    """Some days in a row: a week by its number from 1, a month by its number or as Nov 2026."""
 
     name: str
     days: range
+    is_whole: bool
 
 
 def _blocks(span: int, length: int) -> list[Stretch]:
     starts = range(0, span, length)
-    return [Stretch(str(number), range(start, min(start + length, span)))
+    return [Stretch(str(number), range(start, min(start + length, span)), start + length <= span)
             for number, start in enumerate(starts, start=1)]
 
 
@@ -35,14 +36,21 @@ def weeks(course: Course) -> list[Stretch]:
     return _blocks(course.span, WEEK)
 
 
+def _length(day: date) -> int:
+    """How many days the day's month has."""
+    _, days = monthrange(day.year, day.month)
+    return days
+
+
 def months(course: Course) -> list[Stretch]:
     """The last, and the first of the calendar's, may have fewer days."""
     first = course.first_day
     if first is None:
         return _blocks(course.span, MONTH)
-    grouped = groupby(range(course.span), lambda day: f"{first + timedelta(day):%Y-%m}")
-    listed = [(name, list(days)) for name, days in grouped]
-    return [Stretch(name, range(days[0], days[-1] + 1)) for name, days in listed]
+    dates = [first + timedelta(day) for day in range(course.span)]
+    starts = [day for day, each in enumerate(dates) if day == 0 or each.day == 1]
+    spans = [range(start, end) for start, end in zip(starts, [*starts[1:], course.span])]
+    return [Stretch(f"{dates[days.start]:%b %Y}", days, len(days) == _length(dates[days.start])) for days in spans]
 
 
 def _sums(values: Sequence[float], stretches: Sequence[Stretch]) -> list[float]:

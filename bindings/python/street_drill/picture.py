@@ -10,7 +10,8 @@ from collections.abc import Iterable, Iterator, Sequence
 from datetime import date
 
 from .axes import BOTTOM, HEIGHT, LEFT, RIGHT, WIDTH, Scale, amount, axis, below, grid
-from .course import STANDING, Course, line, opening
+from .course import STANDING, Course
+from .opens import Milestone, in_runs, stays
 from .series import smoothed, stretches, thinned, thinned_band, window
 from .views import Shown, View
 
@@ -90,33 +91,43 @@ def swatch(course: int) -> str:
             f'<path class="course c{course % COLOURS}" stroke-dasharray="{_dash(course)}" d="M2 4L26 4"/></svg>')
 
 
-# ---- the day from which so many streets stay held
+# ---- the days from which so many streets stay held
 
 
-def _openings(view: View, scale: Scale, courses: Sequence[Course], streets: int) -> Iterator[str]:
-    """A line across at so many streets, and at each course's day a dot, a line down and the day."""
-    openings = [opening(line(course, "memorized"), streets) for course in courses]
-    places = [None if day is None else shown.place(day) for shown, day in zip(view.courses, openings)]
-    marks = sorted((place, number) for number, place in enumerate(places) if place is not None)
+def _named_day(course: Course, milestone: Milestone) -> str:
+    """As the summary has it: in doubt where the end is too near, and of several runs with how many are there."""
+    day = course.date(milestone.day) or f"day {milestone.day}"
+    return f"{day}{'?' if milestone.is_near else ''} {in_runs(course, milestone.runs)}".rstrip()
+
+
+def _across(scale: Scale, streets: int, clear: float) -> Iterator[str]:
+    """A line at so many streets. The place below its end is free where all is left of it, from `clear` on; else its
+    name stands above its start."""
     y = scale.y(streets)
     yield f'<line class="open" x1="{LEFT}" x2="{RIGHT}" y1="{y:.1f}" y2="{y:.1f}"/>'
-    for place, number in marks:
-        x = scale.x(place)
-        yield f'<line class="open l{number}" x1="{x:.1f}" x2="{x:.1f}" y1="{y:.1f}" y2="{BOTTOM}"/>'
-    # The place below its end is free where every course has come to it, or is over, long before; else above its start.
-    clear = max(len(shown.names) - 1 if place is None else place for shown, place in zip(view.courses, places))
     is_free = scale.x(clear) < RIGHT - 110 and y < BOTTOM - 20
     end, under, side = (RIGHT - 5, 14, "end") if is_free else (LEFT + 5, -5, "start")
     yield f'<text class="over" x="{end}" y="{y + under:.1f}" text-anchor="{side}">{amount(streets)} streets</text>'
-    for row, (place, number) in enumerate(marks):
+
+
+def _openings(view: View, scale: Scale, courses: Sequence[Course], streets: int) -> Iterator[str]:
+    """A line across at so many streets, and at each day that the summary tells a dot, a line down and the day."""
+    days = [stays(course, streets) for course in courses]
+    marks = sorted(((shown.place(each.day), number, each) for number, shown in enumerate(view.courses)
+                    for each in days[number]), key=lambda mark: mark[:2])
+    ends = [shown.place(there[-1].day) if there else len(shown.names) - 1 for shown, there in zip(view.courses, days)]
+    y = scale.y(streets)
+    yield from _across(scale, streets, max(ends))
+    for place, number, _ in marks:
+        x = scale.x(place)
+        yield f'<line class="open l{number}" x1="{x:.1f}" x2="{x:.1f}" y1="{y:.1f}" y2="{BOTTOM}"/>'
+    for row, (place, number, each) in enumerate(marks):
         x = scale.x(place)
         yield f'<circle class="{_classes("dot", number)}" cx="{x:.1f}" cy="{y:.1f}" r="4"/>'
         if len(marks) <= _MOST_OPENINGS:
-            day = openings[number]
-            assert day is not None, "it has a place"
             side, gap = ("start", 5) if x < (LEFT + RIGHT) / 2 else ("end", -5)
             yield (f'<text class="{_classes("over", number)}" x="{x + gap:.1f}" y="{BOTTOM - 7 - 17 * row}" '
-                   f'text-anchor="{side}">{courses[number].date(day) or f"day {day}"}</text>')
+                   f'text-anchor="{side}">{_named_day(courses[number], each)}</text>')
 
 
 # ---- the whole

@@ -1,19 +1,23 @@
 """A region: a folder with a settings file for each depot, NAME.toml, and its deck NAME.csv where there is one.
 
-  read      the folder's files; notes: what of the folder is left out
-  courses   the forecast of each, on several processes
+  read      the folder's files; notes: what of the folder is left out; alike: the depots that draw alike
+  courses   the forecast of each, on several processes; seed_of: the seed of several runs of a depot
   total     all depots as one course
 """
 
+import hashlib
 import math
 import os
+from collections import Counter
 from collections.abc import Callable, Iterable, Sequence
 from dataclasses import dataclass, replace
 from functools import partial
 from pathlib import Path
+from typing import Any
 
 from . import course, deck, files, runs, settings, streets
 from .course import COLUMNS, STANDING, Columns, Course
+from .deck import Deck
 from .errors import Mistake, Mistakes, each_of
 from .settings import Settings, Source
 
@@ -79,6 +83,13 @@ def notes(folder: str, depots: Sequence[Depot], outputs: Iterable[str]) -> list[
             if path not in used and os.path.realpath(path) not in written]
 
 
+def alike(folder: str, depots: Sequence[Depot]) -> list[str]:
+    """Depots that draw alike in a single run, which is that of `forecast`."""
+    seeds = Counter(depot.given.seed for depot in depots if isinstance(depot.given, Settings))
+    return [f"{folder}: {number} depots have the seed {seed} and draw alike, so that their sum multiplies one luck; "
+            "with --runs each has its own" for seed, number in seeds.items() if number > 1]
+
+
 def sources(depots: Sequence[Depot]) -> list[str]:
     """The files that were read."""
     own = [path for depot in depots if isinstance(depot.given, Settings) for path in depot.given.sources]
@@ -88,17 +99,31 @@ def sources(depots: Sequence[Depot]) -> list[str]:
 # ---- forecasts
 
 
-def _course(depot: Depot, number: int) -> Course | Mistake:
-    # A mistake is given back and not raised, so that one depot's does not hide the others'.
+def seed_of(name: str, seed: int) -> int:
+    """The first of a depot's several runs: depots of one seed would all be lucky in the same run.
+
+    It has at most fifteen digits, since a spreadsheet that reads the summary keeps no more.
+    """
+    return int.from_bytes(hashlib.sha256(f"{seed} {name}".encode(errors="surrogateescape")).digest()[:6], "big")
+
+
+def _known(depot: Depot, given: Settings) -> Deck:
+    day = given.first_day
+    known = deck.no_deck(day) if depot.deck is None else deck.of_text(depot.deck_path, depot.deck, day)
+    return streets.prepared(given, known)
+
+
+def _course(depot: Depot, number: int) -> tuple[Course, list[str]] | Mistake:
+    """With what is told beside it. A mistake is given back and not raised, so that none hides another depot's."""
     given = depot.given
     if isinstance(given, Mistake):
         return given
     try:
-        day = given.first_day
-        known = deck.no_deck(day) if depot.deck is None else deck.of_text(depot.deck_path, depot.deck, day)
-        known = streets.prepared(given, known)
+        known = _known(depot, given)
+        if number > 1:
+            given = replace(given, seed=seed_of(given.name, given.seed))
         drawn, _ = runs.drilled(given, known, number, 1)
-        return drawn
+        return drawn, streets.warnings(given, known)
     except Mistake as mistake:
         return mistake
 
@@ -110,20 +135,26 @@ def _check_first_days(folder: str, depots: Sequence[Depot]) -> None:
         raise Mistake(folder, f"the depots must have one first_day, and have {told}")
 
 
-def courses(folder: str, depots: Sequence[Depot], number: int, mapped: Callable[..., Iterable[Course | Mistake]],
-            done: Callable[[], None] = lambda: None) -> list[Course]:
-    """The forecasts of each depot, so many runs each, in their order; `mapped` calls side by side, as `map` does."""
+def courses(folder: str, depots: Sequence[Depot], number: int, mapped: Callable[..., Iterable[Any]],
+            done: Callable[[], None] = lambda: None) -> tuple[list[Course], list[str]]:
+    """The forecasts of each depot, so many runs each, in their order, and what is told beside them.
+
+    `mapped` calls side by side, as `map` does.
+    """
     _check_first_days(folder, depots)
-    made, mistakes = [], []
+    made: list[Course] = []
+    warnings: list[str] = []
+    mistakes: list[Mistake] = []
     for each in mapped(partial(_course, number=number), depots):
         done()
-        if isinstance(each, Course):
-            made.append(each)
-        else:
+        if isinstance(each, Mistake):
             mistakes += each_of(each)
+        else:
+            made.append(each[0])
+            warnings += each[1]
     if mistakes:
         raise Mistakes(mistakes)
-    return made
+    return made, warnings
 
 
 # ---- all depots as one

@@ -3,7 +3,7 @@
 from collections.abc import Callable, Sequence
 from dataclasses import replace
 
-from . import course, streets
+from . import backlog, course, streets
 from .course import Columns, Course
 from .deck import Deck
 from .errors import Refusal
@@ -40,5 +40,5 @@ def drilled(given: Settings, known: Deck, runs: int, workers: int | None,
     except Refusal as refusal:
         raise placed(given, known, refusal) from refusal
     drawn = course.of_columns(given.name, columns)
-    return replace(drawn, first_day=given.first_day, notes=tuple(streets.notes(given, known)),
-                   origin=origin(given, known)), cards
+    notes = [*backlog.notes(cards, known.kept, given.config.learn_span, runs), *streets.notes(given, known)]
+    return replace(drawn, first_day=given.first_day, notes=tuple(notes), origin=origin(given, known)), cards

@@ -1,14 +1,15 @@
 """The search for the retention, from 0.70 to 0.95, at which a drill costs least for each street held at its end."""
 
 import math
+import statistics
 import time
-from collections.abc import Callable, Iterable
-from dataclasses import dataclass
+from collections.abc import Callable, Iterable, Sequence
+from dataclasses import dataclass, field
 from typing import Any
 
-from . import given, library
+from . import given, library, rules
 from .errors import Refusal
-from .model import FIRST_TABLE, Cards, Runner, SimulatorConfig
+from .model import DESIRED_RETENTION, FIRST_TABLE, Cards, Runner, SimulatorConfig
 from .threads import mapping
 
 MOST_ROUNDS = 64
@@ -32,7 +33,8 @@ class Optimum:
 class Trial:
     """A retention that was tried: its number from 1, the mean of its runs, and the seconds that they took.
 
-    `held` is how many streets the runs hold on their last day, on the mean.
+    `held` is how many streets the runs hold on their last day, on the mean; `costs` are what each run costs for each
+    street held, in the order of their seeds, which all trials have alike.
     """
 
     number: int
@@ -40,6 +42,19 @@ class Trial:
     mean: float
     seconds: float
     held: float
+    costs: tuple[float, ...] = field(default=(), repr=False)
+
+    @property
+    def error(self) -> float:
+        """The standard error of the mean."""
+        return standard_error(self.costs)
+
+
+def standard_error(values: Sequence[float]) -> float:
+    """By how much the mean of such values is off, as their spread tells; no number where they tell none."""
+    if len(values) < 2 or not all(map(math.isfinite, values)):
+        return math.nan
+    return statistics.stdev(values) / math.sqrt(len(values))
 
 
 def _tried(runner: Runner, number: int, retention: float, mapped: Callable[..., Any]) -> Trial:
@@ -47,9 +62,9 @@ def _tried(runner: Runner, number: int, retention: float, mapped: Callable[..., 
     seeds = range(FIRST_SEED, FIRST_SEED + library.sample_size(runner.inputs.learn_span))
     # They come, and the first refusal, in the order of the seeds, as one thread would.
     outcomes = list(mapped(lambda seed: runner.outcome(retention, seed), seeds))
-    mean = library.mean([target for target, _ in outcomes])
+    costs = tuple(target for target, _ in outcomes)
     held = sum(streets for _, streets in outcomes) / len(outcomes)
-    return Trial(number, retention, mean, time.monotonic() - begun, held)
+    return Trial(number, retention, library.mean(list(costs)), time.monotonic() - begun, held, costs)
 
 
 def trial(config: SimulatorConfig, parameters: Iterable[float], cards: Cards = (), *, retention: float,
@@ -59,10 +74,20 @@ def trial(config: SimulatorConfig, parameters: Iterable[float], cards: Cards = (
         return _tried(Runner(config, parameters, cards), 0, retention, mapped)
 
 
-def _optimum(found: library.Found) -> Optimum:
+def _optimum(found: library.Found, *wrong: str) -> Optimum:
     if found.refusal != 0:
-        raise Refusal(found.refusal, found.second)
+        raise Refusal(found.refusal, found.second, *wrong)
     return Optimum(found.retention, found.mean, found.rounds)
+
+
+def _of_whole_search(runner: Runner, rounds: int, table: int) -> Optimum:
+    """By the library's own entry, which refuses rounds that are not 1 to 64 in the order of its table."""
+    asked = min(max(rounds, 0), MOST_ROUNDS + 1)
+    found = library.optimal_retention(runner.inputs, asked, library.Lists(runner.inputs, table))
+    if found.refusal != 4:
+        return _optimum(found)
+    wrong = rules.wrong_setting(runner.inputs.config, DESIRED_RETENTION)
+    return _optimum(found, *(wrong or ("rounds", f"must be 1 to {MOST_ROUNDS}")))
 
 
 def optimal_retention(config: SimulatorConfig, parameters: Iterable[float], cards: Cards = (), *,
@@ -75,9 +100,7 @@ def optimal_retention(config: SimulatorConfig, parameters: Iterable[float], card
     """
     runner = Runner(config, parameters, cards, table)
     if not 1 <= given.index("rounds", rounds) <= MOST_ROUNDS:
-        # The library's own entry refuses these, in the order of its table.
-        return _optimum(library.optimal_retention(runner.inputs, min(max(rounds, 0), MOST_ROUNDS + 1),
-                                                  library.Lists(runner.inputs, table)))
+        return _of_whole_search(runner, rounds, table)
     search = library.Search(rounds)
     with mapping(workers) as mapped:
         number = 0

@@ -4,6 +4,7 @@ A missing key takes its default; parameters have none, which the library refuses
 a file's are told at once. What the command line sets goes before what the file says.
 """
 
+import difflib
 import itertools
 import re
 import tomllib
@@ -13,7 +14,7 @@ from datetime import date
 from pathlib import Path
 from typing import Any
 
-from . import files
+from . import causes, files
 from .decimals import rounded
 from .errors import Mistake, raise_all
 from .keys import CONFIG, READERS, Written, Wrong
@@ -23,9 +24,11 @@ PARAMETERS = 34
 
 # Where something is set, a file or an option, and its text.
 Source = tuple[str, str]
+# Tells the place of a key by its source's place and text.
+Finder = Callable[[str, str, str], str]
 
 
-@dataclass(frozen=True)
+@dataclass(frozen=True, repr=False)
 class Settings:
     """What one file says. `path` is its name as the planner wrote it.
 
@@ -47,6 +50,10 @@ class Settings:
     def name(self) -> str:
         """What the file is called, for a head or a row."""
         return Path(self.path).stem
+
+    def __repr__(self) -> str:
+        return (f"<Settings of {self.path}: {self.config!r}, {len(self.parameters)} parameters, "
+                f"desired_retention={self.desired_retention:.6g}, seed={self.seed}>")
 
     def place(self, key: str) -> str:
         """Where a key is set, or would be; it may have an index."""
@@ -84,11 +91,21 @@ def _line(text: str, place: int) -> str:
     return f"line {text.count(chr(10), 0, place) + 1}"
 
 
-def _parsed(path: str, text: str) -> dict[str, Any]:
+def _line_of(text: str, place: str) -> str:
+    """That of a place as tomllib tells it."""
+    number = re.match(r"line (\d+)", place)
+    lines = text.split("\n")
+    return lines[int(number[1]) - 1 if number else -1]
+
+
+def _parsed(path: str, text: str, find: Finder) -> dict[str, Any]:
     try:
         return tomllib.loads(text, parse_float=Written)
     except tomllib.TOMLDecodeError as error:
         sentence, _, place = str(error).rpartition(" (at ")
+        if seen := causes.of_setting(_line_of(text, place)):
+            key, sentence = seen
+            raise Mistake(f"{find(path, text, key)} ({key})", sentence) from error
         raise Mistake(f"{path}: {place.rstrip(')')}", sentence) from error
     except ValueError as error:
         # tomllib tells no place of a whole number of more digits than Python reads.
@@ -101,7 +118,9 @@ def _parsed(path: str, text: str) -> dict[str, Any]:
 
 def _value(key: str, value: Any, folder: Path) -> Any:
     if key not in READERS:
-        raise Wrong(_shown(key), "is no setting; the settings are " + ", ".join(READERS))
+        near = difflib.get_close_matches(key, READERS, n=1)
+        others = f"is {near[0]} meant?" if near else "the settings are " + ", ".join(READERS)
+        raise Wrong(_shown(key), f"is no setting; {others}")
     return _parameters(value, folder) if key == "parameters" else READERS[key](value, key)
 
 
@@ -118,26 +137,41 @@ def _found(path: str, text: str, key: str) -> str:
     return f"{path}: {_line(text, value.end())}, column {value.end() - text.rfind(chr(10), 0, value.end())}"
 
 
+def _option(option: str, text: str, key: str) -> str:
+    """An option is short: it is its own place."""
+    return option
+
+
 class _Reading:
     """What the sources set, where, and all that is wrong with them."""
 
     def __init__(self) -> None:
         self.values: dict[str, Any] = {}
         self.places: dict[str, str] = {}
+        self.options: dict[str, str] = {}
         self.files: list[str] = []
         self.mistakes: list[Mistake] = []
 
-    def add(self, source: Source, folder: Path, find: Callable[[str, str, str], str]) -> None:
-        """Of a later source's values each goes before an earlier one; `find` tells the place of a key."""
+    def add(self, source: Source, folder: Path = Path(), is_option: bool = False) -> None:
+        """What an option sets goes before what the file says."""
         place, text = source
+        find = _option if is_option else _found
         try:
-            parsed = _parsed(place, text)
+            parsed = _parsed(place, text, find)
         except Mistake as mistake:
             self.mistakes.append(mistake)
             return
         for key, value in parsed.items():
+            if is_option:
+                self._check_once(key, place)
             self.places[key] = find(place, text, key)
             self._add(key, value, folder)
+
+    def _check_once(self, key: str, option: str) -> None:
+        """The planner cannot mean both of two options."""
+        if key in self.options:
+            self.mistakes.append(Mistake(f"{option} ({_shown(key)})", f"is set by {self.options[key]} already"))
+        self.options[key] = option
 
     def _add(self, key: str, value: Any, folder: Path) -> None:
         if key == "parameters" and type(value) is str:
@@ -160,9 +194,9 @@ def _check_calendar(given: Settings) -> None:
 def of_text(path: str, text: str, options: Sequence[Source] = ()) -> Settings:
     """Settings from a text, and from what options of the command line set; `path` is for the errors."""
     told = _Reading()
-    told.add((path, text), Path(path).parent, _found)
+    told.add((path, text), Path(path).parent)
     for option in options:
-        told.add(option, Path(), lambda place, text, key: place)
+        told.add(option, is_option=True)
     raise_all(path, told.mistakes)
     values = told.values
     given = Settings(

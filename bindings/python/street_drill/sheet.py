@@ -13,6 +13,8 @@ from dataclasses import dataclass
 from .errors import Mistake, raise_all
 
 _DELIMITERS = ",;\t"
+# Spreadsheets may tell in a line of its own, before the head, what stands between the cells.
+_TOLD = re.compile(r"\"?sep=([,;\t])\"?[ \t,;]*\r?(?=\n)", re.IGNORECASE)
 
 
 @dataclass(frozen=True)
@@ -32,7 +34,9 @@ class Sheet:
 
 
 def _delimiter(text: str) -> str:
-    """What stands most often in the first line that is not blank."""
+    """What is told, else what stands most often in the first line that is not blank."""
+    if told := _TOLD.match(text):
+        return told[1]
     first = text.lstrip().partition("\n")[0]
     return max(_DELIMITERS, key=first.count)
 
@@ -63,7 +67,7 @@ def _length_mistake(path: str, delimiter: str, line: int, cells: int, head: int)
 def read(path: str, text: str) -> Sheet:
     """Of a text; `path` is for the errors. Empty cells beyond the head are left out."""
     delimiter = _delimiter(text)
-    lines, records = _records(path, text, delimiter)
+    lines, records = _records(path, _TOLD.sub("", text, count=1) if _TOLD.match(text) else text, delimiter)
     head_line, head = (lines.pop(0), records.pop(0)) if records else (1, [])
     while head and not head[-1].strip():
         head.pop()

@@ -5,7 +5,6 @@ has no exit status, so what was printed is judged here: a refusal, a listing tha
 """
 
 import math
-import os
 import re
 import subprocess
 from pathlib import Path
@@ -13,12 +12,23 @@ from pathlib import Path
 from . import listing
 from .errors import Mistake
 
-_BUILT = Path("target") / "bin" / "forecast"
-# The repository's: where this package lies in it, and else where the command is called.
-_OWN = Path(__file__).resolve().parents[3] / _BUILT
-PROGRAM = str(_OWN if os.path.exists(_OWN) else _BUILT)
+# Where this package lies in the repository.
+_REPOSITORY = Path(__file__).resolve().parents[3]
+PROGRAMS = ("forecast", "cheapest")
 _INPUT = "standard input"
 _CHEAPEST = re.compile(r"\(cheapest [0-9A-F]{8} \(rounds \d+\) \(mean ([0-9A-F]{8})\)\)\n", re.ASCII)
+
+
+def _built(program: str) -> str:
+    """One of the repository's by its name: of that of the package, or of the one where the command is called."""
+    if program not in PROGRAMS:
+        return program
+    here = Path.cwd()
+    for folder in [_REPOSITORY, here, *here.parents]:
+        path = folder / "target" / "bin" / program
+        if path.is_file():
+            return str(path)
+    raise Mistake(f"target/bin/{program}", f"is not built: tools/build {program} makes it; --program names another")
 
 
 def _printed(program: str) -> str:
@@ -27,8 +37,7 @@ def _printed(program: str) -> str:
         ended = subprocess.run([program], stdout=subprocess.PIPE, check=True)
         return ended.stdout.decode("ascii")
     except OSError as error:
-        told = f"{error.strerror}; tools/build forecast makes it, and --program names another"
-        raise Mistake(program, told) from error
+        raise Mistake(program, f"{error.strerror}; --program is forecast, cheapest or a program's path") from error
     except (subprocess.CalledProcessError, UnicodeDecodeError) as error:
         raise Mistake(program, "did not end as it should") from error
 
@@ -46,7 +55,7 @@ def _check(program: str, printed: str) -> None:
 
 def answer(program: str) -> str:
     """What the program prints, which is shown in any case; a mistake where it refused the text."""
-    printed = _printed(program)
+    printed = _printed(_built(program))
     try:
         _check(program, printed)
     except Mistake:

@@ -6,6 +6,8 @@ from collections.abc import Callable, Iterator
 from concurrent.futures import ThreadPoolExecutor
 from typing import Any
 
+from . import given
+
 
 class NoWorker(RuntimeError):
     """No thread or process can be started."""
@@ -26,8 +28,9 @@ def starting(mapped: Callable[..., Any]) -> Callable[..., Any]:
 @contextlib.contextmanager
 def mapping(workers: int | None) -> Iterator[Callable[..., Any]]:
     """`map` on so many threads, all cores where it is None; one worker needs no other thread."""
-    if workers == 1:
+    number = given.workers(workers)
+    if number == 1:
         yield map
         return
-    with ThreadPoolExecutor(workers or os.cpu_count()) as threads:
+    with ThreadPoolExecutor(number or os.cpu_count()) as threads:
         yield starting(threads.map)

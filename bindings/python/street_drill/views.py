@@ -8,11 +8,10 @@
 import math
 from collections.abc import Mapping, Sequence
 from dataclasses import dataclass
-from datetime import date, timedelta
 from typing import Any
 
 from .course import STANDING, Course, Table, days_table
-from .periods import MONTH, WEEK, months_table, weeks_table
+from .periods import Stretch, months, months_table, weeks, weeks_table
 
 
 @dataclass(frozen=True)
@@ -58,19 +57,12 @@ def _shown(kind: str, table: Table) -> Shown:
     return Shown(tuple(map(str, names)), first, days, columns.pop("date", ()), columns)
 
 
-def _is_whole(kind: str, first_day: date | None, first: int, days: int) -> bool:
-    if kind == "month" and first_day:
-        return all((first_day + timedelta(day)).day == 1 for day in (first, first + days))
-    return days == {"week": WEEK, "month": MONTH}[kind]
-
-
-def _whole_only(kind: str, course: Course, table: Table) -> Shown:
+def _whole_only(kind: str, stretches: Sequence[Stretch], table: Table) -> Shown:
     """Half a week would look like an easy one: it has no number in the columns that are summed."""
     shown = _shown(kind, table)
-    whole = [_is_whole(kind, course.first_day, first, days) for first, days in zip(shown.first, shown.days)]
     # `cost_p10` belongs to the column `cost`.
     columns = {name: values if name.partition("_")[0] in STANDING else
-               [value if is_whole else math.nan for value, is_whole in zip(values, whole)]
+               [value if each.is_whole else math.nan for value, each in zip(values, stretches)]
                for name, values in shown.columns.items()}
     return Shown(shown.names, shown.first, shown.days, shown.dates, columns)
 
@@ -78,8 +70,8 @@ def _whole_only(kind: str, course: Course, table: Table) -> Shown:
 def views(courses: Sequence[Course]) -> list[View]:
     """By days always; by weeks and months where some course has two whole ones."""
     found = [View("day", tuple(_shown("day", days_table(course)) for course in courses))]
-    for kind, table in [("week", weeks_table), ("month", months_table)]:
-        made = tuple(_whole_only(kind, course, table(course)) for course in courses)
+    for kind, stretches, table in [("week", weeks, weeks_table), ("month", months, months_table)]:
+        made = tuple(_whole_only(kind, stretches(course), table(course)) for course in courses)
         if max(sum(map(math.isfinite, shown.columns["cost"])) for shown in made) >= 2:
             found.append(View(kind, made))
     return found

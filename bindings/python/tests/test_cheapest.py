@@ -3,9 +3,12 @@
 import contextlib
 import io
 import math
+import re
 import tempfile
 import unittest
+from datetime import date
 from pathlib import Path
+from statistics import fmean, stdev
 
 from street_drill import Mistake, optimal_retention, settings
 from street_drill.cheapest import advice, in_order
@@ -66,6 +69,40 @@ class Advice(unittest.TestCase):
         self.assertIn("desired_retention is for the 20 new streets; the deck's 100 keep theirs\n", said)
 
 
+class Doubt(unittest.TestCase):
+    """Of runs that differ: what these tell, and what they do not."""
+
+    def said(self, present: float, costs: dict[float, tuple[float, ...]]) -> str:
+        tried = [Trial(1, retention, fmean(each), 0.1, 100 * retention, each) for retention, each in costs.items()]
+        own = next(each for each in tried if each.retention == present)
+        return "\n".join(advice(in_order("s.toml", tried, own), own, Streets(0, 120)))
+
+    def test_error(self) -> None:
+        self.assertEqual(Trial(1, 0.7, 3.0, 0.1, 1.0, (1.0, 3.0, 5.0)).error, 2 / math.sqrt(3))
+        for costs in [(), (3.0,), (math.inf, 3.0)]:
+            self.assertTrue(math.isnan(Trial(1, 0.7, 3.0, 0.1, 1.0, costs).error))
+
+    def test_present_is_not_told_apart(self) -> None:
+        """The present costs 3, 0 and 3 more in the three runs: 2, give or take 2."""
+        said = self.said(0.85, {0.7: (30.0, 40.0, 50.0), 0.8: (10.0, 20.0, 30.0), 0.85: (13.0, 20.0, 33.0),
+                                0.9: (30.0, 40.0, 50.0)})
+        self.assertIn("no retention is advised: 0.8 costs least, but these runs can't tell it from 0.85, the present "
+                      "setting: 2.00 seconds a street more, give or take 2.00", said)
+
+    def test_ends_are_not_told_apart(self) -> None:
+        for end, which in [(0.7, "lowest"), (0.95, "highest")]:
+            costs = {0.7: (30.0, 40.0, 50.0), 0.8: (10.0, 20.0, 30.0), 0.9: (30.0, 40.0, 50.0),
+                     0.95: (30.0, 40.0, 50.0)}
+            said = self.said(0.9, costs | {end: (13.0, 20.0, 33.0)})
+            self.assertIn(f"can't tell it from {end}, the {which} that was tried: 2.00 seconds", said)
+            self.assertIn("the present 0.9 costs 20.00 seconds a street more, give or take 0.00 (100%)", said)
+
+    def test_pairs(self) -> None:
+        """What each run costs more is far from 0, though the runs themselves differ by more than that."""
+        said = self.said(0.9, {0.7: (15.0, 25.0, 35.0), 0.8: (10.0, 20.0, 30.0), 0.9: (15.0, 26.0, 35.0)})
+        self.assertTrue(said.startswith("retention 0.8 costs least\n"), said)
+
+
 class Command(unittest.TestCase):
     def test_curve(self) -> None:
         """Each trial with its cost and what it holds, as the search and runs by hand have them."""
@@ -77,9 +114,33 @@ class Command(unittest.TestCase):
         self.assertEqual((status, errors), (0, ""))
         for each in tried:
             held = sum(runner.forecast(each.retention, seed).rows[-1].memorized for seed in range(42, 58)) / 16
-            self.assertRegex(said, rf"\n  {each.retention:.4g}\d? +{each.mean:.2f} +{held:.1f}\n")
-        self.assertIn(f"\n  retention {found.retention:.4f} costs least\n", said)
-        self.assertRegex(said, r"\n  0.9 +258.35 +760.2  the present setting\n")
+            doubt = 2 * stdev(each.costs) / 4
+            self.assertRegex(said, rf"\n  {each.retention:.4g}\d? +{each.mean:.2f} +{doubt:.2f} +{held:.1f}\n")
+            self.assertEqual(each.costs, tuple(runner.outcome(each.retention, seed)[0] for seed in range(42, 58)))
+        self.assertIn(f"{found.retention:.4f} costs least, but these runs can't tell it from 0.7, the lowest", said)
+        self.assertRegex(said, r"\n  0.9 +258.35 +4.35 +760.2  the present setting\n")
+
+    def test_within(self) -> None:
+        said = run("cheapest", NINE, "--set", "learn_span=365", "--retention", "0.85")[1]
+        self.assertRegex(said, r"\n  retention 0.7283 costs least\n"
+                               r"  as cheap, as far as these runs tell: 0.7139, 0.7211\n"
+                               r"  the present 0.85 costs [\d.]+ seconds")
+
+    def test_no_seed(self) -> None:
+        """The search has its own, so an option would promise what it does not do."""
+        with self.assertRaises(SystemExit), contextlib.redirect_stderr(io.StringIO()):
+            main(["cheapest", str(EXAMPLE), "--seed", "3"])
+
+    def test_head_of_the_page(self) -> None:
+        """The day made, the deck and the settings; seeds and the retention are the search's."""
+        with tempfile.TemporaryDirectory() as folder:
+            page = Path(folder, "page.html")
+            self.assertEqual(run("cheapest", EXAMPLE, "--retention", "0.85", "--page", page)[0], 0)
+            made = re.search('<section class="made">(.*?)</section>', page.read_text())[1]
+        told = re.findall("<dt>(.*?)</dt><dd>(.*?)</dd>", made)
+        self.assertRegex(told[0][1], rf"^{date.today()}, by street_drill \d")
+        self.assertEqual(told[1:], [("deck", "none"), ("deck_size", "120"), ("learn_span", "30"), ("learn_limit", "8"),
+                                    ("review_limit", "60")])
 
     def test_end(self) -> None:
         self.assertIn("no retention is advised: 0.7 costs least, and is the lowest", run("cheapest", EXAMPLE)[1])

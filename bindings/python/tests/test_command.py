@@ -92,18 +92,27 @@ class Command(unittest.TestCase):
         return dict(line.strip().split(": ", 1) for line in said.splitlines()[1:])[label]
 
     def test_open(self) -> None:
-        """115 streets are held on day 14, are fewer again later, and stay from day 27."""
+        """115 streets are held on day 14, are fewer again later, and for the last three days."""
         held = [day.memorized for day in self.forecast(7).rows]
         self.assertTrue(held[13] < 115 <= held[14] and held[26] < 115 <= min(held[27:]))
-        self.assertEqual(self.told("115 streets held", "--open", 115), "from day 27 to the end, though first on day 14")
-        first = next(day for day, streets in enumerate(held) if streets >= 100)
-        self.assertEqual(self.told("100 streets held", "--open", 100), f"from day {first} to the end")
-        self.assertEqual(self.told("121 streets held", "--open", 121), "on no day")
+        self.assertEqual(self.told("115 streets held to the end", "--open", 115),
+                         "too near the span's end to tell (run a longer span): from day 27, seen for 3 days")
+        self.assertEqual(self.told("115 streets first held", "--open", 115), "on day 14")
+        self.assertEqual(self.told("121 streets held to the end", "--open", 121), "on no day")
+
+    def test_open_in_a_longer_span(self) -> None:
+        """What was seen to hold for 28 days is told plainly, and what was not is none of it."""
+        first = next(day for day, row in enumerate(self.forecast(7).rows) if row.memorized >= 100)
+        for span, told in {first + 28: "from day {}, seen for 28 days",
+                           first + 27: "too near the span's end to tell (run a longer span): from day {}, "
+                                       "seen for 27 days"}.items():
+            said = self.told("100 streets held to the end", "--open", 100, "--set", f"learn_span={span}")
+            self.assertEqual(said, told.format(first))
 
     def test_open_does_not_stay(self) -> None:
         """As forgetting has it: nothing is learned or reviewed any more."""
         course = Course("round", {"memorized": (1, 3, 2, 1), "cost": (0,) * 4, "introduced": (3,) * 4}, {})
-        self.assertIn("2 streets held: on no day to the end, though first on day 1\n", summary(course, 2))
+        self.assertIn("2 streets held to the end: on no day\n  2 streets first held: on day 1\n", summary(course, 2))
 
     def test_open_of_runs(self) -> None:
         """So many of the runs are there by which day, as a look at each run has it."""
@@ -111,14 +120,30 @@ class Command(unittest.TestCase):
         stay = sorted(min(day for day in range(31) if all(streets >= 114 for streets in held[day:])) for held in helds)
         stay = [day for day in stay if day < 30]
         self.assertEqual(stay, [14, 14, 14, 14, 14, 14, 14, 14, 23, 24])
-        told = self.told("114 streets held", "--open", 114, "--runs", 10)
-        self.assertEqual(told, "to the end in 8 of 10 runs from day 14, in 9 of 10 runs from day 23, "
-                               "in all 10 runs from day 24")
+        told = self.told("114 streets held to the end", "--open", 114, "--runs", 10)
+        self.assertEqual(told, "too near the span's end to tell (run a longer span): "
+                               "in 8 of 10 runs from day 14, seen for 16 days, in 9 of 10 runs from day 23, "
+                               "seen for 7 days, in all 10 runs from day 24, seen for 6 days")
+        touch = sorted(next(day for day, streets in enumerate(held) if streets >= 108) for held in helds)
+        self.assertEqual(touch, [13] * 4 + [14] * 6)
+        self.assertEqual(self.told("108 streets first held", "--open", 108, "--runs", 10),
+                         "in all 10 runs by day 14")
         last = [self.forecast(seed).rows[-1].memorized >= 115 for seed in range(7, 27)]
         self.assertEqual(last.count(True), 10)
-        self.assertEqual(self.told("115 streets held", "--open", 115, "--runs", 20),
-                         "to the end in 10 of 20 runs from day 29, in 10 on no day")
-        self.assertEqual(self.told("120 streets held", "--open", 120, "--runs", 3), "on no day in all 3 runs")
+        self.assertRegex(self.told("115 streets held to the end", "--open", 115, "--runs", 20),
+                         "in 10 of 20 runs from day 29, seen for 1 day; in 10 of 20 runs on no day$")
+        self.assertEqual(self.told("120 streets held to the end", "--open", 120, "--runs", 3),
+                         "in all 3 runs on no day")
+
+    def test_open_of_runs_in_doubt(self) -> None:
+        """Half of the runs stay for 31 days, the others for less: those alone are in doubt."""
+        told = self.told("114 streets held to the end", "--open", 114, "--runs", 20, "--set", "learn_span=120")
+        self.assertRegex(told, r"^in 10 of 20 runs from day 89, seen for 31 days; too near the span's end to tell "
+                               r"\(run a longer span\): in 18 of 20 runs from day 96, ")
+
+    def test_one_run(self) -> None:
+        """It says that it is one."""
+        self.assertEqual(self.told("runs"), "one; --runs tells how much is luck")
 
     def test_summary_of_runs(self) -> None:
         """Means with their tenth and ninetieth percentile, and nothing of the first run alone."""
@@ -126,7 +151,7 @@ class Command(unittest.TestCase):
         for label, values in {"in all": [sum(day.cost for day in days) for days in runs],
                               "busiest day": [max(day.cost for day in days) for days in runs],
                               "worst week": [max(sum(day.cost for day in days[start : start + 7])
-                                                 for start in range(0, 30, 7)) for days in runs]}.items():
+                                                 for start in range(0, 28, 7)) for days in runs]}.items():
             values.sort()
             ends = 0.6 * values[0] + 0.4 * values[1], 0.4 * values[3] + 0.6 * values[4]
             told = f"{duration(sum(values) / 5)} ({duration(ends[0])} to {duration(ends[1])})"
@@ -218,6 +243,29 @@ class Processes(unittest.TestCase):
                 ended = subprocess.run(command, cwd=PACKAGE, stdout=full, stderr=subprocess.PIPE, text=True)
             told = "street_drill: standard output: No space left on device\n"
             self.assertEqual((ended.returncode, ended.stderr), (1, told))
+
+    def test_files_beside_a_full_output(self) -> None:
+        with tempfile.TemporaryDirectory() as folder, open("/dev/full", "w") as full:
+            rows = Path(folder, "rows.csv")
+            command = [sys.executable, "-m", "street_drill", "forecast", EXAMPLE, "--rows", rows]
+            self.assertEqual(subprocess.run(command, cwd=PACKAGE, stdout=full, stderr=subprocess.PIPE).returncode, 1)
+            self.assertEqual(len(rows_of(rows)), 30)
+
+    def test_closed_output(self) -> None:
+        """From the start, or by a reader that wants no more."""
+        for option in ["forecast", "--help"]:
+            shell = 'exec "$0" -m street_drill "$@" >&-'
+            arguments = [option] if option == "--help" else [option, EXAMPLE]
+            ended = subprocess.run(["sh", "-c", shell, sys.executable, *arguments], cwd=PACKAGE, stderr=subprocess.PIPE)
+            self.assertEqual((ended.returncode, ended.stderr), (1, b"street_drill: standard output: is closed\n"))
+            reader, writer = os.pipe()
+            os.close(reader)
+            # Python's own help passes over what fails at once, where PYTHONUNBUFFERED is set.
+            buffered = {name: value for name, value in os.environ.items() if name != "PYTHONUNBUFFERED"}
+            ended = subprocess.run([sys.executable, "-m", "street_drill", *arguments], cwd=PACKAGE, env=buffered,
+                                   stdout=writer, stderr=subprocess.PIPE)
+            os.close(writer)
+            self.assertEqual((ended.returncode, ended.stderr), (1, b"street_drill: standard output: Broken pipe\n"))
 
     def test_interrupted(self) -> None:
         """Ctrl-C in the middle of a long run: an end at once, without a word or a file, and without its workers."""

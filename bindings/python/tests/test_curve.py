@@ -40,8 +40,9 @@ class Curve(unittest.TestCase):
 
     def test_table_and_words(self) -> None:
         text = page("north", TRIED, PRESENT, ["the present 0.85 costs <more>"])
-        rows = re.findall(r"<tr><td>([\d.]+)</td><td>([\d.,]+)</td><td>([\d.,]+)</td></tr>", text)
-        told = sorted({(each.retention, each.mean, each.held) for each in [*TRIED, PRESENT]})
-        self.assertEqual([float(mean) for _, mean, _ in rows], [round(mean, 2) for _, mean, _ in told])
+        rows = re.findall(r"<tr><td>([\d.]+)</td><td>([\d.,]+)</td><td>([\d.,]+)</td><td>([\d.,]+)</td></tr>", text)
+        told = sorted({(each.retention, each.mean, 2 * each.error) for each in [*TRIED, PRESENT]})
+        self.assertEqual([(float(mean), float(doubt)) for _, mean, doubt, _ in rows],
+                         [(round(mean, 2), round(doubt, 2)) for _, mean, doubt in told])
         self.assertIn("<p>the present 0.85 costs &lt;more&gt;</p>", text)
-        self.assertAlmostEqual(min(float(mean) for _, mean, _ in rows), FOUND.mean, places=2)
+        self.assertAlmostEqual(min(float(mean) for _, mean, _, _ in rows), FOUND.mean, places=2)

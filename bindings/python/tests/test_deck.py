@@ -4,6 +4,7 @@ import math
 import re
 import tempfile
 import unittest
+import zipfile
 from dataclasses import replace
 from datetime import date
 from pathlib import Path
@@ -81,6 +82,20 @@ class Sense(unittest.TestCase):
         }.items():
             self.assertIn(f"d.csv: line 3, {told}", mistake_of(HEAD + ROW.replace("Mill", "Hill") + row))
 
+    def test_dropped(self) -> None:
+        """A street that was drilled, and whose stability says that it was not, is not left out without a word."""
+        for stability in ["0", "-3.5", "1e-9", "nan"]:
+            self.assertRegex(mistake_of(HEAD + ROW.replace("3.5", stability)),
+                             rf"^d.csv: line 2, column 3 \(stability\): '{stability}' says that nobody has drilled")
+        for row in [ROW.replace("3.5", "-inf"), "High Street,0,0,-inf,0,0,0.9,0,0\n"]:
+            self.assertEqual(mistake_of(HEAD + row), "")
+
+    def test_all_cells_of_a_row(self) -> None:
+        """Those that cannot be read, and beside them those that can and make no sense."""
+        told = mistake_of(HEAD + "Mill Lane,11,x,5,y,3,90,4,z\n").splitlines()
+        self.assertEqual([line.split("(")[1].split(")")[0] for line in told],
+                         ["difficulty", "stability", "last_date", "due", "desired_retention", "lapses"])
+
     def test_ends(self) -> None:
         for row in [ROW.replace(",5,", ",1,"), ROW.replace(",5,", ",10,"), ROW.replace("-2,1", "0,1"), UNKNOWN]:
             self.assertEqual(mistake_of(HEAD + row), "")
@@ -91,6 +106,27 @@ class Sense(unittest.TestCase):
         towns = [ROW.replace("Mill Lane", f"Mill Lane,{town}") for town in ("Leeds", "York")]
         self.assertEqual(mistake_of(HEAD.replace("street", "street,town") + "".join(towns)), "")
         self.assertIn("stands on line 2", mistake_of(HEAD.replace("street", "street,town") + towns[0] * 2))
+
+    def test_names_twice(self) -> None:
+        """What may be two streets is told: another column tells them apart, or the name is another's."""
+        for head, first, second, column in [("Name", "Mill Lane", "mill lane ", "1 (name)"),
+                                            ("Straße,Note", "Mill Lane,x", "Mill Lane,", "1 (straße)"),
+                                            ("No,Street name", "1,Mill Lane", "2,Mill Lane", "2 (street_name)"),
+                                            ("No,Label", "1,Mill Lane", "2,Mill Lane", "2 (label)")]:
+            rows = [ROW.replace("Mill Lane", text) for text in (first, second)]
+            head = HEAD.replace("street", head)
+            notes = of_text("d.csv", head + "".join(rows)).notes
+            told = rf"d.csv: line 3, column {re.escape(column)}: '[Mm]ill [Ll]ane' stands on line 2 already; "
+            self.assertEqual((len(notes), bool(re.match(told, notes[0]))), (1, True), notes)
+            self.assertEqual(of_text("d.csv", head + rows[0] + rows[1].replace("ane", "ake")).notes, ())
+        many = HEAD.replace("street", "name") + ROW * 3 + ROW.replace("Mill", "Hill") * 2
+        self.assertIn("on line 2 already, and 1 more names stand", of_text("d.csv", many).notes[0])
+        self.assertIn("stands on line 2 already", mistake_of(HEAD.replace("street", "Straße") + ROW * 2))
+
+    def test_no_wrong_refusal(self) -> None:
+        town = HEAD.replace("street", "street,town") + ROW.replace("Mill Lane", ",Leeds") * 2
+        self.assertEqual((mistake_of(town), of_text("d.csv", town).notes), ("", ()))
+        self.assertEqual(mistake_of(HEAD.replace("street", "street type") + ROW.replace("Mill Lane", "Road") * 2), "")
 
     def test_streets_without_a_name(self) -> None:
         self.assertEqual(mistake_of(HEAD + UNKNOWN.replace('"New, Street"', "") * 2), "")
@@ -128,6 +164,11 @@ class Spreadsheets(unittest.TestCase):
     def test_commas(self) -> None:
         self.check(self.SEMICOLONS.replace(",", ".").replace(";", ","))
 
+    def test_told_delimiter(self) -> None:
+        text = "sep=;\r\n" + self.SEMICOLONS.replace("\n;;;;;;;;;\nM", "\nM")
+        self.check(text)
+        self.check(text.replace(";", "\t"))
+
     def test_counts_with_a_fraction(self) -> None:
         self.check(self.SEMICOLONS.replace(";4;1", ";4,0;1,"))
 
@@ -138,6 +179,14 @@ class Spreadsheets(unittest.TestCase):
             self.assertEqual(read(str(path)).cards[0], MILL_LANE)
             path.write_bytes((HEAD + ROW.replace("Mill", "Mühl")).encode("cp1252"))
             with self.assertRaisesRegex(Mistake, "line 2: is not UTF-8; a spreadsheet can save it"):
+                read(str(path))
+
+    def test_workbook(self) -> None:
+        with tempfile.TemporaryDirectory() as folder:
+            path = Path(folder, "d.xlsx")
+            with zipfile.ZipFile(path, "w") as book:
+                book.writestr("xl/workbook.xml", "")
+            with self.assertRaisesRegex(Mistake, r"d\.xlsx: is a spreadsheet's own file, or an archive: save"):
                 read(str(path))
 
     def test_not_yet_drilled(self) -> None:
@@ -167,6 +216,13 @@ class Dates(unittest.TestCase):
     def test_as_days(self) -> None:
         self.assertEqual(of_text("d.csv", HEAD + self.DATED, MONDAY).cards, (MILL_LANE,))
 
+    def test_with_midnight(self) -> None:
+        for midnight in [" 00:00:00", "T00:00"]:
+            dated = self.DATED.replace("-21", f"-21{midnight}").replace("-24", f"-24{midnight}")
+            self.assertEqual(of_text("d.csv", HEAD + dated, MONDAY).cards, (MILL_LANE,))
+        self.assertIn("'2026-11-21 08:00:00' is a date with a time of day: write the date alone",
+                      mistake_of(HEAD + self.DATED.replace("-21", "-21 08:00:00"), MONDAY))
+
     def test_mistakes(self) -> None:
         self.assertIn("column 4 (last_date): '2026-11-21' is a date, and the settings have no first_day",
                       mistake_of(HEAD + self.DATED))
@@ -181,7 +237,7 @@ class Dates(unittest.TestCase):
 class Kept(unittest.TestCase):
     def test_as_the_run(self) -> None:
         """`kept` are those that the run keeps."""
-        deck = of_text("d.csv", HEAD + UNKNOWN + ROW + ROW.replace("3.5", "1e-9").replace("Mill", "Hill"))
+        deck = of_text("d.csv", HEAD + UNKNOWN + ROW + "High Street,5,1e-9,-inf,1,3,0.9,0,0\n")
         forecast = simulate(SimulatorConfig(deck_size=4, learn_span=20, learn_limit=0), PARAMETERS, deck.cards)
         self.assertEqual(len(forecast.cards), len(deck.kept))
 

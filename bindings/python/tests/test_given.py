@@ -8,7 +8,8 @@ from array import array
 from dataclasses import asdict, astuple, replace
 from pathlib import Path
 
-from street_drill import Card, SimulatorConfig, forecasts, optimal_retention, read_deck, read_settings, simulate
+from street_drill import (Card, Refusal, SimulatorConfig, forecasts, optimal_retention, read_deck, read_settings,
+                          simulate)
 from street_drill.decimals import exact, nearest
 from street_drill.given import CARD_COUNTS, CARD_FLOATS
 
@@ -115,6 +116,40 @@ class Given(unittest.TestCase):
         self.raises("seed must be a whole number, and is 1.5", lambda: simulate(SMALL, PARAMETERS, seed=1.5))
         self.raises("rounds must be a whole number", lambda: optimal_retention(SMALL, PARAMETERS, rounds="64"))
 
+    def test_what_is_none(self) -> None:
+        for config in [None, {}, {"deck_size": 20}]:
+            self.raises(f"config must be a SimulatorConfig, and is {config!r}", lambda: simulate(config, PARAMETERS))
+        self.raises("seeds must be a list, and is 5", lambda: forecasts(SMALL, PARAMETERS, seeds=5))
+        self.raises("column difficulty must be a list, and is 5.0; a single card stands in a list",
+                    lambda: simulate(SMALL, PARAMETERS, asdict(KNOWN)))
+        for call in [lambda workers: forecasts(SMALL, PARAMETERS, seeds=[1, 2], workers=workers),
+                     lambda workers: optimal_retention(SMALL, PARAMETERS, workers=workers)]:
+            self.raises("workers must be a whole number, and is 'x'", lambda: call("x"))
+            for number in [0, -1]:
+                self.raises(f"workers is {number}, and must be 1 or more", lambda: call(number), ValueError)
+
+    def test_a_refused_field_is_named(self) -> None:
+        """By the number of the table and by its name."""
+        for settings, told in [
+            ({"max_ivl": 0.5}, "refused 4 0: max_ivl must be 1 to 36,500"),
+            ({"max_cost_perday": math.nan}, "refused 4 0: max_cost_perday must be a number"),
+            ({"first_rating_prob": (0, 0, 0, 0)}, "refused 4 0: first_rating_prob: a weight is below 0 or not finite"),
+            ({"state_rating_costs": ((1,) * 4, (1, -1, 1, 1), (1,) * 4)}, "4 0: state_rating_costs[1]: a cost is"),
+            ({"deck_size": 0}, "refused 2 0: deck_size is 0"), ({"learn_span": 0}, "refused 3 0: learn_span is not 1"),
+        ]:
+            for call in [lambda config: simulate(config, PARAMETERS),
+                         lambda config: optimal_retention(config, PARAMETERS),
+                         lambda config: optimal_retention(config, PARAMETERS, rounds=0)]:
+                self.raises(told, lambda: call(replace(SMALL, **settings)), Refusal)
+        self.raises("refused 4 0: desired_retention must be finite",
+                    lambda: simulate(SMALL, PARAMETERS, desired_retention=math.nan), Refusal)
+        self.raises("refused 4 0: rounds must be 1 to 64",
+                    lambda: optimal_retention(SMALL, PARAMETERS, rounds=0), Refusal)
+        for field, told in [("due", "must be within 16,777,216 days"), ("stability", "must be finite"),
+                            ("desired_retention", "must be finite")]:
+            cards = [KNOWN, replace(KNOWN, **{field: math.inf})]
+            self.raises(f"refused 5 1: card 1: {field} {told}", lambda: simulate(SMALL, PARAMETERS, cards), Refusal)
+
     def test_none_is_no_limit(self) -> None:
         limited = replace(SMALL, learn_limit=2, review_limit=1, suspend_after_lapses=1, max_cost_perday=60.0)
         none = dict.fromkeys(["learn_limit", "review_limit", "suspend_after_lapses"])
@@ -163,5 +198,9 @@ class Answers(unittest.TestCase):
         with tempfile.TemporaryDirectory() as folder:
             path = Path(folder, "deck.csv")
             path.write_bytes(damage.DECK)
-            cards = read_deck(str(path)).cards
+            deck = read_deck(str(path))
+        cards = deck.cards
+        self.assertEqual(repr(deck), f"<Deck of {path}: 3 streets, 2 of them known>")
+        self.assertRegex(repr(given), r"^<Settings of .*new_round\.toml: SimulatorConfig\(deck_size=120, .*\), "
+                                      r"34 parameters, desired_retention=0\.9, seed=7>$")
         self.assertEqual((len(cards), cards[0]), (3, Card(5.25, 3.5, -2, 1, 3, nearest(exact("0.9")), 4, 1)))

@@ -41,6 +41,9 @@ class Settings(unittest.TestCase):
             ("--set", "max_ivl=0", "--set 'max_ivl=0' (max_ivl): refused 4 0: must be 1 to 36,500"),
             ("--set", "max_ivl", "--set 'max_ivl': end of document: Expected '='"),
             ("--retention", "90", "--retention (desired_retention): must be above 0 and below 1; 90 % is written 0.9"),
+            ("--retention", "90%", "--retention: '90%' is a percentage: 90% is written 0.9\n"),
+            ("--retention", "0,9", "--retention: '0,9' has a decimal comma: write a point\n"),
+            ("--retention", "high", "--retention: 'high' is no decimal number\n"),
             ("--seed", -1, "--seed (seed): must be 0 to 18446744073709551615"),
         ]:
             status, said, errors = run("forecast", EXAMPLE, option, value)
@@ -55,17 +58,30 @@ class Settings(unittest.TestCase):
         self.assertEqual(errors.count("(deck): is no setting"), 2)
         self.assertEqual(errors.count("(seed): must be"), 2)
 
+    def test_twice(self) -> None:
+        errors = run("forecast", EXAMPLE, "--set", "learn_limit=4", "--set", "learn_limit=5", "--seed", 3)[2]
+        self.assertEqual(errors, "street_drill: --set 'learn_limit=5' (learn_limit): is set by --set 'learn_limit=4' "
+                                 "already\n")
+        for option, first, second in [("--retention", "0.8", "0.9"), ("--deck", "a.csv", "b.csv"), ("--runs", "2", "3")]:
+            with self.assertRaises(SystemExit), contextlib.redirect_stderr(io.StringIO()) as told:
+                main(["forecast", str(EXAMPLE), option, first, option, second])
+            self.assertIn(f"argument {option}: stands twice", told.getvalue())
+
+    def test_told_once(self) -> None:
+        """An option's mistake, whatever the number of settings files."""
+        self.assertEqual(run("forecast", SIX, NINE, "--set", "desired_retension=0.8")[2].count("\n"), 1)
+
     def test_count_of_parameters(self) -> None:
         for text, count in [("[1, 2]", 2), ("[]", 0)]:
             errors = run("forecast", EXAMPLE, "--set", f"parameters={text}")[2]
             self.assertIn(f"(parameters): refused 1 34: there are {count} parameters, and 34 are needed\n", errors)
 
     def test_what_is_not_an_option(self) -> None:
-        for options in [["--runs", "1001"], ["--runs", "0"], ["--seed", "x"], ["--retention", "high"], ["--open", "0"]]:
+        for options in [["--runs", "1001"], ["--runs", "0"], ["--seed", "x"], ["--open", "0"]]:
             with self.assertRaises(SystemExit) as ended, contextlib.redirect_stderr(io.StringIO()) as errors:
                 main(["forecast", str(EXAMPLE), *options])
             self.assertEqual(ended.exception.code, 2)
-            self.assertIn(f"argument {options[0]}: invalid", errors.getvalue())
+            self.assertRegex(errors.getvalue(), rf"^street_drill: argument {options[0]}: invalid .*\n$")
 
     def test_version(self) -> None:
         with self.assertRaises(SystemExit) as ended, contextlib.redirect_stdout(io.StringIO()) as said:
@@ -92,6 +108,29 @@ class WithDeck(unittest.TestCase):
         # Not a new label alone: the reviews lie on other days.
         self.assertNotEqual(said, kept[1].replace(",0.9,", ",0.7,"))
         self.assertIn("  retention: the deck's 3 are reviewed at 0.7\n", summary)
+
+    def test_how_many_are_known(self) -> None:
+        """With a deck it is always told, also where none is taken for known."""
+        for command in [["forecast", EXAMPLE], ["cheapest", EXAMPLE]]:
+            self.assertIn("  streets: 3 known by the deck, 117 new\n", run(*command, "--deck", self.deck)[1])
+        self.deck.write_text(f"{HEAD}High Street,,,,,,,,\n")
+        self.assertIn("  streets: 0 known by the deck, 120 new\n", run("forecast", EXAMPLE, "--deck", self.deck)[1])
+        self.assertNotIn("streets: ", run("forecast", EXAMPLE)[1])
+
+    def test_notes(self) -> None:
+        """What is not refused and likely not meant is told, once for several settings files."""
+        self.deck.write_text(self.deck.read_text().replace("street,", "name,") + ROW.replace("Mill", "Mill 0"))
+        for options, told in [
+            ([EXAMPLE, SIX, "--deck", self.deck], f"{self.deck}: line 5, column 1 (name): 'Mill 0 Lane' stands on "
+             "line 2 already; a street that stands twice is drilled and counted twice"),
+            ([EXAMPLE, "--set", "desired_retention_for_deck=0.8"], "--set 'desired_retention_for_deck=0.8' "
+             "(desired_retention_for_deck): changes nothing for new_round, which has no street that is known"),
+            ([EXAMPLE, "--set", "suspend_after_lapses=0"], "--set 'suspend_after_lapses=0' (suspend_after_lapses): is "
+             "0: every street retires at its first turn; without the key there is no limit"),
+        ]:
+            status, said, errors = run("forecast", *options)
+            self.assertEqual((status, errors), (0, f"street_drill: note: {told}\n"))
+        self.assertIn("note: --set", run("cheapest", EXAMPLE, "--set", "desired_retention_for_deck=0.8")[2])
 
     def test_new_streets_too(self) -> None:
         self.assertIn("  retention: 0.8 for 117 new streets; the deck's 3 keep their own, 0.9\n",
@@ -179,6 +218,16 @@ class Outputs(unittest.TestCase):
         self.assertEqual(run("forecast", own)[0], 0)
         errors = run("forecast", own, "--rows", self.folder / "fsrs.txt")[2]
         self.assertIn("fsrs.txt: was read, and is not written over", errors)
+
+    def test_read_only(self) -> None:
+        rows, link = self.folder / "rows.csv", self.folder / "link.csv"
+        rows.write_text("as it was\n")
+        rows.chmod(0o444)
+        link.symlink_to(rows)
+        for path in (rows, link):
+            told = f"street_drill: {path}: is read-only, and is not written over\n"
+            self.assertEqual(run("forecast", EXAMPLE, "--rows", path), (2, "", told))
+        self.assertEqual(rows.read_text(), "as it was\n")
 
     def test_page_of_the_search(self) -> None:
         page = self.folder / "cheapest.html"

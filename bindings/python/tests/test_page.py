@@ -16,7 +16,7 @@ from pathlib import Path
 
 from street_drill import Mistake, forecasts, settings, simulate
 from street_drill.axes import BOTTOM, TOP, axis
-from street_drill.course import COLUMNS, Course, duration, of_runs, opening
+from street_drill.course import COLUMNS, Course, duration, of_columns, of_runs, opening
 from street_drill.listing import of_text
 from street_drill.page import _beside, page
 from street_drill.picture import TITLES
@@ -91,7 +91,7 @@ class Page(unittest.TestCase):
             self.assertEqual(list(drawn), kinds + ["smooth c0 l0"] * jumps)
             numbers = map(float, re.findall(r"[\d.]+", " ".join(drawn.values())))
             self.assertTrue(all(0 <= number <= 480 for number in numbers))
-        self.assertRegex(figures(text)["day", "memorized"], r"80 streets<.*>day \d+<")
+        self.assertRegex(figures(text)["day", "memorized"], r"80 streets<.*>day 10\? in all 5 runs<")
 
     def test_weeks(self) -> None:
         """A week's sums, what stands at its end, and no number for the two days that are left."""
@@ -109,7 +109,7 @@ class Page(unittest.TestCase):
         columns = {name: (1.0,) * 90 for name in COLUMNS}
         dated = Course("round", columns, {}, first_day=date(2026, 11, 23))
         months = told(page([dated]))["views"]["month"]["courses"][0]
-        self.assertEqual(months["month"], ["2026-11", "2026-12", "2027-01", "2027-02"])
+        self.assertEqual(months["month"], ["Nov 2026", "Dec 2026", "Jan 2027", "Feb 2027"])
         self.assertEqual(months["cost"], [None, 31, 31, None])
         numbered = told(page([Course("round", columns, {})]))["views"]["month"]["courses"][0]
         self.assertEqual((numbered["month"], numbered["cost"]), (["1", "2", "3"], [30, 30, 30]))
@@ -126,7 +126,24 @@ class Page(unittest.TestCase):
         picture = figures(text)["day", "memorized"]
         self.assertIn(">23 Nov<", picture)
         day = opening(course.columns["memorized"], 80)
-        self.assertIn(f">{(course.first_day + timedelta(day)).isoformat()}<", picture)
+        self.assertIn(f">{(course.first_day + timedelta(day)).isoformat()}?<", picture)
+
+    def test_different_first_days(self) -> None:
+        """The pictures number the days, since a place there is no one date; the tables and the answers have dates."""
+        course = Course("round", {name: (100.0,) * 90 for name in COLUMNS}, {})
+        dated = [replace(course, first_day=date(2026, month, 23)) for month in (10, 11)]
+        for courses in [dated, [dated[0], course]]:
+            text = page(courses, 80)
+            self.check(text)
+            pictures = figures(text)
+            self.assertNotRegex("".join(pictures.values()), r">\d+ (Oct|Nov)<|>(Oct|Nov) 2026<|>2026-")
+            self.assertIn(">day 0<", pictures["day", "memorized"])
+            self.assertEqual(told(text)["views"]["month"]["courses"][0]["month"], ["1", "2", "3"])
+            self.assertNotIn('"date"', re.search(r'type="application/json">(.*?)</script>', text)[1])
+            self.assertIn("in the pictures days count from each one's own first", text)
+            self.assertIn("from 2026-10-23 (day 0), seen for 90 days", text)
+            self.assertIn("<td>2026-10-23</td>", text)
+        self.assertNotIn("each one's own first", page([course, course]))
 
     def test_mark_of_the_day(self) -> None:
         """Courses that come to so many streets have a dot each; their days are told where they have room."""
@@ -134,15 +151,19 @@ class Page(unittest.TestCase):
         for count, told_of in [(2, 2), (5, 0)]:
             picture = figures(page([course] * count, 80))["day", "memorized"]
             self.assertEqual(picture.count("<circle"), count)
-            self.assertEqual(len(re.findall(r">day \d+<", picture)), told_of)
+            self.assertEqual(picture.count(">day 10?<"), told_of)
         self.assertNotIn("<circle", figures(page([course], 121))["day", "memorized"])
 
-    def test_mark_of_the_mean_s_day(self) -> None:
-        """Of several runs the mark lies on the strong line, which is their mean."""
-        course = runs_of("round", 5)
-        day = opening(course.bands["memorized"].mean, 100)
-        self.assertNotEqual(day, opening(course.columns["memorized"], 100))
-        self.assertIn(f">day {day}<", figures(page([course], 100))["day", "memorized"])
+    def test_marks_as_the_text_has_them(self) -> None:
+        """Of several runs the days on which half, nine of ten and all stay, with a ? where the end is too near."""
+        runs = [{name: (0.0,) * day + (10.0,) * (100 - day) for name in COLUMNS} for day in [*range(1, 10), 75]]
+        text = page([of_columns("round", runs)], 10)
+        marks = re.findall(r">(day [^<]*)</text>", figures(text)["day", "memorized"])
+        self.assertEqual(marks, ["day 5 in 5 of 10 runs", "day 9 in 9 of 10 runs", "day 75? in all 10 runs"])
+        self.assertIn("in 5 of 10 runs from day 5, seen for 95 days, in 9 of 10 runs from day 9, seen for 91 days; "
+                      "too near the span&#x27;s end to tell (run a longer span): in all 10 runs from day 75, seen for "
+                      "25 days<", text)
+        self.assertIn("A day with ? is too near the span's end", text)
 
     def test_mark_by_week(self) -> None:
         """Day 10 of a straight line is at 11 streets, and its dot lies on the line of the weeks' ends."""
@@ -185,8 +206,8 @@ class Page(unittest.TestCase):
             text = page([runs_of("round", 1), *[runs_of("other", 3)] * (count - 1)], 80)
             self.check(text)
             # The one run's, and those of three.
-            self.assertEqual(len(re.findall(r">from day \d+ to the end<", text)), 1)
-            self.assertEqual(text.count("to the end in all 3 runs from day"), count - 1)
+            self.assertEqual(len(re.findall(r": from day \d+, seen for \d+ days<", text)), 1)
+            self.assertEqual(text.count(": in all 3 runs from day"), count - 1)
 
     def tables(self, text: str) -> dict[str, str]:
         """The tables by their names."""
@@ -340,7 +361,7 @@ class Browser(unittest.TestCase):
             said, _ = self.found(page(courses, 100), """
                 const html = document.documentElement;
                 const answer = [...document.querySelectorAll("dd, .facts td")]
-                    .find((each) => each.textContent.includes("to the end"));
+                    .find((each) => each.textContent.includes("from day"));
                 const box = answer.getBoundingClientRect();
                 return [html.scrollWidth <= html.clientWidth, box.bottom < 844, box.width > 400];""", "500,844")
             self.assertEqual(said, [True, True, True], count)

@@ -8,7 +8,7 @@ from dataclasses import fields, replace
 
 from street_drill import Card, Refusal, SimulatorConfig, simulate
 from street_drill.model import CARD_FLOATS
-from street_drill.places import wrong_field, wrong_setting
+from street_drill.rules import wrong_field, wrong_setting
 
 from .common import PARAMETERS
 

@@ -1,9 +1,13 @@
 """A region of depots."""
 
 import csv
+import html
 import importlib.util
+import io
+import math
 import os
 import re
+import subprocess
 import sys
 import tempfile
 import unittest
@@ -13,12 +17,14 @@ from pathlib import Path
 from street_drill import settings, simulate
 from street_drill.course import COLUMNS, Course, of_columns
 from street_drill.deck import of_text
-from street_drill.region import total
+from street_drill.region import seed_of, total
 
 from . import damage
 from .common import PACKAGE
 from .test_command import run
 
+# The first of several runs of depot 2, whose own seed is 7: the same on each machine.
+DEPOT_2 = 60295176459626
 EXAMPLE = (PACKAGE / "examples" / "new_round.toml").read_text()
 
 
@@ -86,8 +92,8 @@ class Region(unittest.TestCase):
         outputs = ["--summary", self.depots / "region.csv", "--page", self.out / "a.html"]
         for _ in range(2):
             status, said, errors = run("region", self.depots, *outputs)
-            told = f"street_drill: note: {self.depots / 'south.csv'}: has no settings, south.toml, and is left out\n"
-            self.assertEqual((status, errors), (0, told))
+            told = f"street_drill: note: {self.depots / 'south.csv'}: has no settings, south.toml, and is left out"
+            self.assertEqual((status, errors.splitlines()[:-1]), (0, [told]))
         self.assertIn("region of 3 depots", said)
 
     def test_names_that_differ_in_case(self) -> None:
@@ -108,9 +114,22 @@ class Region(unittest.TestCase):
             alone = dict(line.strip().split(": ", 1) for line in
                          run("forecast", path, *deck, "--open", 100)[1].splitlines()[1:])
             line = next(line for line in said.splitlines() if line.startswith(f"depot {number} "))
-            labels = "span", "100 streets held", "held on the last day", "in all", "busiest day"
-            self.assertEqual(re.split("  +", line), [f"depot {number}", *(alone[label] for label in labels)])
-            self.assertIn(f"<td>{alone['100 streets held']}</td>", (self.out / "a.html").read_text())
+            labels = ("span", "100 streets held to the end", "100 streets first held", "held on the last day", "in all",
+                      "busiest day", "overdue at the end", "streets")
+            self.assertEqual(re.split("  +", line), [f"depot {number}", *(alone[label] for label in labels
+                                                                         if label in alone)])
+            told = html.escape(alone["100 streets held to the end"])
+            self.assertIn(f"<td>{told}</td>", (self.out / "a.html").read_text())
+
+    def test_notes_of_decks(self) -> None:
+        """As `forecast` tells them; from processes too."""
+        for number in (0, 2):
+            deck = damage.DECK.replace(b"street,", b"name,") + b"Mill Lane,5,3.5,-2,1,3,0.9,4,1\n"
+            (self.depots / f"depot {number}.csv").write_bytes(deck)
+        status, _, errors = self.region("a", "--workers", 2, "--runs", 2)
+        self.assertEqual(status, 0)
+        told = r"street_drill: note: .*depot \d\.csv: line 5, column 1 \(name\): 'Mill Lane' .*\n"
+        self.assertRegex(errors, f"^({told}){{2}}$")
 
     def test_runs(self) -> None:
         """A depot's numbers are those of its runs, and the region's those of the sums of each run."""
@@ -118,13 +137,53 @@ class Region(unittest.TestCase):
         with (self.out / "a.csv").open(newline="") as file:
             row = list(csv.DictReader(file))[2]
         given = settings.read(str(self.depots / "depot 2.toml"))
-        made = [simulate(given.config, given.parameters, seed=seed).rows for seed in range(7, 12)]
+        first = seed_of("depot 2", 7)
+        self.assertEqual((first, row["seed"]), (DEPOT_2, str(DEPOT_2)))
+        made = [simulate(given.config, given.parameters, seed=first + run).rows for run in range(5)]
         seconds = sorted(sum(day.cost for day in days) for days in made)
         self.assertAlmostEqual(float(row["seconds"]), sum(seconds) / 5, places=2)
         self.assertAlmostEqual(float(row["seconds_p10"]), 0.6 * seconds[0] + 0.4 * seconds[1], places=2)
-        self.assertEqual((row["opens_half"], row["opens_most"], row["opens_all"]), ("12", "13", "13"))
+        stays = sorted(1 + max(day for day, row in enumerate(days) if row.memorized < 100) for days in made)
+        touches = sorted(next(day for day, row in enumerate(days) if row.memorized >= 100) for days in made)
+        for name, days in [("opens", stays), ("first_held", touches)]:
+            self.assertEqual([row[f"{name}_{share}"] for share in ("half", "most", "all")],
+                             [str(days[place]) for place in (2, 4, 4)])
         self.region("b", "--runs", 5, "--workers", 1, "--open", 100)
         self.assertEqual((self.out / "a.csv").read_bytes(), (self.out / "b.csv").read_bytes())
+
+    def test_luck_of_several_runs(self) -> None:
+        """Depots alike in all but their names are not lucky in the same runs; a depot's row is that of its seed."""
+        self.region("a", "--runs", 5)
+        with (self.out / "a.csv").open(newline="") as file:
+            north, _, south = csv.DictReader(file)
+        self.assertNotEqual(north["seconds"], south["seconds"])
+        alone = run("forecast", self.depots / "depot 0.toml", "--runs", 5, "--seed", north["seed"], "--rows", "-")[1]
+        seconds = math.fsum(float(day["cost"]) for day in csv.DictReader(io.StringIO(alone)))
+        self.assertAlmostEqual(float(north["seconds"]), seconds, places=1)
+
+    def test_luck_of_a_single_run(self) -> None:
+        """It is that of `forecast`, and where depots share it that is told."""
+        told = (f"street_drill: note: {self.depots}: 3 depots have the seed 7 and draw alike, so that their sum "
+                "multiplies one luck; with --runs each has its own\n")
+        self.assertEqual(self.region("a")[2], told)
+        self.assertEqual(self.region("a", "--runs", 2)[2], "")
+        (self.depots / "depot 0.toml").write_text(EXAMPLE.replace("seed = 7", "seed = 8"))
+        (self.depots / "depot 1.toml").write_text(EXAMPLE.replace("seed = 7", "seed = 9"))
+        self.assertEqual(self.region("a")[2], "")
+
+    def test_not_written_over_unasked(self) -> None:
+        self.addCleanup(os.chdir, os.getcwd())
+        os.chdir(self.out)
+        self.assertEqual(run("region", self.depots)[0], 0)
+        for name, option in [("region.csv", "--summary"), ("region.html", "--page")]:
+            Path(name).write_text("mine\n")
+            told = f"street_drill: {name}: is there already; {option} {name} writes over it\n"
+            self.assertEqual(run("region", self.depots), (2, "", told))
+            self.assertEqual(Path(name).read_text(), "mine\n")
+            Path(name).unlink()
+        Path("region.csv").write_text("mine\n")
+        self.assertEqual(run("region", self.depots, "--summary", "region.csv")[0], 0)
+        self.assertIn("depot 2", Path("region.csv").read_text())
 
     def test_total_of_runs(self) -> None:
         def depot(*costs: tuple[float, ...]) -> Course:
@@ -146,8 +205,36 @@ class Region(unittest.TestCase):
     def test_no_process(self) -> None:
         with unittest.mock.patch("os.fork", side_effect=BlockingIOError(11, "Resource temporarily unavailable")):
             told = "--workers: [Errno 11] Resource temporarily unavailable; 1 needs no other thread or process\n"
-            self.assertEqual(self.region("a", "--workers", 2), (2, "", f"street_drill: {told}"))
+            status, said, errors = self.region("a", "--workers", 2)
+            self.assertEqual((status, said, errors.partition("street_drill: --")[2]), (2, "", told.removeprefix("--")))
             self.assertEqual(self.region("a", "--workers", 1)[0], 0)
+
+    def test_some_processes_and_threads(self) -> None:
+        """Where not all of the pool can be started, those that were are ended: the command does not wait for them."""
+        for fault, told in [("""
+import os
+fork, left = os.fork, [1]
+def second_fails():
+    if not left:
+        raise BlockingIOError(11, "Resource temporarily unavailable")
+    left.pop()
+    return fork()
+os.fork = second_fails
+""", "[Errno 11] Resource temporarily unavailable"), ("""
+import threading
+start = threading.Thread.start
+def feeder_fails(thread):
+    if thread.name.startswith("QueueFeeder"):
+        raise RuntimeError("can't start new thread")
+    start(thread)
+threading.Thread.start = feeder_fails
+""", "can't start new thread")]:
+            code = f"{fault}\nfrom street_drill.__main__ import run\nrun()\n"
+            outputs = ["--summary", self.out / "a.csv", "--page", self.out / "a.html"]
+            command = [sys.executable, "-c", code, "region", self.depots, "--workers", "3", *outputs]
+            ended = subprocess.run(command, cwd=PACKAGE, capture_output=True, text=True, timeout=60)
+            last = f"street_drill: --workers: {told}; 1 needs no other thread or process"
+            self.assertEqual((ended.returncode, ended.stderr.splitlines()[-1]), (2, last))
 
     def test_no_depot(self) -> None:
         self.assertIn("has no settings file", run("region", self.out)[2])

@@ -80,6 +80,26 @@ class Reading(unittest.TestCase):
         self.assertEqual([line.split(": ")[1] for line in told.splitlines()],
                          ["line 1, column 8 (deck)", "line 2, column 8 (seed)", "line 3, column 13 (deck_size)"])
 
+    def test_causes(self) -> None:
+        """What TOML cannot read is told by what it looks like."""
+        for value, told in {
+            "0,9": "'0,9' has a decimal comma: write a point", "90%": "'90%' is a percentage: 90% is written 0.9",
+            "0,9  # high": "'0,9' has a decimal comma",
+            "p.txt": "is a text, which stands in quotes: max_ivl = \"p.txt\"",
+            "True": "'True' is written in small letters", "1'000": "\"1'000\" has marks between its thousands",
+            "21.11.2026": "is a date, perhaps: dates are written as 2026-11-23",
+            "2026-13-41": "'2026-13-41' is no date of the calendar",
+        }.items():
+            told_of_file = mistake_of(f"seed = 1\n  max_ivl = {value}\nlearn_span = 9\n")
+            self.assertRegex(told_of_file, r"^s\.toml: line 2, column 13 \(max_ivl\): ")
+            self.assertIn(told, told_of_file)
+            self.assertRegex(mistake_of("", ("--set 'x'", f"max_ivl={value}")), r"^--set 'x' \(max_ivl\): ['\"]")
+
+    def test_nearest_name(self) -> None:
+        self.assertEqual(mistake_of("desired_retension = 0.8"),
+                         "s.toml: line 1, column 21 (desired_retension): is no setting; is desired_retention meant?")
+        self.assertIn("is no setting; the settings are deck_size, ", mistake_of("zzz = 0.8"))
+
     def test_first_day(self) -> None:
         self.assertEqual(of_text("s.toml", "first_day = 2026-11-23").first_day, date(2026, 11, 23))
 
@@ -92,6 +112,12 @@ class Options(unittest.TestCase):
         self.assertEqual((given.config.deck_size, given.seed), (7, 4))
         self.assertEqual((given.place("seed"), given.place("max_ivl")), ("--seed (seed)", "s.toml (max_ivl)"))
         self.assertEqual(of_text("s.toml", "max_ivl = 5").place("max_ivl[2]"), "s.toml: line 1, column 11 (max_ivl[2])")
+
+    def test_set_twice(self) -> None:
+        options = [("--set 'seed=2'", "seed=2"), ("--set 'seed=3'", "seed=3"), ("--seed", "seed = 3")]
+        told = mistake_of("seed = 1", *options)
+        self.assertEqual(told.splitlines(), ["--set 'seed=3' (seed): is set by --set 'seed=2' already",
+                                             "--seed (seed): is set by --set 'seed=3' already"])
 
     def test_places(self) -> None:
         told = mistake_of("seed = -1", ("--retention", "desired_retention = 90"), ("--set 'x'", "x"))

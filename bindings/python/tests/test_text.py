@@ -1,6 +1,7 @@
 """A text through the program, with a status for scripts."""
 
 import os
+import shutil
 import stat
 import subprocess
 import sys
@@ -42,10 +43,30 @@ class Text(unittest.TestCase):
         self.assertEqual((status, said), (2, printed("cheapest", none)))
         self.assertIn("no retention is the cheapest", errors)
 
+    def test_by_name(self) -> None:
+        self.assertEqual(text(LISTING, "--program", "cheapest"), (0, printed("cheapest", LISTING), ""))
+        self.assertEqual(text(LISTING, "--program", "forecast"), (0, printed("forecast", LISTING), ""))
+
+    def test_where_it_is(self) -> None:
+        """In any folder of the repository, for a package that lies elsewhere; else the right build is told."""
+        with tempfile.TemporaryDirectory() as folder:
+            below = Path(folder, "docs", "deep")
+            below.mkdir(parents=True)
+            shutil.copytree(PACKAGE / "street_drill", Path(folder, "site", "a", "b", "street_drill"))
+            command = [sys.executable, "-m", "street_drill", "text", "--program", "cheapest"]
+            where = {"cwd": below, "env": {**os.environ, "PYTHONPATH": str(Path(folder, "site", "a", "b"))}}
+            ended = subprocess.run(command, **where, input=LISTING, capture_output=True, text=True)
+            told = "is not built: tools/build cheapest makes it; --program names another"
+            self.assertEqual((ended.returncode, ended.stderr), (2, f"street_drill: target/bin/cheapest: {told}\n"))
+            Path(folder, "target", "bin").mkdir(parents=True)
+            shutil.copy(CHEAPEST, Path(folder, "target", "bin"))
+            ended = subprocess.run(command, **where, input=LISTING, capture_output=True, text=True)
+            self.assertEqual((ended.returncode, ended.stdout), (0, printed("cheapest", LISTING)))
+
     def test_other_programs(self) -> None:
         """One that is not there, one that fails, one that prints something else."""
         with tempfile.TemporaryDirectory() as folder:
-            for name, script, told in [("none", "", "No such file or directory; tools/build forecast makes it"),
+            for name, script, told in [("none", "", "No such file or directory; --program is"),
                                        ("fails", "#!/bin/sh\nexit 1\n", "did not end as it should"),
                                        ("half", "#!/bin/sh\necho '(forecast 2 (turns 4) (cards 2))'\n", "2 days were")]:
                 path = Path(folder, name)
