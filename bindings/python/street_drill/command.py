@@ -176,7 +176,8 @@ def _region(asked: argparse.Namespace) -> None:
         whole = region.total(courses)
         texts = {summary: course.as_csv(depots.table(courses, asked.open))}
         _add(texts, page_path, page([whole], tables=[depots.page_table(courses, asked.open)]))
-    _warn([*warnings, *(region.alike(asked.folder, listed) if asked.runs == 1 else [])])
+    _warn([*warnings, *region.uneven(asked.folder, listed),
+           *(region.alike(asked.folder, listed) if asked.runs == 1 else [])])
     _write(texts, region.sources(listed), facts.summary(whole, None) + depots.lines(courses, asked.open))
 
 

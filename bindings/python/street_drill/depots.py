@@ -26,6 +26,12 @@ def _days(depot: Course, days: dict[str, int | None]) -> dict[str, float | str]:
     return told
 
 
+def _seen(depot: Course, days: dict[str, int | None]) -> dict[str, float | str]:
+    """How many days so many streets were seen to stay held, to the end of the span: few say little."""
+    return {f"{name}_seen": "" if day is None else depot.span - day
+            for name, day in days.items() if name.startswith("opens")}
+
+
 def _openings(depot: Course, streets: int) -> dict[str, int | None]:
     """From when so many streets stay held, and when they are first; of several runs, half, nine of ten and all."""
     helds = [run["memorized"] for run in depot.runs]
@@ -42,11 +48,12 @@ def _row(depot: Course, streets: int | None) -> dict[str, float | str]:
     busiest, times, worst = facts.worst(costs)
     seed = depot.origin.settings["seed"] if depot.origin else ""
     often = {"busiest_day_runs": times} if depot.each else {}
+    openings = _openings(depot, streets) if streets else {}
     return {"depot": depot.name, "days": depot.span, "seed": seed, **_cells("seconds", list(map(total_of, costs))),
             **_days(depot, {"busiest_day": busiest}), **often, **_cells("busiest_seconds", worst),
             **_cells("introduced", [run["introduced"][-1] for run in depot.runs]),
             **_cells("memorized", [run["memorized"][-1] for run in depot.runs]),
-            **(_days(depot, _openings(depot, streets)) if streets else {})}
+            **_days(depot, openings), **_seen(depot, openings)}
 
 
 def table(depots: Sequence[Course], streets: int | None) -> Table:

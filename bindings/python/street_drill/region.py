@@ -1,6 +1,7 @@
 """A region: a folder with a settings file for each depot, NAME.toml, and its deck NAME.csv where there is one.
 
-  read      the folder's files; notes: what of the folder is left out; alike: the depots that draw alike
+  read      the folder's files; notes: what of the folder is left out; alike: the depots that draw alike;
+  uneven    and whose spans differ
   courses   the forecast of each, on several processes; seed_of: the seed of several runs of a depot
   total     all depots as one course
 """
@@ -88,6 +89,15 @@ def alike(folder: str, depots: Sequence[Depot]) -> list[str]:
     seeds = Counter(depot.given.seed for depot in depots if isinstance(depot.given, Settings))
     return [f"{folder}: {number} depots have the seed {seed} and draw alike, so that their sum multiplies one luck; "
             "with --runs each has its own" for seed, number in seeds.items() if number > 1]
+
+
+def uneven(folder: str, depots: Sequence[Depot]) -> list[str]:
+    """Depots whose spans end on different days: the sums have each with its last day's streets from then on."""
+    spans = {depot.given.config.learn_span for depot in depots if isinstance(depot.given, Settings)}
+    if len(spans) < 2:
+        return []
+    return [f"{folder}: the depots' spans differ, from {min(spans)} to {max(spans)} days; in the sums a depot costs nothing "
+            "after its last day and keeps that day's streets, so from the shortest span on they are too low"]
 
 
 def sources(depots: Sequence[Depot]) -> list[str]:

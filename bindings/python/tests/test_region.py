@@ -44,6 +44,16 @@ class Region(unittest.TestCase):
         outputs = ["--summary", self.out / f"{name}.csv", "--page", self.out / f"{name}.html"]
         return run("region", self.depots, *outputs, *options)
 
+    def notes(self, errors: str) -> str:
+        """What is told but for the note of the spans, which differ here."""
+        told = self.uneven(20, 30)
+        self.assertIn(told, errors)
+        return errors.replace(told, "")
+
+    def uneven(self, least: int, most: int) -> str:
+        return (f"street_drill: note: {self.depots}: the depots' spans differ, from {least} to {most} days; in the sums a depot "
+                "costs nothing after its last day and keeps that day's streets, so from the shortest span on they are too low\n")
+
     def test_rows(self) -> None:
         self.assertEqual(self.region("a", "--open", 100)[0], 0)
         with (self.out / "a.csv").open(newline="") as file:
@@ -55,6 +65,8 @@ class Region(unittest.TestCase):
         self.assertAlmostEqual(float(rows[1]["seconds"]), sum(day.cost for day in forecast.rows), places=2)
         held = [number for number, day in enumerate(forecast.rows) if day.memorized >= 100]
         self.assertEqual(rows[1]["opens"], str(held[0]) if held else "")
+        self.assertEqual(rows[1]["opens_seen"], str(20 - held[0]) if held else "")
+        self.assertTrue(any(row["opens_seen"] for row in rows))
         self.assertEqual(len(re.findall('<figure [^>]*data-view="day"', (self.out / "a.html").read_text())), 5)
 
     def test_same_bytes(self) -> None:
@@ -93,7 +105,7 @@ class Region(unittest.TestCase):
         for _ in range(2):
             status, said, errors = run("region", self.depots, *outputs)
             told = f"street_drill: note: {self.depots / 'south.csv'}: has no settings, south.toml, and is left out"
-            self.assertEqual((status, errors.splitlines()[:-1]), (0, [told]))
+            self.assertEqual((status, self.notes(errors).splitlines()[:-1]), (0, [told]))
         self.assertIn("region of 3 depots", said)
 
     def test_names_that_differ_in_case(self) -> None:
@@ -129,7 +141,7 @@ class Region(unittest.TestCase):
         status, _, errors = self.region("a", "--workers", 2, "--runs", 2)
         self.assertEqual(status, 0)
         told = r"street_drill: note: .*depot \d\.csv: line 5, column 1 \(name\): 'Mill Lane' .*\n"
-        self.assertRegex(errors, f"^({told}){{2}}$")
+        self.assertRegex(self.notes(errors), f"^({told}){{2}}$")
 
     def test_runs(self) -> None:
         """A depot's numbers are those of its runs, and the region's those of the sums of each run."""
@@ -161,12 +173,20 @@ class Region(unittest.TestCase):
         seconds = math.fsum(float(day["cost"]) for day in csv.DictReader(io.StringIO(alone)))
         self.assertAlmostEqual(float(north["seconds"]), seconds, places=1)
 
+    def test_different_spans(self) -> None:
+        """Where the depots' spans differ the sums are too low after the shortest, and that is told."""
+        self.assertIn(self.uneven(20, 30), self.region("a")[2])
+        for number in (0, 2):
+            path = self.depots / f"depot {number}.toml"
+            path.write_text(path.read_text().replace("learn_span = 30", "learn_span = 20"))
+        self.assertNotIn("spans differ", self.region("b")[2])
+
     def test_luck_of_a_single_run(self) -> None:
         """It is that of `forecast`, and where depots share it that is told."""
         told = (f"street_drill: note: {self.depots}: 3 depots have the seed 7 and draw alike, so that their sum "
                 "multiplies one luck; with --runs each has its own\n")
-        self.assertEqual(self.region("a")[2], told)
-        self.assertEqual(self.region("a", "--runs", 2)[2], "")
+        self.assertEqual(self.notes(self.region("a")[2]), told)
+        self.assertEqual(self.notes(self.region("a", "--runs", 2)[2]), "")
         (self.depots / "depot 0.toml").write_text(EXAMPLE.replace("seed = 7", "seed = 8"))
         (self.depots / "depot 1.toml").write_text(EXAMPLE.replace("seed = 7", "seed = 9"))
         self.assertEqual(self.region("a")[2], "")
