@@ -2,7 +2,7 @@
 --   Accepted, accepted       what an accepted call has
 --   setting_ok               it has passed the test of its own setting
 --   lists_and_span           its lists are long enough, and it has a day or more
---   same_tests, same_check   the tests do not look at the retention's value, the seed or the draws
+--   same_tests, same_check   the tests do not look at the draws; nor at the retention but for whether it is finite
 use mathlib.Core.Path.{◌≡◌, ap, ◌∙◌}
 use mathlib.Core.Bool.{Bool, true, false, not, ◌&&◌, false≢true}
 use Prim.Native.Nat.{ℕ, ◌≤◌, ◌<◌}
@@ -99,7 +99,7 @@ pub lists_and_span : {C : Type 0} (i : Inputs) (s : State C) → checked i s ≡
 lists_and_span i s e = let ok = accepted i s e in (ok.lists_pass, ok.span_some)
 
 module _ (i : Inputs) (s : State Float) where
-  -- the entry's tests look neither at the retention's value, nor at the seed, nor at the draws
+  -- the entry's tests do not look at the draws
   pub same_tests : (ok : Bool) {c : Check}
       → c ≡ checked_with ok i (with_draws 0 s) → c ≡ checked_with ok i s
   same_tests ok e = e

@@ -4,7 +4,7 @@
 --   going_on, going_stops   one more turn, or a stop
 --   going_cut               no more turn may be taken
 --   going_start             no turn yet
-use mathlib.Core.Path.{◌≡◌, refl, sym, ap, ◌∙◌}
+use mathlib.Core.Path.{◌≡◌, refl, sym, ap, subst, ◌∙◌}
 use mathlib.Core.List.{[], ◌∷◌}
 use mathlib.Core.Option.{none, some}
 use Prim.Native.Nat.{ℕ, suc, ◌+◌, ◌-◌, ◌≤◌, ◌<◌}
@@ -107,18 +107,19 @@ module _ {C : Type 0} (R : Rules C) (s₀ : State C) (fuel : ℕ) where
             }
 
   -- a run that is cut off has taken as many turns as it may, and none has stopped it
-  pub going_cut : {st : State C} → Going st fuel
+  pub going_cut : {st : State C} {k : ℕ} → Going st k → fuel ≤ k
       → RunTurns R s₀ fuel
       (record { halt = None; turns = fuel; at = record { queued = st.queue.len; draws = st.draws } }) (lists_of st)
-  going_cut {st = st} i =
+  going_cut {st = st} {k = k} i h =
+      let j : Going st fuel = subst (λ (z : ℕ). Going st z) (omega (arith, i.within, h)) i in
       let e : fuel - fuel ≡ 0 = omega arith in
-      let y : stop_of (next R) fuel s₀ ≡ none = sym i.left ∙ ap (λ (z : ℕ). stop_of (next R) z st) e in
+      let y : stop_of (next R) fuel s₀ ≡ none = sym j.left ∙ ap (λ (z : ℕ). stop_of (next R) z st) e in
       record {
         halt = sym (ap halt_of y);
-        turns = sym i.many;
-        queued = ap (λ (z : State C). z.queue.len) i.at;
-        draws = ap (λ (z : State C). z.draws) i.at;
-        lists = ap lists_of i.at;
+        turns = sym j.many;
+        queued = ap (λ (z : State C). z.queue.len) j.at;
+        draws = ap (λ (z : State C). z.draws) j.at;
+        lists = ap lists_of j.at;
       }
 
 pub going_start : {C : Type 0} (R : Rules C) (fuel : ℕ) (s : State C) → Going R s fuel s 0

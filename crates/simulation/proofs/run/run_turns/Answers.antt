@@ -2,7 +2,7 @@ use Rattle.entry.proofs.Lent.{same_lists, same_then}
 use Rattle.std.specs.Prelude.{Ok, Err}
 use Rattle.runs.specs.Rules.{rules_as}
 use Rattle.runs.specs.State.{state_at}
-use Rattle.simulation.proofs.run.Loop.{going_start, going_on, going_stops}
+use Rattle.simulation.proofs.run.Loop.{going_start, going_on, going_stops, going_cut}
 use Rattle.simulation.proofs.run.run_turns.Goals as goal
 
 pub loop-turns-init : goal.loop-turns-init
@@ -25,3 +25,8 @@ loop-turns-preserved c = record {
       (rw c.in-Ok-Some.field-0-is at c.in-Ok-Some.is);
   same = same_then c.loop-turns.invariant.same c.turn.ensures.same;
 }
+
+pub returns-clause-run : goal.returns-clause-run
+returns-clause-run c =
+    going_cut (rules_as c.args.rules) (state_at c.args.lists.now c.args.from) c.args.fuel c.loop-turns.invariant.going
+    c.loop-turns-test.false
