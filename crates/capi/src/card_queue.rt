@@ -17,9 +17,7 @@ pub extern "C" fn drill_card_priority(day: u32, new: bool, difficulty: f32) -> u
 pub extern "C" fn drill_push(rows: &mut [QueueRow], len: u32, card: u32, key: u64) -> u32
     ensures { queue rows.new result ≡ pushed (queue rows.old len) card key }
 {
-    let mut queue = CardPriorityQueue { rows, len };
-    queue.push(card, key);
-    queue.len
+    CardPriorityQueue { len }.push(rows, card, key).len
 }
 
 // The first row's card, whatever the length; C passes `len` as to the others.
@@ -34,15 +32,12 @@ pub extern "C" fn drill_peek_index(rows: &[QueueRow], len: u32) -> u32
 pub extern "C" fn drill_pop(rows: &mut [QueueRow], len: u32) -> u32
     ensures { queue rows.new result ≡ popped (queue rows.old len) }
 {
-    let mut queue = CardPriorityQueue { rows, len };
-    queue.pop();
-    queue.len
+    CardPriorityQueue { len }.pop(rows).len
 }
 
 #[unsafe(no_mangle)]
 pub extern "C" fn drill_change_front(rows: &mut [QueueRow], len: u32, key: u64)
     ensures { queue rows.new len ≡ front_changed (queue rows.old len) key }
 {
-    let mut queue = CardPriorityQueue { rows, len };
-    queue.change_front(key);
+    CardPriorityQueue { len }.change_front(rows, key);
 }

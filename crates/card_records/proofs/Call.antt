@@ -4,11 +4,12 @@
 --   tests_are                  the tests are the core's, with the room in refusal 6
 --   room_enough                where there is room they are the core's own
 --   room_told                  what the test of refusal 6 says of the room
+--   copied_few, all_copied, none_copied   what is copied
 --   when_passed, when_failed   the contract
 use mathlib.Core.Path.{◌≡◌, refl, sym, ap, ◌∙◌, subst}
 use mathlib.Core.Bool.{Bool, true, false, ◌&&◌}
 use mathlib.Core.List.{List, [], ◌∷◌, ◌++◌, map, append_assoc}
-use Prim.Native.Nat.{ℕ, zero, suc, ◌≤◌}
+use Prim.Native.Nat.{ℕ, zero, suc, ◌≤◌, ◌<◌}
 use native.Mathlib.Omega.{arith}
 use borrow.Author.Tests.{leb-true}
 use lib.Dec.{ltb, leb}
@@ -22,7 +23,7 @@ use Rattle.cards.specs.declared.card.Card.{Card}
 use Rattle.cards.specs.Cards.{card_at, floats_of, counts_of}
 use Rattle.entry.specs.declared.Refusal.{Refusal}
 use Rattle.entry.specs.declared.Refusal.TheVariants as refusal
-use Rattle.std.specs.Prelude.{Err}
+use Rattle.std.specs.Prelude.{Ok, Err, OnOk}
 use Rattle.runs.specs.declared.Progress.{Progress}
 use Rattle.runs.specs.State.{State, Lent, state, lists_of}
 use Rattle.entry.specs.declared.lists.Settings.{Settings}
@@ -33,8 +34,8 @@ use Rattle.runs.specs.Simulate.{Answer, finished, refused, IsResult, progress, r
 use Rattle.runs.specs.Demands.{RunContract}
 use Rattle.entry.proofs.Tests.{SettingsOk, settings_passed}
 use Rattle.card_records.specs.Records.{blank, floats_at, counts_at, float_rows, count_rows, record_bad, has_room}
-use Rattle.card_records.specs.Records.{checked_records, laid, record_inputs, RecordsContract}
-use Rattle.card_records.proofs.Laws.{first_alike}
+use Rattle.card_records.specs.Records.{checked_records, copied, laid, record_inputs, RecordsContract}
+use Rattle.card_records.proofs.Laws.{fill_none, first_alike}
 
 -- ---- the rows of the first records, written over a list
 module _ {A : Type 0} (f : Card → A) (cs : List Card) where
@@ -88,6 +89,20 @@ room_told long n floats counts e =
     let h = (both long (has_room n floats counts) e).1 in
     let k = both (leb n floats) (leb n counts) h in
     (leb-true _ _ k.0, leb-true _ _ k.1)
+
+-- ---- of the records the first n are copied: all of them, or none where a test fails
+pub copied_few : (t : Check) (cs : List Card) (floats counts : ℕ)
+    → OnOk t ((length cs < 4294967296) × (length cs ≤ floats) × (length cs ≤ counts))
+    → (n : ℕ) → n ≡ copied t (length cs) → length (take n cs) < 4294967296
+copied_few (Ok x) cs floats counts h n e = rw (e, take-length) h.0
+copied_few (Err r) cs floats counts h n e = rw e (omega arith)
+
+module _ {A : Type 0} (F : List Card → ℕ → A) (cs : List Card) (n : ℕ) (l : List A) where
+  pub all_copied : n ≡ length cs → filled (F (take n cs)) (length (take n cs)) l ≡ filled (F cs) (length cs) l
+  all_copied e = rw (e, take-length)
+
+  pub none_copied : n ≡ 0 → filled (F (take n cs)) (length (take n cs)) l ≡ l
+  none_copied e = rw e (fill_none (F []) l)
 
 not_finished : (x : Refusal) (p q : Progress) → refused x p ≡ finished q → ⊥
 not_finished x p q e = not-one cc

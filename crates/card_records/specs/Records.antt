@@ -4,6 +4,7 @@
 --   float_rows, count_rows cs  the records as the rows of the core's two lists
 --   record_bad cs i           refusal 5 turns record i away
 --   has_room, checked_records  the entry's tests: the core's, with the room for the rows in refusal 6
+--   copied c n               how many of n records are copied
 --   laid c new old           a list that is written over from its first place on where the tests pass
 --   record_inputs w cs s     the core's inputs, with the records' rows as their existing cards
 --   RecordsContract          WHAT A CALL PROMISES
@@ -50,6 +51,11 @@ checked_records i s floats counts =
     let n = length i.existing in
     check_settings (is_finite i.settings.retention) (lists_ok i s && has_room n floats counts) i.parameters i.settings.config n
     (check_cards i.existing i.existing_counts n)
+
+-- how many of n records are copied: all, or none where a test fails
+abbrev pub copied : Check → ℕ → ℕ
+copied (Ok x) n = n
+copied (Err r) n = 0
 
 -- a list with others at its first places where the tests pass, and else as it was
 abbrev pub laid : {A : Type 0} → Check → List A → List A → List A

@@ -11,7 +11,7 @@ ghost use Rattle.entry.specs.declared.Refusal.TheVariants as refusal;
 ghost use Rattle.entry.specs.Entry.{passed, fail_if, first_where, lengths_ok, check_settings};
 ghost use Rattle.entry.specs.Lists.{SameLists};
 ghost use Rattle.runs.specs.State.{lent_of, state};
-ghost use Rattle.card_records.specs.Records.{has_room, record_bad, record_inputs, RecordsContract};
+ghost use Rattle.card_records.specs.Records.{has_room, copied, record_bad, record_inputs, RecordsContract};
 
 use cards::{Card, CardRow, CountRow, SimulatorConfig};
 use entry::{Learner, Lengths, Lists, Refusal, Settings};
@@ -61,6 +61,17 @@ fn check_records(
     }
 }
 
+// How many of n records are copied: none where a test fails. As a value, so that a copy before the tests is refused for
+// the number alone.
+fn to_copy(tests: Result<(), Refusal>, n: usize) -> usize
+    ensures { result ≡ copied tests n }
+{
+    match tests {
+        Ok(()) => n,
+        Err(_) => 0,
+    }
+}
+
 // A run over records; `existing` and `existing_counts` are room for the records' rows, two lists as the core and C have
 // them.
 pub fn simulate(
@@ -84,10 +95,11 @@ pub fn simulate(
         records,
         settings,
     );
+    let n = to_copy(tests, records.len());
+    records::copy(&records[..n], existing, existing_counts);
     if let Err(refusal) = tests {
         return Err(Refused::at_entry(refusal, settings.seed));
     }
-    records::copy(records, existing, existing_counts);
     let learner = Learner {
         parameters,
         existing: &existing[..records.len()],

@@ -24,10 +24,7 @@ pub(crate) fn copy(records: &[Card], existing: &mut [CardRow], existing_counts: 
 pub fn read_back(cards: &[CardRow], counts: &[CountRow], records: &mut [Card], n: u32)
     ensures { records.new ≡ filled (card_at cards.now counts.now) n records.old }
 {
-    for i in 0..n {
-        let at = i as usize;
-        if at < records.len() {
-            records[at] = cards::card_at(cards, counts, i);
-        }
+    for i in 0..(n as usize).min(records.len()) {
+        records[i] = cards::card_at(cards, counts, i as u32);
     }
 }

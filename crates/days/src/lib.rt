@@ -7,7 +7,7 @@ ghost use Rattle.std.specs.Prelude.{◌≡◌, ◌-◌, ◌<◌};
 ghost use Rattle.std.specs.Float.{binary32};
 ghost use Rattle.std.specs.Float.Ieee.{add};
 ghost use Rattle.float32.specs.Numbers.{0ᶠ};
-ghost use Rattle.days.specs.Counts.{learned_at, reviewed_at, add_one, add_review, add_introduced_from, add_event};
+ghost use Rattle.days.specs.Counts.{saturating_suc, learned_at, reviewed_at, add_one, add_review, add_introduced_from, add_event};
 ghost use Rattle.days.specs.Sums.{cost_at, add_cost};
 ghost use Rattle.days.specs.Due.{due_days, add_due, move_due, none_due};
 
@@ -23,6 +23,14 @@ const REVIEWED: usize = 1;
 const CORRECT: usize = 2;
 
 const INTRODUCED: usize = 3;
+
+// One more, kept within a u32: how each count of a run goes up.
+#[tactic(auto, using(crate::proofs::Laws::saturated))]
+pub fn saturating_suc(n: u32) -> u32
+    ensures { result ≡ saturating_suc n }
+{
+    n.saturating_add(1)
+}
 
 // This and the next differ in the column: with the column as a parameter their callers would be no shorter.
 pub fn learned_at(rows: &[DayRow], d: u32) -> u32

@@ -11,9 +11,9 @@ use std::io::Read;
 
 // Lines read, and lines outside.
 #[derive(Clone, Copy)]
-struct Tally {
-    rows: u64,
-    outside: u64,
+pub struct Tally {
+    pub rows: u64,
+    pub outside: u64,
 }
 
 // A hex digit; of a byte that is none, some number below 16, where the library's own reading refuses the whole line.

@@ -1,7 +1,9 @@
 -- That the definitions of specs/Float32 are those of the library's methods, by cases.
 use Rattle.std.proofs.Common.{◌≡◌, true, false, refl}
+use mathlib.Core.Bool.{false≢true}
 use Rattle.std.specs.Float as Float
 use lib.Ieee.{Float, nan, inf, fin, binary32}
+use Rattle.std.specs.Float.Ieee as Ieee
 use Rattle.float32.specs.Float32 as Float32
 
 pub is_finite_is : (x : Float) → Float.float_is_finite x ≡ Float32.is_finite x
@@ -32,3 +34,9 @@ mul_add_is (fin s m e) (inf t) z = refl
 mul_add_is (fin s m e) (fin t n d) nan = refl
 mul_add_is (fin s m e) (fin t n d) (inf u) = refl
 mul_add_is (fin s m e) (fin t n d) (fin u k g) = refl
+
+pub nan_bits : (x : Float) → Ieee.is_nan x ≡ true → 2143289344 ≡ Ieee.to_bits binary32 x
+unfolding Ieee.is_nan Ieee.to_bits
+nan_bits nan e = refl
+nan_bits (inf s) e = absurd (false≢true e)
+nan_bits (fin s m k) e = absurd (false≢true e)

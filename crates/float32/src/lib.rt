@@ -56,6 +56,7 @@ pub fn clamp(x: f32, lo: f32, hi: f32) -> f32
 }
 
 // The bit pattern of x. All NaNs have one pattern, 7FC00000.
+#[tactic(auto, using(crate::proofs::Alike::nan_bits))]
 pub fn to_bits(x: f32) -> u32
     ensures { result ≡ Ieee.to_bits binary32 x }
 {
@@ -192,7 +193,6 @@ pub fn pack(negative: bool, m: u64, e: u32) -> f32
 }
 
 // x to the nearest whole number, a half away from zero.
-#[tactic(auto, using(crate::proofs::Alike::round_is))]
 pub fn round(x: f32) -> f32
     ensures { result ≡ Float32.round x }
 {
@@ -200,7 +200,6 @@ pub fn round(x: f32) -> f32
 }
 
 // x * y + z, rounded once.
-#[tactic(auto, using(crate::proofs::Alike::mul_add_is))]
 pub fn mul_add(x: f32, y: f32, z: f32) -> f32
     ensures { result ≡ Float32.mul_add x y z }
 {

@@ -100,57 +100,57 @@ pub fn first_card(rows: &[QueueRow]) -> u32
     rows.first().map_or(0, |row| (row[1] % 4294967296) as u32)
 }
 
-// The queued cards: their rows are the first `len` places of the list, whose other places the caller has lent too.
-#[derive(Drop)]
-pub struct CardPriorityQueue<'a> {
-    pub rows: &'a mut [QueueRow],
+// How many cards are queued: their rows are the first places of a list that each call lends. It holds no reference, so
+// that it can be copied.
+#[derive(Clone, Copy)]
+pub struct CardPriorityQueue {
     pub len: u32,
 }
 
-impl CardPriorityQueue<'_> {
+impl CardPriorityQueue {
     #[tactic(auto, unfolding(crate::specs::Queue::pushed))]
-    pub fn push(&mut self, card: u32, key: u64)
-        ensures same { self.new.rows.ghost_name ≡ self.old.rows.ghost_name }
-        ensures pushed { queue self.new.rows.now self.new.len ≡ pushed (queue self.old.rows.now self.old.len) card key }
+    pub fn push(self, rows: &mut [QueueRow], card: u32, key: u64) -> CardPriorityQueue
+        ensures { queue rows.new result.len ≡ pushed (queue rows.old self.len) card key }
     {
         let at = self.len as usize;
-        if at < self.rows.len() && self.len < u32::MAX {
-            bubble_up(self.rows, at, [key, u64::from(card)]);
-            self.len += 1;
+        if at < rows.len() && self.len < u32::MAX {
+            bubble_up(rows, at, [key, u64::from(card)]);
+            CardPriorityQueue { len: self.len + 1 }
+        } else {
+            self
         }
     }
 
     // The first card's number, where the queue is not empty.
-    pub fn peek_index(&self) -> u32
-        ensures { result ≡ front (queue self.now.rows.now self.now.len) }
+    pub fn peek_index(self, rows: &[QueueRow]) -> u32
+        ensures { result ≡ front (queue rows.now self.len) }
     {
-        first_card(self.rows)
+        first_card(rows)
     }
 
     #[tactic(auto, unfolding(crate::specs::Queue::popped))]
-    pub fn pop(&mut self)
-        ensures same { self.new.rows.ghost_name ≡ self.old.rows.ghost_name }
-        ensures popped { queue self.new.rows.now self.new.len ≡ popped (queue self.old.rows.now self.old.len) }
+    pub fn pop(self, rows: &mut [QueueRow]) -> CardPriorityQueue
+        ensures { queue rows.new result.len ≡ popped (queue rows.old self.len) }
     {
         let at = self.len as usize;
-        if 0 < at && at <= self.rows.len() {
-            let last = self.rows[at - 1];
-            heapify(self.rows, at - 1, last);
-            self.len -= 1;
+        if 0 < at && at <= rows.len() {
+            let last = rows[at - 1];
+            heapify(rows, at - 1, last);
+            CardPriorityQueue { len: self.len - 1 }
+        } else {
+            self
         }
     }
 
     // The first card gets another key: what `change_priority` does to the card that was peeked at.
     #[tactic(auto, unfolding(crate::specs::Queue::front_changed))]
-    pub fn change_front(&mut self, key: u64)
-        ensures same { self.new.rows.ghost_name ≡ self.old.rows.ghost_name }
-        ensures length { self.new.len ≡ self.old.len }
-        ensures changed { queue self.new.rows.now self.old.len ≡ front_changed (queue self.old.rows.now self.old.len) key }
+    pub fn change_front(self, rows: &mut [QueueRow], key: u64)
+        ensures { queue rows.new self.len ≡ front_changed (queue rows.old self.len) key }
     {
         let at = self.len as usize;
-        if 0 < at && at <= self.rows.len() {
-            let card = self.rows[0][1];
-            heapify(self.rows, at, [key, card]);
+        if 0 < at && at <= rows.len() {
+            let card = rows[0][1];
+            heapify(rows, at, [key, card]);
         }
     }
 }

@@ -6,7 +6,7 @@
 
 ghost use Rattle.std.specs.Prelude.{◌<◌};
 
-use queue::CardPriorityQueue;
+use queue::{CardPriorityQueue, QueueRow};
 use std::io;
 
 // A linear congruential sequence modulo 2^31; its upper bits are used.
@@ -25,19 +25,20 @@ fn key(v: u64) -> u64 {
     queue::card_priority(day, new, difficulty)
 }
 
-// The queue, and for each card whether it is in it.
+// The queue with its rows, and for each card whether it is in it.
 #[derive(Drop)]
-struct Service<'a> {
-    queue: CardPriorityQueue<'a>,
+struct Service {
+    queue: CardPriorityQueue,
+    rows: [QueueRow; 64],
     queued: [bool; 64],
 }
 
-impl Service<'_> {
+impl Service {
     fn push(&mut self, card: u32, v: u64) {
         let c = card as usize;
         if c < self.queued.len() && !self.queued[c] {
             self.queued[c] = true;
-            self.queue.push(card, key(v));
+            self.queue = self.queue.push(&mut self.rows, card, key(v));
         }
     }
 
@@ -45,13 +46,13 @@ impl Service<'_> {
         if self.queue.len == 0 {
             return Ok(());
         }
-        let card = self.queue.peek_index();
+        let card = self.queue.peek_index(&self.rows);
         println!(rt; "pop {card}")?;
         let c = card as usize;
         if c < self.queued.len() {
             self.queued[c] = false;
         }
-        self.queue.pop();
+        self.queue = self.queue.pop(&mut self.rows);
         Ok(())
     }
 
@@ -59,8 +60,8 @@ impl Service<'_> {
         if self.queue.len == 0 {
             return Ok(());
         }
-        println!(rt; "change {}", self.queue.peek_index())?;
-        self.queue.change_front(key(v));
+        println!(rt; "change {}", self.queue.peek_index(&self.rows))?;
+        self.queue.change_front(&mut self.rows, key(v));
         Ok(())
     }
 
@@ -98,13 +99,9 @@ impl Service<'_> {
 }
 
 fn main(rt: HostRuntime) -> io::Result<()> {
-    let mut rows = [[0u64; 2]; 64];
-    let queue = CardPriorityQueue {
-        rows: &mut rows,
-        len: 0,
-    };
     let mut service = Service {
-        queue,
+        queue: CardPriorityQueue { len: 0 },
+        rows: [[0; 2]; 64],
         queued: [false; 64],
     };
     service.operations(&rt)?;

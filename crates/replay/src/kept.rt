@@ -6,12 +6,11 @@ use intervals::KeyRow;
 use model::Fsrs7Runtime;
 use queue::{CardPriorityQueue, QueueRow};
 
-// A queue's rows and length, not a queue: a struct can't hold one that borrows its own rows.
 #[derive(Drop)]
 pub struct Kept {
     pub parameters: [f32; 40],
     pub rows: [QueueRow; 16],
-    pub len: u32,
+    pub queue: CardPriorityQueue,
     pub keys: [KeyRow; 8],
     pub intervals: [f32; 8],
 }
@@ -26,20 +25,18 @@ impl Kept {
     // answer is the first card's number, or the largest number where there is none.
     pub fn queued(&mut self, r: Record) -> u32 {
         let key = queue::card_priority(r.b, r.c == 1, from_bits(r.d));
-        let mut queue = CardPriorityQueue {
-            rows: &mut self.rows,
-            len: self.len,
-        };
+        let queue = self.queue;
         match r.function {
-            50 => queue.push(r.a, key),
-            51 => queue.change_front(key),
-            _ => queue.pop(),
+            50 => self.queue = queue.push(&mut self.rows, r.a, key),
+            51 => queue.change_front(&mut self.rows, key),
+            _ => self.queue = queue.pop(&mut self.rows),
         }
-        let front = queue.peek_index();
-        let len = queue.len;
-        self.len = len;
         // Not an Option: a stored answer is one word, and 4294967295 stands there for none.
-        if len == 0 { u32::MAX } else { front }
+        if self.queue.len == 0 {
+            u32::MAX
+        } else {
+            self.queue.peek_index(&self.rows)
+        }
     }
 
     // 60: the interval at stability a and retention b, at most c, entered where the table did not serve; 61: the table

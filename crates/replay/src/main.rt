@@ -14,6 +14,7 @@ mod whole;
 
 use inputs::Inputs;
 use kept::Kept;
+use queue::CardPriorityQueue;
 use record::Record;
 use std::io;
 
@@ -36,7 +37,7 @@ fn main(rt: HostRuntime) -> io::Result<()> {
     let mut kept = Kept {
         parameters: [0.0; 40],
         rows: [[0; 2]; 16],
-        len: 0,
+        queue: CardPriorityQueue { len: 0 },
         keys: [[0; 2]; 8],
         intervals: [0.0; 8],
     };

@@ -1,4 +1,6 @@
 // A line of the sample.
+ghost use Rattle.std.specs.Prelude.{◌<◌};
+
 use std::io::Read;
 
 // A function's number and its four words.
@@ -12,7 +14,9 @@ pub struct Record {
 }
 
 // A hex digit's value; 0 of another byte, where the library's own reading refuses the whole number.
-fn digit(b: u8) -> u32 {
+fn digit(b: u8) -> u32
+    ensures { result < 16 }
+{
     match b {
         b'0'..=b'9' => u32::from(b - b'0'),
         b'A'..=b'F' => u32::from(b - b'A') + 10,

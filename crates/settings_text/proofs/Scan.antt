@@ -1,9 +1,10 @@
 -- Laws of `first_not`: the first place from i on whose byte does not pass a test.
 --   leading_is   how many bytes pass, as the search for the first that fails
 --   leading_le   no more bytes pass than there are
---   stops        the byte at the place does not pass
+--   after, within   the place is not before i, and not past the end
+--   passed, stops   why it is the first: before it every byte passes, and its own does not
 use mathlib.Core.Path.{◌≡◌, refl, sym, ◌∙◌}
-use Prim.Native.Nat.{ℕ, suc, ◌+◌, ◌≤◌, ◌<◌}
+use Prim.Native.Nat.{ℕ, zero, suc, ◌+◌, ◌≤◌, ◌<◌}
 use native.Mathlib.Omega.{arith}
 use mathlib.Core.Bool.{Bool, true, false, cond, not}
 use mathlib.Core.List.{List, [], ◌∷◌}
@@ -42,6 +43,33 @@ leading_le p (b ∷ s) = go (p b) (leading_le p s)
     go : (t : Bool) → leading p s ≤ length s → cond t (suc (leading p s)) 0 ≤ suc (length s)
     go true h = omega arith
     go false h = omega arith
+
+pub after : (p : ℕ → Bool) (s : List ℕ) (i : ℕ) → i ≤ first_not p s i
+unfolding first_not
+after p s i = omega arith
+
+pub within : (p : ℕ → Bool) (s : List ℕ) (i : ℕ) → i ≤ length s → first_not p s i ≤ length s
+unfolding first_not
+within p s i h = omega (arith, leading_le p (drop i s), length-drop i s)
+
+passed_in : (p : ℕ → Bool) (s : List ℕ) (k : ℕ) → k < leading p s → p (get_or s k 0) ≡ true
+unfolding leading
+passed_in p [] k h = absurd (omega arith)
+passed_in p (b ∷ s) zero h = go (p b) refl h
+  where
+    go : (t : Bool) → p b ≡ t → 0 < cond (p b) (suc (leading p s)) 0 → p b ≡ true
+    go true e h = e
+    go false e h = absurd (omega (arith, rw e at h))
+passed_in p (b ∷ s) (suc k) h = go (p b) refl h (passed_in p s k)
+  where
+    go : (t : Bool) → p b ≡ t → suc k < cond (p b) (suc (leading p s)) 0 → (k < leading p s → p (get_or s k 0) ≡ true)
+        → p (get_or s k 0) ≡ true
+    go true e h ih = ih (omega (arith, rw e at h))
+    go false e h ih = absurd (omega (arith, rw e at h))
+
+pub passed : (p : ℕ → Bool) (s : List ℕ) (i k : ℕ) → i + k < first_not p s i → p (get_or s (i + k) 0) ≡ true
+unfolding first_not
+passed p s i k h = rw (get_or-drop i s k 0) at (passed_in p (drop i s) k (omega arith))
 
 -- the byte where a list's first run ends does not pass
 stops_in : (p : ℕ → Bool) (s : List ℕ) → leading p s < length s → p (get_or s (leading p s) 0) ≡ false

@@ -4,7 +4,6 @@ ghost use Rattle.float32.specs.Numbers.{0ᶠ};
 ghost use Rattle.turns.specs.Sums.{bit};
 ghost use Rattle.cards.specs.Day as Day;
 ghost use Rattle.cards.specs.Cards.{is_kept};
-ghost use Rattle.queue.specs.Queue.{queue, pushed};
 ghost use Rattle.entry.specs.Entry.{most_cards, most_days};
 ghost use Rattle.entry.specs.Lists.{SameLists, inputs_of};
 ghost use Rattle.runs.specs.State.{lent_of, state};
@@ -14,7 +13,7 @@ ghost use Rattle.runs.specs.SetUp.{add_new_cards, new_card_count, set_up, filled
 
 use cards::{Card, SimulatorConfig};
 use entry::{Learner, Lists, Settings};
-use queue::{CardPriorityQueue, QueueRow};
+use queue::CardPriorityQueue;
 
 // The first n places of a list, or all of a shorter one, become x.
 // A loop: std's `fill` asks for a `clone` that can't fail, which `T: Copy` doesn't promise.
@@ -26,23 +25,13 @@ fn fill_first<T: Copy>(list: &mut [T], n: usize, x: T)
     }
 }
 
-// The card at place `len` joins the queue of the first `len` of its lent rows. Over the rows alone, for the same reason
-// as crate `turn`'s `change_front` and `pop`.
-fn push(rows: &mut [QueueRow], len: u32, key: u64) -> u32
-    ensures { queue rows.new result ≡ pushed (queue rows.old len) len key }
-{
-    let mut queue = CardPriorityQueue { rows, len };
-    queue.push(len, key);
-    queue.len
-}
-
 fn add_card(lists: &mut Lists<'_>, card: Card, len: u32) -> u32
     ensures joined { Joined (add_card (deck_of lists.old len) card) lists.old result lists.new }
 {
     let key = turn::key_of(card);
     cards::write_floats(lists.cards, len, card);
     cards::write_counts(lists.counts, len, card);
-    push(lists.queue_rows, len, key)
+    CardPriorityQueue { len }.push(lists.queue_rows, len, key).len
 }
 
 fn add_existing_card(lists: &mut Lists<'_>, span: u32, card: Card, len: u32) -> u32

@@ -7,7 +7,6 @@ ghost use Rattle.cards.specs.declared.choice.Choice.TheVariants as choice;
 ghost use Rattle.cards.specs.Day.{is_new};
 ghost use Rattle.days.specs.Counts.{saturating_suc};
 ghost use Rattle.days.specs.Due.{none_due};
-ghost use Rattle.queue.specs.Queue.{queue, front_changed, popped};
 ghost use Rattle.intervals.specs.Table.{table};
 ghost use Rattle.entry.specs.Lists.{SameLists};
 ghost use Rattle.runs.specs.State.{lent_of, key_of, state_at};
@@ -23,7 +22,7 @@ use entry::{Lists, RunRefusal};
 use events::{Memory, Rules};
 use intervals::Slot;
 use model::Curve;
-use queue::{CardPriorityQueue, QueueRow};
+use queue::CardPriorityQueue;
 use runs::{First, Place};
 
 // ---- what a turn reads of the lists: over `&Lists`, since one call can't borrow two lists of a `&mut Lists` to read
@@ -68,25 +67,6 @@ fn slot_for(lists: &Lists<'_>, rules: Rules, stability: f32, retention: f32) -> 
         lists.keys,
         lists.intervals,
     )
-}
-
-// ---- the queue, of the first `len` of its lent rows: the first card gets another key, or leaves
-// Over the rows alone: where a step itself makes a queue of a field of `Lists`, its proof has no lasting name for what
-// that field holds afterwards.
-
-fn change_front(rows: &mut [QueueRow], len: u32, key: u64)
-    ensures { queue rows.new len ≡ front_changed (queue rows.old len) key }
-{
-    let mut queue = CardPriorityQueue { rows, len };
-    queue.change_front(key);
-}
-
-fn pop(rows: &mut [QueueRow], len: u32) -> u32
-    ensures { queue rows.new result ≡ popped (queue rows.old len) }
-{
-    let mut queue = CardPriorityQueue { rows, len };
-    queue.pop();
-    queue.len
 }
 
 // ---- the turn's card
@@ -170,7 +150,7 @@ fn put_off_step(
     let later = put_off_card(card, day);
     let key = queue::card_priority(cards::day_after(day), new, card.difficulty);
     cards::write_floats(lists.cards, place, later);
-    change_front(lists.queue_rows, at.queued, key);
+    CardPriorityQueue { len: at.queued }.change_front(lists.queue_rows, key);
     days::move_due(lists.due, rules.config.learn_span, new, day);
     Ok(Some(at))
 }
@@ -194,7 +174,7 @@ fn retire_step(
         first.card,
         rules.config.learn_span,
     );
-    let queued = pop(lists.queue_rows, at.queued);
+    let queued = CardPriorityQueue { len: at.queued }.pop(lists.queue_rows).len;
     Ok(Some(Place { queued, ..at }))
 }
 
@@ -241,7 +221,7 @@ fn event_step(
     // ---- from here on it writes
     cards::write_floats(lists.cards, place, later);
     cards::write_counts(lists.counts, place, later);
-    change_front(lists.queue_rows, at.queued, key);
+    CardPriorityQueue { len: at.queued }.change_front(lists.queue_rows, key);
     days::add_event(lists.days, span, new, day, memory.recalled);
     days::add_cost(lists.costs, day, memory.cost);
     add_forgetting_curve(lists.memorized, rules, curve, card, day);
