@@ -1,5 +1,6 @@
 -- The laws of a run over card records.
 --   fill_none      a list of which no place is filled
+--   fill_past      a place past a list's end is filled with nothing
 --   fill_least, fill_most   a list filled up to its end, or so far if that is less
 --   first_next     the first number that passes a test, among one more
 --   first_alike    the first number that passes, by two tests that agree
@@ -28,7 +29,15 @@ pub fill_none : {A : Type 0} (F : ℕ → A) (l : List A) → filled F 0 l ≡ l
 unfolding filled
 fill_none F l = refl
 
--- places past a list's end are filled with nothing
+-- a place past a list's end is filled with nothing
+pub fill_past : {A : Type 0} (F : ℕ → A) (l l₀ : List A) (i : ℕ) → l ≡ filled F i l₀ → length l ≤ i
+    → l ≡ filled F (i + 1) l₀
+unfolding filled
+fill_past F l l₀ i e h =
+    let n : i + 1 ≡ suc i = omega arith in
+    e ∙ sym (ap (λ (m : ℕ). filled F m l₀) n ∙ set_out (filled F i l₀) i (F i) (rw e at h))
+
+-- nor is any number of them
 fill_beyond : {A : Type 0} (F : ℕ → A) (n : ℕ) (l : List A) → length l ≤ n → filled F n l ≡ filled F (length l) l
 unfolding filled
 fill_beyond F zero l h = let e : length l ≡ 0 = omega arith in sym (ap (λ (k : ℕ). filled F k l) e)

@@ -31,7 +31,9 @@ fn add_card(lists: &mut Lists<'_>, card: Card, len: u32) -> u32
     let key = turn::key_of(card);
     cards::write_floats(lists.cards, len, card);
     cards::write_counts(lists.counts, len, card);
-    CardPriorityQueue { len }.push(lists.queue_rows, len, key).len
+    CardPriorityQueue { len }
+        .push(lists.queue_rows, len, key)
+        .len
 }
 
 fn add_existing_card(lists: &mut Lists<'_>, span: u32, card: Card, len: u32) -> u32

@@ -174,7 +174,9 @@ fn retire_step(
         first.card,
         rules.config.learn_span,
     );
-    let queued = CardPriorityQueue { len: at.queued }.pop(lists.queue_rows).len;
+    let queued = CardPriorityQueue { len: at.queued }
+        .pop(lists.queue_rows)
+        .len;
     Ok(Some(Place { queued, ..at }))
 }
 

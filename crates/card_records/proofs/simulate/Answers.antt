@@ -17,8 +17,11 @@ returns-in-Err-clause-run c =
     let a = c.args in
     let tests = rw c.lengths.ensures at c.check_records-tests.ensures.tests in
     let none = c.to_copy-n.ensures ∙ ap (λ (t : Check). copied t (length a.records.now)) c.in-Err.is in
-    rw (c.at_entry.ensures, c.copy.ensures.floats ∙ none_copied floats_at a.records.now c.to_copy-n.result a.existing.now none,
-    c.copy.ensures.counts ∙ none_copied counts_at a.records.now c.to_copy-n.result a.existing_counts.now none)
+    rw (
+      c.at_entry.ensures,
+      c.copy.ensures.floats ∙ none_copied floats_at a.records.now c.to_copy-n.result a.existing.now none,
+      c.copy.ensures.counts ∙ none_copied counts_at a.records.now c.to_copy-n.result a.existing_counts.now none,
+    )
     (when_failed a.parameters.now a.records.now a.settings (lent_of a.lists.now)
     a.existing.now a.existing_counts.now c.in-Err.refusal (sym tests ∙ c.in-Err.is))
 

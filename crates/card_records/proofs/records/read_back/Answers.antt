@@ -15,4 +15,4 @@ loop-i-preserved c =
 pub returns : goal.returns
 returns c = c.loop-i.invariant
     ∙ fill_most (card_at c.args.cards.now c.args.counts.now) c.args.n c.loop-i.i c.args.records.now
-        (omega (arith, c.min-i-end.ensures, c.loop-i-test.false, c.loop-i.auto.i-end))
+    (omega (arith, c.min-i-end.ensures, c.loop-i-test.false, c.loop-i.auto.i-end))
