@@ -127,7 +127,7 @@ module _ (chance : Float → Float) (last : Float) where
       ap (λ (k : ℕ). add_forgetting_curve_range chance l k d last) e ∙ range_add n m (d + 1) l'
       ∙ ap (λ (b : ℕ). add_forgetting_curve_range chance (add_forgetting_curve_range chance l' n (d + 1) last) m b last) f
 
-  blocks_turn : (l l' l₀ : List Float) (d to from n : ℕ)
+  pub blocks_turn : (l l' l₀ : List Float) (d to from n : ℕ)
       → add_forgetting_curve_range chance l (to - d) d last ≡ add_forgetting_curve_range chance l₀ (to - from) from last
       → n ≤ to - d
       → l' ≡ add_forgetting_curve_range chance l n d last
